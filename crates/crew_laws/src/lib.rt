@@ -41,6 +41,16 @@ pub fn root_has_legal_plans()
     ensures { (i : Instance) (p : Plan) → IsLegal i p → IsWithin (root_limits i) p }
 {}
 
+/// No legal plan of an instance leaves fewer tasks unassigned than a tree that is sound at the root proves.
+pub fn root_tree_proves()
+    ensures { (i : Instance) (t : Tree) (l u : ℕ) (p : Plan) →
+        IsInstance i → IsSound t (root_limits i) l u → IsLegal i p → l ≤ unassigned_count p }
+{
+    tree_proves();
+    root_is_limits();
+    root_has_legal_plans();
+}
+
 /// A plan has one verdict.
 pub fn one_verdict()
     ensures { (i : Instance) (p : Plan) (v w : PlanVerdict) → IsVerdict i p v → IsVerdict i p w → v ≡ w }

@@ -169,7 +169,7 @@ tree_row b ws = Must (IsShape (codes "tree") 4 ws) Shape
     (Must (b.bound < unassigned_count b.plan → c.splits + c.closed ≡ b.budget) Budget
     (Goes (Nodes b c [])))))
 
--- no room for one more split
+-- there is room for one more split
 abbrev pub HasRoom : Counts → List Frame → Type 0
 HasRoom c fs = (sum_in splits 1 fs < c.splits) × (length fs < c.depth)
 

@@ -1,0 +1,6 @@
+pub mod Numerals
+pub mod Fields
+pub mod Fronts
+pub mod Rests
+pub mod Exits
+pub mod Rows

@@ -1,0 +1,12 @@
+use Rattle.std.proofs.Common.{◌∙◌, arith}
+use Rattle.std.proofs.lemmas.Result.{err_from_is_err_and}
+use Rattle.cert_format.specs.declared.kinds.Expect.TheVariants.{Job}
+use Rattle.cert_format.proofs.Exits.{number_told}
+use Rattle.cert_format.proofs.Rows.{job_wrong}
+use Rattle.cert_format.proofs.body.read_job.Goals as goal
+
+pub returns-in_err-task : goal.returns-in_err-task
+returns-in_err-task c =
+    let p = err_from_is_err_and c.from_residual.result c.from_residual.ensures.1 in
+    let h = c.in_err-task.ensures in
+    number_told (Job c.args.teams c.args.tasks) c.args.words c.from_residual.result p.0 p.1 (p.2 ∙ h.0) c.if-not-has_shape_from.ensures tt (job_wrong c.args.teams c.args.tasks c.args.words (omega arith) h.1)

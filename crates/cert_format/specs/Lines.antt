@@ -1,0 +1,149 @@
+-- what a line says where a kind of line is expected
+use Rattle.std.specs.Prelude.{◌≡◌, ◌≤◌, ◌<◌, ℕ, pos, List, Result, Ok, Err, map, codes}
+use Rattle.std.specs.List.{AllByRecursion}
+use Rattle.crew_terms.specs.Words.{Words}
+use Rattle.crew_terms.specs.Name.{IsName}
+use Rattle.crew_terms.specs.Plan.{Job}
+use Rattle.crew_terms.specs.declared.Team.{Team}
+use Rattle.crew_terms.specs.declared.Task.{Task}
+use Rattle.dossier_terms.specs.declared.Size.{Size}
+use Rattle.dossier_terms.specs.Reading.{Counts}
+use Rattle.dossier_terms.specs.Rules.{IsShape, IsShapeFrom}
+use Rattle.dossier_terms.specs.Table.{IsSize, IsTravel, IsTeamLine, IsTaskLine, IsCounts, HasName}
+use Rattle.dossier_terms.specs.Lines.{form_line, size_line, place_line, travel_line, team_words, task_words, pool_line, plan_line, do_line, tree_line, window_line, pair_line, bare_line, open_line, closed_line, end_line}
+use Rattle.cert_format.specs.declared.kinds.Expect.{Expect}
+use Rattle.cert_format.specs.declared.kinds.Expect.TheVariants as expected
+use Rattle.cert_format.specs.declared.kinds.LineKind.{LineKind}
+use Rattle.cert_format.specs.declared.kinds.LineKind.TheVariants as kinds
+use Rattle.cert_format.specs.declared.kinds.LineFault.{LineFault}
+use Rattle.cert_format.specs.declared.kinds.LineFault.TheVariants.{Shape, Number, Name}
+
+-- ---- the words spell the fields, which lie in their ranges
+
+abbrev pub IsFormLine : Words → LineKind → Type 0
+IsFormLine ws kinds.Form = ws ≡ form_line
+IsFormLine ws _ = ⊥
+
+abbrev pub IsSizeLine : Words → LineKind → Type 0
+IsSizeLine ws (kinds.Size teams tasks places nodes) =
+    let z : Size = record { teams = teams; tasks = tasks; places = places; nodes = nodes } in
+    IsSize z × (ws ≡ size_line z)
+IsSizeLine ws _ = ⊥
+
+abbrev pub IsPlaceLine : Words → LineKind → Type 0
+IsPlaceLine ws (kinds.Place name) = IsName name × (ws ≡ place_line name)
+IsPlaceLine ws _ = ⊥
+
+abbrev pub IsTimesLine : ℕ → Words → LineKind → Type 0
+IsTimesLine places ws (kinds.Travel times) = (row : List ℕ) × (times ≡ map pos row) × IsTravel places row × (ws ≡ travel_line row)
+IsTimesLine places ws _ = ⊥
+
+abbrev pub IsTeamOf : ℕ → Words → LineKind → Type 0
+IsTeamOf places ws (kinds.Team name home from until skills) =
+    let t : Team = record { name = name; home = home; from = from; until = until; skills = 0 } in
+    (ss : List ℕ) × (skills ≡ map pos ss) × IsTeamLine places (t, ss) × (ws ≡ team_words (t, ss))
+IsTeamOf places ws _ = ⊥
+
+abbrev pub IsTaskOf : ℕ → Words → LineKind → Type 0
+IsTaskOf places ws (kinds.Task name place earliest latest minutes teams skills) =
+    let t : Task = record { name = name; place = place; earliest = earliest; latest = latest; minutes = minutes; teams = teams; skills = 0 } in
+    (ss : List ℕ) × (skills ≡ map pos ss) × IsTaskLine places (t, ss) × (ws ≡ task_words (t, ss))
+IsTaskOf places ws _ = ⊥
+
+abbrev pub IsPoolLine : Words → LineKind → Type 0
+IsPoolLine ws (kinds.Pool kept columns) = (k c : ℕ) × (kept ≡ pos k) × (columns ≡ pos c)
+    × (k ≤ 9223372036854775807) × (c ≤ 9223372036854775807) × (ws ≡ pool_line k c)
+IsPoolLine ws _ = ⊥
+
+abbrev pub IsPlanLine : ℕ → Words → LineKind → Type 0
+IsPlanLine tasks ws (kinds.Plan unassigned bound) = (unassigned ≤ tasks) × (bound ≤ tasks) × (ws ≡ plan_line unassigned bound)
+IsPlanLine tasks ws _ = ⊥
+
+-- a job as its line spells it, where there are m teams and n tasks: the ranges of its numbers
+pub record IsJobOf (m n : ℕ) (p : ℕ × Job) : Type 0 where
+  pub task : p.0 < n
+  pub start : p.1.start ≤ 2880
+  pub teams : AllByRecursion (λ k. k < m) p.1.teams
+
+abbrev pub IsJobLine : ℕ → ℕ → Words → LineKind → Type 0
+IsJobLine teams tasks ws (kinds.Job task start ks) = (ns : List ℕ) × (ks ≡ map pos ns)
+    × IsJobOf teams tasks (task, record { start = start; teams = ns }) × (ws ≡ do_line (task, record { start = start; teams = ns }))
+IsJobLine teams tasks ws _ = ⊥
+
+abbrev pub IsTreeLine : Words → LineKind → Type 0
+IsTreeLine ws (kinds.Tree splits closed left_open depth) =
+    let c : Counts = record { splits = splits; closed = closed; left_open = left_open; depth = depth } in
+    IsCounts c × (ws ≡ tree_line splits closed left_open depth)
+IsTreeLine ws _ = ⊥
+
+abbrev pub IsNodeLine : ℕ → ℕ → Words → LineKind → Type 0
+IsNodeLine teams tasks ws (kinds.Window task cut) = (task < tasks) × (cut ≤ 2880) × (ws ≡ window_line task cut)
+IsNodeLine teams tasks ws (kinds.Pair team task) = (team < teams) × (task < tasks) × (ws ≡ pair_line team task)
+IsNodeLine teams tasks ws kinds.LeafBare = ws ≡ bare_line
+IsNodeLine teams tasks ws kinds.LeafOpen = ws ≡ open_line
+IsNodeLine teams tasks ws kinds.LeafClosed = ws ≡ closed_line
+IsNodeLine teams tasks ws _ = ⊥
+
+abbrev pub IsEndLine : Words → LineKind → Type 0
+IsEndLine ws kinds.End = ws ≡ end_line
+IsEndLine ws _ = ⊥
+
+-- the words are a line of the expected kind, with these fields
+abbrev pub IsLineOf : Expect → Words → LineKind → Type 0
+IsLineOf expected.Form ws kind = IsFormLine ws kind
+IsLineOf expected.Size ws kind = IsSizeLine ws kind
+IsLineOf expected.Place ws kind = IsPlaceLine ws kind
+IsLineOf (expected.Travel places) ws kind = IsTimesLine places ws kind
+IsLineOf (expected.Team places) ws kind = IsTeamOf places ws kind
+IsLineOf (expected.Task places) ws kind = IsTaskOf places ws kind
+IsLineOf expected.Pool ws kind = IsPoolLine ws kind
+IsLineOf (expected.Plan tasks) ws kind = IsPlanLine tasks ws kind
+IsLineOf (expected.Job teams tasks) ws kind = IsJobLine teams tasks ws kind
+IsLineOf expected.Tree ws kind = IsTreeLine ws kind
+IsLineOf (expected.Node teams tasks) ws kind = IsNodeLine teams tasks ws kind
+IsLineOf expected.End ws kind = IsEndLine ws kind
+
+-- ---- what a line has to show before its numbers are read
+
+-- a split with two words after its first, or one of the three leaf lines
+pub data HasNodeShape (ws : Words) : Type 0 where
+  WindowShape : (is : IsShape (codes "window") 2 ws) → HasNodeShape ws
+  PairShape : (is : IsShape (codes "pair") 2 ws) → HasNodeShape ws
+  BareShape : (is : ws ≡ bare_line) → HasNodeShape ws
+  OpenShape : (is : ws ≡ open_line) → HasNodeShape ws
+  ClosedShape : (is : ws ≡ closed_line) → HasNodeShape ws
+
+-- the expected first word and number of words, and those words that are given
+abbrev pub HasShape : Expect → Words → Type 0
+HasShape expected.Form ws = ws ≡ form_line
+HasShape expected.Size ws = IsShape (codes "size") 4 ws
+HasShape expected.Place ws = IsShape (codes "place") 1 ws
+HasShape (expected.Travel places) ws = IsShape (codes "travel") places ws
+HasShape (expected.Team places) ws = IsShapeFrom (codes "team") 4 ws
+HasShape (expected.Task places) ws = IsShapeFrom (codes "task") 6 ws
+HasShape expected.Pool ws = IsShape (codes "pool") 2 ws
+HasShape (expected.Plan tasks) ws = IsShape (codes "plan") 2 ws
+HasShape (expected.Job teams tasks) ws = IsShapeFrom (codes "do") 2 ws
+HasShape expected.Tree ws = IsShape (codes "tree") 4 ws
+HasShape (expected.Node teams tasks) ws = HasNodeShape ws
+HasShape expected.End ws = ws ≡ end_line
+
+-- the names that the line has are spelled as names
+abbrev pub HasNames : Expect → Words → Type 0
+HasNames expected.Place ws = (name : List ℕ) × IsName name × (ws ≡ place_line name)
+HasNames (expected.Team places) ws = HasName ws
+HasNames (expected.Task places) ws = HasName ws
+HasNames _ ws = Unit {0}
+
+-- ---- reading
+
+-- the fault is the first that the line has: of its shape, then of its name, then of its numbers
+abbrev pub IsFaultOf : Expect → Words → LineFault → Type 0
+IsFaultOf expect ws Shape = HasShape expect ws → ⊥
+IsFaultOf expect ws Name = HasShape expect ws × (HasNames expect ws → ⊥)
+IsFaultOf expect ws Number = HasShape expect ws × HasNames expect ws × ((kind : LineKind) → IsLineOf expect ws kind → ⊥)
+
+-- the fields of a line of the expected kind, or its first fault
+abbrev pub ReadsLine : Expect → Words → Result LineKind LineFault → Type 0
+ReadsLine expect ws (Ok kind) = IsLineOf expect ws kind
+ReadsLine expect ws (Err fault) = IsFaultOf expect ws fault

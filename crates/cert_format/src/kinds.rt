@@ -1,0 +1,97 @@
+// The kinds of lines of a dossier.
+use crate::numbers::Rest;
+use crew_terms::Name;
+
+/// The kind of line that is due, with the counts that its ranges need.
+#[derive(Clone, Copy, Debug, PartialEq, Eq)]
+pub enum Expect {
+    Form,
+    Size,
+    Place,
+    Travel { places: u32 },
+    Team { places: u32 },
+    Task { places: u32 },
+    Pool,
+    Plan { tasks: u32 },
+    Job { teams: u32, tasks: u32 },
+    Tree,
+    /// A line `window`, `pair` or `leaf`.
+    Node { teams: u32, tasks: u32 },
+    End,
+}
+
+/// What a line says. Minutes are minutes of the day; skills, teams and times are in the order of the line.
+#[derive(Drop)]
+pub enum LineKind<'a> {
+    Form,
+    Size {
+        teams: u32,
+        tasks: u32,
+        places: u32,
+        nodes: u32,
+    },
+    Place {
+        name: Name,
+    },
+    Travel {
+        times: Rest<'a>,
+    },
+    Team {
+        name: Name,
+        home: u32,
+        from: u32,
+        until: u32,
+        skills: Rest<'a>,
+    },
+    Task {
+        name: Name,
+        place: u32,
+        earliest: u32,
+        latest: u32,
+        minutes: u32,
+        teams: u32,
+        skills: Rest<'a>,
+    },
+    Pool {
+        kept: i64,
+        columns: i64,
+    },
+    Plan {
+        unassigned: u32,
+        bound: u32,
+    },
+    Job {
+        task: u32,
+        start: u32,
+        teams: Rest<'a>,
+    },
+    Tree {
+        splits: u32,
+        closed: u32,
+        left_open: u32,
+        depth: u32,
+    },
+    Window {
+        task: u32,
+        cut: u32,
+    },
+    Pair {
+        team: u32,
+        task: u32,
+    },
+    LeafBare,
+    LeafOpen,
+    LeafClosed,
+    End,
+}
+
+/// Why a line is none of the expected kind; the first fault of these that it has.
+#[derive(Clone, Copy, Debug, PartialEq, Eq)]
+pub enum LineFault {
+    /// Another first word, a wrong number of words, or a word that must be a given one and isn't.
+    Shape,
+    /// A word that isn't the canonical decimal of a number in its range.
+    Number,
+    /// A misspelled name.
+    Name,
+}

@@ -1,0 +1,39 @@
+// The lines of a dossier: reading one of an expected kind, and writing one.
+#![tactic(auto)]
+
+ghost use Rattle.cert_format.specs.Lines.{ReadsLine};
+
+mod body;
+mod head;
+pub mod kinds;
+pub mod lines_out;
+pub mod numbers;
+mod shape;
+#[cfg(test)]
+mod tests;
+
+use field_table::LineWords;
+pub use kinds::{Expect, LineFault, LineKind};
+pub use lines_out::{Part, put_line};
+pub use numbers::Rest;
+
+/// Reads a line of the expected kind from its words; it takes no memory. The fault is the first that the
+/// line has: of its shape, then of its name, then of its numbers.
+pub fn read_line<'a>(expect: Expect, words: LineWords<'a>) -> Result<LineKind<'a>, LineFault>
+    ensures { ReadsLine expect words.entry result }
+{
+    match expect {
+        Expect::Form => head::read_form(words),
+        Expect::Size => head::read_size(words),
+        Expect::Place => head::read_place(words),
+        Expect::Travel { places } => head::read_travel(words, places),
+        Expect::Team { places } => head::read_team(words, places),
+        Expect::Task { places } => head::read_task(words, places),
+        Expect::Pool => body::read_pool(words),
+        Expect::Plan { tasks } => body::read_plan(words, tasks),
+        Expect::Job { teams, tasks } => body::read_job(words, teams, tasks),
+        Expect::Tree => body::read_tree(words),
+        Expect::Node { teams, tasks } => body::read_node(words, teams, tasks),
+        Expect::End => body::read_end(words),
+    }
+}

@@ -1,0 +1,43 @@
+// The first word of a line, and how many words it has.
+ghost use Rattle.std.specs.Prelude.{◌≡◌, ◌≢◌, ◌<◌, [], length, slice_index_or, MatchBool};
+ghost use Rattle.dossier_terms.specs.Rules.{IsShape, IsShapeFrom, Begins};
+
+use field_table::{LineWords, Words};
+
+/// Whether the word with this number is the text.
+pub(crate) fn is_word(words: &LineWords<'_>, n: usize, text: &[u8]) -> bool
+    requires { n < length words.now }
+    ensures { MatchBool result (slice_index_or words.now n [] ≡ text.now) (slice_index_or words.now n [] ≢ text.now) }
+{
+    words.word(n) == text
+}
+
+/// Whether the line begins with the word.
+pub(crate) fn begins(words: &LineWords<'_>, first: &[u8]) -> bool
+    ensures { MatchBool result (Begins first.now words.now) (Begins first.now words.now → ⊥) }
+{
+    if words.count() == 0 {
+        return false;
+    }
+    is_word(words, 0, first)
+}
+
+/// Whether the line is the word and so many words after it.
+pub(crate) fn has_shape(words: &LineWords<'_>, first: &[u8], after: usize) -> bool
+    ensures { MatchBool result (IsShape first.now after words.now) (IsShape first.now after words.now → ⊥) }
+{
+    if !begins(words, first) {
+        return false;
+    }
+    words.count() - 1 == after
+}
+
+/// Whether the line is the word and at least so many words after it.
+pub(crate) fn has_shape_from(words: &LineWords<'_>, first: &[u8], least: usize) -> bool
+    ensures { MatchBool result (IsShapeFrom first.now least words.now) (IsShapeFrom first.now least words.now → ⊥) }
+{
+    if !begins(words, first) {
+        return false;
+    }
+    words.count() - 1 >= least
+}

@@ -1,0 +1,120 @@
+// Tests of lines in and out.
+use crate::{Expect, LineFault, LineKind, Part, put_line, read_line};
+use crew_io::sink::{MemSink, WriteFault};
+use field_table::Cuts;
+use std::test::Fail;
+
+#[test]
+fn reads_each_kind(rt: HostRuntime) -> Result<(), Fail> {
+    let mut cuts = Cuts::new(rt.alloc())?;
+    let lines = [
+        (Expect::Form, b"crew dossier 1".as_slice()),
+        (Expect::Size, b"size 1 1 2 1"),
+        (Expect::Place, b"place G1"),
+        (Expect::Travel { places: 2 }, b"travel 0 10"),
+        (Expect::Team { places: 2 }, b"team T1 0 360 840 0 63"),
+        (Expect::Task { places: 2 }, b"task A 1 420 450 30 1"),
+        (Expect::Pool, b"pool 0 9223372036854775807"),
+        (Expect::Plan { tasks: 1 }, b"plan 0 1"),
+        (Expect::Job { teams: 1, tasks: 1 }, b"do 0 420 0"),
+        (Expect::Tree, b"tree 0 0 1 0"),
+        (Expect::Node { teams: 2, tasks: 3 }, b"window 2 2880"),
+        (Expect::Node { teams: 2, tasks: 3 }, b"pair 1 2"),
+        (Expect::Node { teams: 2, tasks: 3 }, b"leaf bare"),
+        (Expect::Node { teams: 2, tasks: 3 }, b"leaf open"),
+        (Expect::Node { teams: 2, tasks: 3 }, b"leaf closed"),
+        (Expect::End, b"end"),
+    ];
+    for (expect, line) in lines {
+        assert!(rt; read_line(expect, cuts.split(line)).is_ok());
+    }
+    Ok(())
+}
+
+#[test]
+fn tells_faults(rt: HostRuntime) -> Result<(), Fail> {
+    let mut cuts = Cuts::new(rt.alloc())?;
+    let lines = [
+        (Expect::Size, b"size 01 2 2 1".as_slice(), LineFault::Number),
+        (Expect::Size, b"size 65 2 2 1", LineFault::Number),
+        (Expect::Size, b"size +1 2 2 1", LineFault::Number),
+        (Expect::Size, b"size 1 2 2 1\r", LineFault::Number),
+        (Expect::Size, b"size 1  2 2 1", LineFault::Shape),
+        (Expect::Size, b"size 1 2 2 1 ", LineFault::Shape),
+        (Expect::Form, b"crew dossier 1\r", LineFault::Shape),
+        (Expect::Form, b"", LineFault::Shape),
+        (Expect::Place, b"place G%", LineFault::Name),
+        (Expect::Place, b"place G1\r", LineFault::Name),
+        (
+            Expect::Team { places: 2 },
+            b"team T% 9 360 840",
+            LineFault::Name,
+        ),
+        (
+            Expect::Node { teams: 2, tasks: 3 },
+            b"window 3 0",
+            LineFault::Number,
+        ),
+        (
+            Expect::Node { teams: 2, tasks: 3 },
+            b"leaf shut",
+            LineFault::Shape,
+        ),
+        (
+            Expect::Node { teams: 2, tasks: 3 },
+            b"tree 0 0 1 0",
+            LineFault::Shape,
+        ),
+    ];
+    for (expect, line, fault) in lines {
+        assert_eq!(rt; read_line(expect, cuts.split(line)).err(), Some(fault));
+    }
+    Ok(())
+}
+
+#[test]
+fn reads_the_fields_of_a_task(rt: HostRuntime) -> Result<(), Fail> {
+    let mut cuts = Cuts::new(rt.alloc())?;
+    match read_line(
+        Expect::Task { places: 2 },
+        cuts.split(b"task A 1 420 450 30 1 7"),
+    )? {
+        LineKind::Task {
+            name,
+            place,
+            earliest,
+            latest,
+            minutes,
+            teams,
+            skills,
+        } => {
+            assert!(rt; name.bytes() == b"A".as_slice());
+            assert_eq!(rt;
+                (place, earliest, latest, minutes, teams),
+                (1, 420, 450, 30, 1)
+            );
+            assert_eq!(rt; skills.len(), 1);
+            assert_eq!(rt; skills.get(0), 7);
+        }
+        _ => assert!(rt; false, "no task"),
+    }
+    Ok(())
+}
+
+#[test]
+fn writes_a_line(rt: HostRuntime) -> Result<(), Fail> {
+    let mut out = MemSink::new(rt.alloc(), 64, 3, Vec::new(rt.alloc()))?;
+    let parts = [Part::Word(b"size"), Part::Number(1), Part::Number(400)];
+    assert_eq!(rt; put_line(&mut out, &parts), Ok(()));
+    assert!(rt; out.got() == b"size 1 400\n".as_slice());
+    Ok(())
+}
+
+#[test]
+fn tells_a_fault_in_midline(rt: HostRuntime) -> Result<(), Fail> {
+    let mut out = MemSink::new(rt.alloc(), 6, 3, Vec::new(rt.alloc()))?;
+    let parts = [Part::Word(b"size"), Part::Number(1), Part::Number(400)];
+    assert_eq!(rt; put_line(&mut out, &parts), Err(WriteFault));
+    assert!(rt; out.got() == b"size 1".as_slice());
+    Ok(())
+}

@@ -1,0 +1,14 @@
+// The top call: the words of the command line, a source and a sink in, a status out.
+#![tactic(auto)]
+
+pub mod body;
+pub mod checker;
+pub mod due;
+pub mod head;
+pub mod input;
+pub mod laws;
+pub mod numbers;
+pub mod run;
+#[cfg(test)]
+mod tests;
+pub mod texts;

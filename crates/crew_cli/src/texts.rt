@@ -1,0 +1,133 @@
+// The lines that are written: `yes` for a good dossier, `no` for the first line that is refused.
+ghost use Rattle.std.specs.Prelude.{◌≡◌, ◌≤◌, [], ◌∷◌, codes, OnOk, OnErr, IsErr};
+ghost use Rattle.std.specs.Fmt.{decimal};
+ghost use Rattle.crew_terms.specs.Words.{line_text};
+ghost use Rattle.crew_io.specs.Io.{Rose, Appended, AppendedPart};
+ghost use Rattle.dossier_terms.specs.Texts.{yes_line, no_line};
+ghost use Rattle.crew_cli.specs.Due.{dossier_of};
+
+use crate::due::Draft;
+use cert_format::{Part, put_line};
+use crew_io::sink::{Sink, WriteFault};
+use crew_terms::PlanVerdict;
+use dossier_terms::Reason;
+use plan_check::unassigned;
+
+/// Writes the yes line of a dossier whose tree is one bare leaf. A fault leaves a front of it.
+pub fn put_yes<K: Sink>(out: &mut K, draft: &Draft) -> Result<(), WriteFault>
+    ensures all { OnOk result (Appended (K.got out.old) (K.got out.new) (yes_line (dossier_of draft.now))) }
+    ensures part { OnErr result (AppendedPart (K.got out.old) (K.got out.new) (yes_line (dossier_of draft.now))) }
+    ensures later { K.faults out.old ≤ K.faults out.new }
+    ensures cause { IsErr result → Rose (K.faults out.old) (K.faults out.new) }
+{
+    let parts = [
+        Part::Word(b"yes"),
+        Part::Word(b"unassigned"),
+        Part::Number(unassigned(&draft.plan) as u64),
+        Part::Word(b"bound"),
+        Part::Number(draft.bound as u64),
+        Part::Word(b"splits"),
+        Part::Number(0),
+        Part::Word(b"closed"),
+        Part::Number(0),
+        Part::Word(b"open"),
+        Part::Number(1),
+    ];
+    put_line(out, &parts)
+}
+
+/// Writes the no line of a reason that is one word.
+fn put_word<K: Sink>(out: &mut K, line: u64, reason: &[u8]) -> Result<(), WriteFault>
+    ensures all { OnOk result (Appended (K.got out.old) (K.got out.new) (line_text (codes "no" ∷ decimal line ∷ reason.now ∷ []))) }
+    ensures part { OnErr result (AppendedPart (K.got out.old) (K.got out.new) (line_text (codes "no" ∷ decimal line ∷ reason.now ∷ []))) }
+    ensures later { K.faults out.old ≤ K.faults out.new }
+    ensures cause { IsErr result → Rose (K.faults out.old) (K.faults out.new) }
+{
+    put_line(
+        out,
+        &[Part::Word(b"no"), Part::Number(line), Part::Word(reason)],
+    )
+}
+
+/// The number of a team or a task as a part of a line.
+fn number(n: u32) -> Part<'static>
+    ensures { result ≡ Part.Number n }
+{
+    Part::Number(n as u64)
+}
+
+/// Writes the no line of a plan's first fault: its word, and the numbers of a team and of tasks.
+fn put_plan<K: Sink>(out: &mut K, line: u64, verdict: PlanVerdict) -> Result<(), WriteFault>
+    ensures all { OnOk result (Appended (K.got out.old) (K.got out.new) (no_line line (Reason.Plan verdict))) }
+    ensures part { OnErr result (AppendedPart (K.got out.old) (K.got out.new) (no_line line (Reason.Plan verdict))) }
+    ensures later { K.faults out.old ≤ K.faults out.new }
+    ensures cause { IsErr result → Rose (K.faults out.old) (K.faults out.new) }
+{
+    let no = Part::Word(b"no");
+    let at = Part::Number(line);
+    let plan = Part::Word(b"Plan");
+    match verdict {
+        PlanVerdict::Legal => put_line(out, &[no, at, plan, Part::Word(b"Legal")]),
+        PlanVerdict::Window(j) => put_line(out, &[no, at, plan, Part::Word(b"Window"), number(j)]),
+        PlanVerdict::Count(j) => put_line(out, &[no, at, plan, Part::Word(b"Count"), number(j)]),
+        PlanVerdict::Skill(k, j) => {
+            put_line(
+                out,
+                &[no, at, plan, Part::Word(b"Skill"), number(k), number(j)],
+            )
+        }
+        PlanVerdict::Shift(k, j) => {
+            put_line(
+                out,
+                &[no, at, plan, Part::Word(b"Shift"), number(k), number(j)],
+            )
+        }
+        PlanVerdict::Clash(k, j, h) => put_line(
+            out,
+            &[
+                no,
+                at,
+                plan,
+                Part::Word(b"Clash"),
+                number(k),
+                number(j),
+                number(h),
+            ],
+        ),
+    }
+}
+
+/// Writes the no line of a reason. A fault leaves a front of it.
+pub fn put_no<K: Sink>(out: &mut K, line: u64, reason: Reason) -> Result<(), WriteFault>
+    ensures all { OnOk result (Appended (K.got out.old) (K.got out.new) (no_line line reason)) }
+    ensures part { OnErr result (AppendedPart (K.got out.old) (K.got out.new) (no_line line reason)) }
+    ensures later { K.faults out.old ≤ K.faults out.new }
+    ensures cause { IsErr result → Rose (K.faults out.old) (K.faults out.new) }
+{
+    let no = Part::Word(b"no");
+    let at = Part::Number(line);
+    match reason {
+        Reason::Shape => put_word(out, line, b"Shape"),
+        Reason::Number => put_word(out, line, b"Number"),
+        Reason::Name => put_word(out, line, b"Name"),
+        Reason::Instance => put_word(out, line, b"Instance"),
+        Reason::Plan(verdict) => put_plan(out, line, verdict),
+        Reason::Count => put_word(out, line, b"Count"),
+        Reason::Cut => put_word(out, line, b"Cut"),
+        Reason::Pair => put_word(out, line, b"Pair"),
+        Reason::Potential(k, j) => {
+            put_line(
+                out,
+                &[no, at, Part::Word(b"Potential"), number(k), number(j)],
+            )
+        }
+        Reason::Worth(k) => put_line(out, &[no, at, Part::Word(b"Worth"), number(k)]),
+        Reason::Bound => put_word(out, line, b"Bound"),
+        Reason::Budget => put_word(out, line, b"Budget"),
+        Reason::Pool => put_word(out, line, b"Pool"),
+        Reason::End => put_word(out, line, b"End"),
+        Reason::TooLong => put_word(out, line, b"TooLong"),
+        Reason::TooMuch => put_word(out, line, b"TooMuch"),
+        Reason::Later => put_word(out, line, b"Later"),
+    }
+}

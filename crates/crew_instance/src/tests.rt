@@ -1,0 +1,249 @@
+use super::*;
+use std::alloc::Global;
+use std::test::Fail;
+
+const ZERO: u8 = b'0';
+
+/// A name of three digits.
+fn numbered(n: u32) -> Option<Name> {
+    let digits = [n / 100 % 10, n / 10 % 10, n % 10];
+    Name::read(&[
+        ZERO + digits[0] as u8,
+        ZERO + digits[1] as u8,
+        ZERO + digits[2] as u8,
+    ])
+}
+
+fn team(name: Name) -> Team {
+    Team {
+        name,
+        home: 0,
+        from: 360,
+        until: 840,
+        skills: 0,
+    }
+}
+
+fn task(name: Name) -> Task {
+    Task {
+        name,
+        place: 1,
+        earliest: 420,
+        latest: 450,
+        minutes: 30,
+        teams: 1,
+        skills: 0,
+    }
+}
+
+/// Two places, a team and a task, ten minutes apart.
+fn small_day(alloc: Global) -> Result<Builder, Fail> {
+    let mut day = Builder::new(alloc);
+    day.place(Name::read(b"BASE").ok_or("name")?)?;
+    day.place(Name::read(b"G1").ok_or("name")?)?;
+    day.travel(0, 1, 10)?;
+    day.travel(1, 0, 10)?;
+    day.team(team(Name::read(b"T1").ok_or("name")?))?;
+    day.task(task(Name::read(b"A").ok_or("name")?))?;
+    Ok(day)
+}
+
+#[test]
+fn gives_what_was_built(rt: HostRuntime) -> Result<(), Fail> {
+    let day = small_day(rt.alloc())?;
+    assert_eq!(rt; (day.places(), day.teams(), day.tasks()), (2, 1, 1));
+    let built = day.finish()?;
+    assert!(rt; built.places() == 2);
+    assert!(rt; built.teams() == 1);
+    assert!(rt; built.tasks() == 1);
+    assert_eq!(rt; built.place(1).bytes(), b"G1".as_slice());
+    assert_eq!(rt; *built.team(0), team(Name::read(b"T1").ok_or("name")?));
+    assert_eq!(rt; *built.task(0), task(Name::read(b"A").ok_or("name")?));
+    assert_eq!(rt;
+        [
+            built.travel(0, 0),
+            built.travel(0, 1),
+            built.travel(1, 0),
+            built.travel(1, 1)
+        ],
+        [0, 10, 10, 0]
+    );
+    assert!(rt; built.qualified(0, 0));
+    Ok(())
+}
+
+#[test]
+fn compares_skills(rt: HostRuntime) -> Result<(), Fail> {
+    let mut day = small_day(rt.alloc())?;
+    day.team(Team {
+        skills: 6,
+        ..team(numbered(2).ok_or("name")?)
+    })?;
+    day.task(Task {
+        skills: 2,
+        ..task(numbered(2).ok_or("name")?)
+    })?;
+    let built = day.finish()?;
+    assert!(rt; built.teams() == 2);
+    assert!(rt; built.tasks() == 2);
+    assert!(rt; !built.qualified(0, 1));
+    assert!(rt; built.qualified(1, 1));
+    Ok(())
+}
+
+#[test]
+fn refuses_teams(rt: HostRuntime) -> Result<(), Fail> {
+    let mut day = small_day(rt.alloc())?;
+    let good = team(numbered(1).ok_or("name")?);
+    let taken = team(Name::read(b"T1").ok_or("name")?);
+    assert_eq!(rt;
+        day.team(Team { home: 2, ..taken }),
+        Err(BuildFault::SameName)
+    );
+    assert_eq!(rt;
+        day.team(Team {
+            home: 2,
+            until: 2881,
+            ..good
+        }),
+        Err(BuildFault::NoPlace)
+    );
+    assert_eq!(rt;
+        day.team(Team {
+            until: 2881,
+            ..good
+        }),
+        Err(BuildFault::BadShift)
+    );
+    assert_eq!(rt;
+        day.team(Team { from: 840, ..good }),
+        Err(BuildFault::BadShift)
+    );
+    assert_eq!(rt; day.team(good), Ok(()));
+    Ok(())
+}
+
+#[test]
+fn refuses_tasks(rt: HostRuntime) -> Result<(), Fail> {
+    let mut day = small_day(rt.alloc())?;
+    let good = task(numbered(1).ok_or("name")?);
+    let taken = task(Name::read(b"A").ok_or("name")?);
+    assert_eq!(rt;
+        day.task(Task { place: 2, ..taken }),
+        Err(BuildFault::SameName)
+    );
+    assert_eq!(rt;
+        day.task(Task {
+            place: 2,
+            minutes: 0,
+            ..good
+        }),
+        Err(BuildFault::NoPlace)
+    );
+    for bad in [
+        Task {
+            earliest: 451,
+            ..good
+        },
+        Task {
+            latest: 1141,
+            ..good
+        },
+        Task {
+            earliest: 2800,
+            latest: 2881,
+            ..good
+        },
+        Task {
+            minutes: 0,
+            teams: 9,
+            ..good
+        },
+        Task {
+            minutes: 2881,
+            ..good
+        },
+    ] {
+        assert_eq!(rt; day.task(bad), Err(BuildFault::BadWindow));
+    }
+    assert_eq!(rt;
+        day.task(Task { teams: 0, ..good }),
+        Err(BuildFault::BadTeams)
+    );
+    assert_eq!(rt;
+        day.task(Task { teams: 9, ..good }),
+        Err(BuildFault::BadTeams)
+    );
+    assert_eq!(rt;
+        day.task(Task {
+            latest: 1140,
+            teams: 8,
+            minutes: 2880,
+            ..good
+        }),
+        Ok(())
+    );
+    Ok(())
+}
+
+#[test]
+fn refuses_too_many(rt: HostRuntime) -> Result<(), Fail> {
+    let mut day = Builder::new(rt.alloc());
+    for n in 0..200 {
+        day.place(numbered(n).ok_or("name")?)?;
+    }
+    assert_eq!(rt;
+        day.place(numbered(0).ok_or("name")?),
+        Err(BuildFault::TooMany)
+    );
+    for n in 0..64 {
+        day.team(team(numbered(n).ok_or("name")?))?;
+    }
+    assert_eq!(rt;
+        day.team(team(numbered(0).ok_or("name")?)),
+        Err(BuildFault::TooMany)
+    );
+    for n in 0..400 {
+        day.task(task(numbered(n).ok_or("name")?))?;
+    }
+    assert_eq!(rt;
+        day.task(task(numbered(0).ok_or("name")?)),
+        Err(BuildFault::TooMany)
+    );
+    Ok(())
+}
+
+#[test]
+fn tells_the_first_missing_time(rt: HostRuntime) -> Result<(), Fail> {
+    let mut day = small_day(rt.alloc())?;
+    assert_eq!(rt;
+        day.place(Name::read(b"G1").ok_or("name")?),
+        Err(BuildFault::SameName)
+    );
+    day.place(numbered(2).ok_or("name")?)?;
+    assert_eq!(rt; day.travel(0, 3, 1), Err(BuildFault::NoPlace));
+    assert_eq!(rt; day.travel(3, 0, 1), Err(BuildFault::NoPlace));
+    assert_eq!(rt;
+        day.finish().err(),
+        Some(BuildFault::MissingTravel { from: 0, to: 2 })
+    );
+    day.travel(0, 2, 2880)?;
+    assert_eq!(rt;
+        day.finish().err(),
+        Some(BuildFault::MissingTravel { from: 1, to: 2 })
+    );
+    day.default_travel(7);
+    day.travel(2, 2, 5)?;
+    let built = day.finish()?;
+    assert!(rt; built.places() == 3);
+    assert_eq!(rt;
+        [
+            built.travel(0, 2),
+            built.travel(1, 0),
+            built.travel(2, 1),
+            built.travel(2, 2)
+        ],
+        [2880, 10, 7, 5]
+    );
+    Ok(())
+}

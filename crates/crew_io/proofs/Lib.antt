@@ -1,0 +1,4 @@
+pub mod Pieces
+pub mod Ranges
+pub mod Room
+pub mod Stream

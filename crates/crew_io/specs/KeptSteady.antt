@@ -1,0 +1,11 @@
+-- what the fields of a source that never fails stand for
+use Rattle.std.specs.Prelude.{◌≤◌, length, drop}
+use Rattle.crew_io.specs.Memory.{SteadyFeed}
+use Rattle.crew_io.specs.declared.source.SteadySource.TheInside.{Inside}
+
+abbrev pub steady_of : Inside → SteadyFeed
+steady_of a = record { left = drop a.at a.bytes.items; piece = a.piece }
+
+pub record IsSteady (a : Inside) : Type 0 where
+  pub within : a.at ≤ length a.bytes.items
+  pub some : 1 ≤ a.piece

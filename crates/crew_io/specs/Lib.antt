@@ -1,0 +1,9 @@
+pub mod Io
+pub mod Memory
+pub mod KeptSource
+pub mod KeptSteady
+pub mod KeptSink
+pub mod Lines
+pub mod Got
+pub mod KeptReader
+pub mod Std

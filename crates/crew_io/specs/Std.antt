@@ -1,0 +1,20 @@
+-- what a clause reads of a source or a sink over one of std's readers or writers
+use Rattle.std.specs.Prelude.{ℕ}
+use Rattle.crew_io.specs.declared.source.StdSource.{StdSource}
+use Rattle.crew_io.specs.declared.sink.StdSink.{StdSink}
+
+-- the reader that the source reads from
+abbrev pub reader_of : {R : Type 0} → StdSource R → R
+reader_of s = s.inner
+
+-- how many of its reads have failed
+abbrev pub read_faults : {R : Type 0} → StdSource R → ℕ
+read_faults s = s.failed
+
+-- the writer that the sink writes to
+abbrev pub writer_of : {W : Type 0} → StdSink W → W
+writer_of s = s.inner
+
+-- how many of its writes and flushes have failed
+abbrev pub write_faults : {W : Type 0} → StdSink W → ℕ
+write_faults s = s.failed

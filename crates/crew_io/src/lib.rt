@@ -1,0 +1,9 @@
+// Sources and sinks with a count of faults, and the lines of a source.
+#![tactic(auto)]
+
+pub mod lines;
+mod script;
+pub mod sink;
+pub mod source;
+#[cfg(test)]
+mod tests;

@@ -1,0 +1,79 @@
+// Each public call once, and lines at the edges of what a reader may hand out.
+use crate::lines::{Got, LineReader, Progress};
+use crate::sink::{MemSink, Sink, StdSink, SteadySink, WriteFault, put_all};
+use crate::source::{Failed, MemSource, Source, StdSource, SteadySource};
+use std::test::Fail;
+
+#[test]
+fn hands_out_as_much_as_it_may(rt: HostRuntime) -> Result<(), Fail> {
+    let alloc = rt.alloc();
+    let cases = [
+        (b"abcd\n".as_slice(), Progress::End { partial: 0 }),
+        (b"abcd\nx".as_slice(), Progress::TooMuch),
+    ];
+    for (bytes, last) in cases {
+        let mut src = MemSource::new(bytes.to_vec(alloc)?, 64, Vec::new(alloc));
+        let mut reader = LineReader::open(alloc, 5)?;
+        assert_eq!(rt; reader.advance(&mut src), Progress::Line);
+        assert_eq!(rt; reader.line(), b"abcd".as_slice());
+        assert_eq!(rt; reader.advance(&mut src), last);
+    }
+    Ok(())
+}
+
+#[test]
+fn a_read_fails_in_mid_stream(rt: HostRuntime) -> Result<(), Fail> {
+    let alloc = rt.alloc();
+    let bytes = b"twenty-nine bytes in one line\n".to_vec(alloc)?;
+    let mut src = MemSource::new(bytes, 10, [3].to_vec(alloc)?);
+    let mut reader = LineReader::open(alloc, 100)?;
+    for _ in 0..2 {
+        assert!(rt; matches!(reader.next(&mut src), Got::ReadFault));
+    }
+    Ok(())
+}
+
+#[test]
+fn lends_a_line_and_the_end(rt: HostRuntime) -> Result<(), Fail> {
+    let alloc = rt.alloc();
+    let mut src = StdSource::new(b"one\ntwo".as_slice());
+    let mut reader = LineReader::open(alloc, 100)?;
+    assert!(rt; matches!(reader.next(&mut src), Got::Line(b"one")));
+    assert!(rt; matches!(reader.next(&mut src), Got::End { partial: 3 }));
+    Ok(())
+}
+
+#[test]
+fn tells_a_line_that_is_too_long(rt: HostRuntime) -> Result<(), Fail> {
+    let alloc = rt.alloc();
+    for (len, answer) in [(131_072, Progress::Line), (131_073, Progress::TooLong)] {
+        let mut bytes = vec![in alloc; b'a'; len]?;
+        bytes.push(b'\n')?;
+        let mut src = SteadySource::new(bytes, 1000);
+        let mut reader = LineReader::open(alloc, u64::MAX)?;
+        assert_eq!(rt; reader.advance(&mut src), answer);
+    }
+    Ok(())
+}
+
+#[test]
+fn sinks_in_memory_fill_and_fail(rt: HostRuntime) -> Result<(), Fail> {
+    let alloc = rt.alloc();
+    let mut sink = MemSink::new(alloc, 5, 2, [3].to_vec(alloc)?)?;
+    assert_eq!(rt; put_all(&mut sink, b"abc"), Ok(()));
+    assert_eq!(rt; sink.flush(), Err(Failed));
+    assert_eq!(rt; put_all(&mut sink, b"def"), Err(WriteFault));
+    assert_eq!(rt; sink.got(), b"abcde".as_slice());
+    assert_eq!(rt; put_all(&mut SteadySink::new(), b"abc"), Ok(()));
+    Ok(())
+}
+
+#[test]
+fn writes_through_to_std(rt: HostRuntime) -> Result<(), Fail> {
+    let mut bytes = Vec::new(rt.alloc());
+    let mut sink = StdSink::new(&mut bytes);
+    assert_eq!(rt; put_all(&mut sink, b"abc"), Ok(()));
+    assert_eq!(rt; sink.flush(), Ok(()));
+    assert_eq!(rt; bytes.as_slice(), b"abc".as_slice());
+    Ok(())
+}

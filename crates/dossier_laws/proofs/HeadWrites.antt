@@ -1,0 +1,80 @@
+-- the lines of a good head are read
+use Rattle.std.proofs.Common.{◌≡◌, ◌≤◌, ℕ, suc, List, [], ◌∷◌, ◌++◌, length, ap, sym, refl, ◌∙◌, subst, arith}
+use Rattle.std.specs.Prelude.{◌≢◌, map, All}
+use Rattle.std.specs.Fmt.{decimal}
+use Rattle.std.proofs.lemmas.List.{length-map}
+use Rattle.crew_terms.specs.Name.{IsName}
+use Rattle.crew_terms.specs.Instance.{Instance, IsTeam, IsTask}
+use Rattle.crew_terms.specs.declared.Team.{Team}
+use Rattle.crew_terms.specs.declared.Task.{Task}
+use Rattle.dossier_terms.specs.declared.Size.{Size}
+use Rattle.dossier_terms.specs.Dossier.{skills_of}
+use Rattle.dossier_terms.specs.Lines.{place_line, travel_line, team_line, task_line, head_lines, size_of}
+use Rattle.dossier_terms.specs.Reading.{More, nothing, Form, Sizes, Pools, places_due, travels_due, teams_due, tasks_due}
+use Rattle.dossier_terms.specs.Rules.{Holds, Spelled, On}
+use Rattle.dossier_terms.specs.Table.{Says, Reaches}
+use Rattle.dossier_laws.proofs.SoFar.{IsHead}
+use Rattle.dossier_laws.proofs.Skills.{mask_again, skills_rise, skills_in}
+use Rattle.dossier_laws.proofs.Lists.{All-at, AllPairs-at}
+use Rattle.dossier_laws.proofs.Rules.{reaches-append, reaches_all}
+
+pub head_reached : (i : Instance) (budget : ℕ) → IsHead i budget → Reaches Form (head_lines i budget) (Pools i budget)
+head_reached i budget h = (
+  Sizes,
+  Holds refl (On refl),
+  (
+    places_due z z.places nothing,
+    Holds (_, refl, refl) (Spelled z (record { teams = h.instance.few_teams; tasks = h.instance.few_tasks; places = h.instance.few_places; nodes = h.budget }) refl (On refl)),
+    reaches-append (places_due z z.places nothing) (map place_line i.places ++ map travel_line i.travel ++ map team_line i.teams) (tasks_due z z.tasks i3) (map task_line i.tasks) (Pools i budget)
+        (reaches-append (places_due z z.places nothing) (map place_line i.places ++ map travel_line i.travel) (teams_due z z.teams i2) (map team_line i.teams) (tasks_due z z.tasks i3)
+        (reaches-append (places_due z z.places nothing) (map place_line i.places) (travels_due z z.places i1) (map travel_line i.travel) (teams_due z z.teams i2)
+        (reaches_all place_line (λ ps k. places_due z k (record nothing { places = ps })) i.places place_one [] i.places refl)
+        (subst (λ n. Reaches (travels_due z n i1) (map travel_line i.travel) (teams_due z z.teams i2)) h.instance.rows
+        (reaches_all travel_line (λ rows k. travels_due z k (record i1 { travel = rows })) i.travel travel_one [] i.travel refl)))
+        (reaches_all team_line (λ ts k. teams_due z k (record i2 { teams = ts })) i.teams team_one [] i.teams refl))
+        (reaches_all task_line (λ ts k. tasks_due z k (record i3 { tasks = ts })) i.tasks task_one [] i.tasks refl),
+  ),
+)
+  where
+    z : Size
+    z = size_of i budget
+
+    i1 : Instance
+    i1 = record nothing { places = i.places }
+
+    i2 : Instance
+    i2 = record i1 { travel = i.travel }
+
+    i3 : Instance
+    i3 = record i2 { teams = i.teams }
+
+    place_one : (ys : List (List ℕ)) (x : List ℕ) (zs : List (List ℕ)) → i.places ≡ ys ++ x ∷ zs
+        → Says (places_due z (suc (length zs)) (record nothing { places = ys })) (place_line x) (More (places_due z (length zs) (record nothing { places = ys ++ x ∷ [] })))
+    place_one ys x zs e = Holds (_, refl, refl) (Spelled x (All-at IsName i.places ys x zs e h.instance.places) refl
+        (Holds (AllPairs-at (λ a b. a ≢ b) i.places ys x zs e h.instance.place_names) (On refl)))
+
+    travel_one : (ys : List (List ℕ)) (x : List ℕ) (zs : List (List ℕ)) → i.travel ≡ ys ++ x ∷ zs
+        → Says (travels_due z (suc (length zs)) (record i1 { travel = ys })) (travel_line x) (More (travels_due z (length zs) (record i1 { travel = ys ++ x ∷ [] })))
+    travel_one ys x zs e =
+        let wide = All-at (λ row. length row ≡ length i.places) i.travel ys x zs e h.instance.columns in
+        Holds (_, refl, length-map x decimal ∙ wide) (Spelled x (record { count = wide; minutes = All-at (All (λ t. t ≤ 2880)) i.travel ys x zs e h.instance.minutes }) refl (On refl))
+
+    team_one : (ys : List Team) (x : Team) (zs : List Team) → i.teams ≡ ys ++ x ∷ zs
+        → Says (teams_due z (suc (length zs)) (record i2 { teams = ys })) (team_line x) (More (teams_due z (length zs) (record i2 { teams = ys ++ x ∷ [] })))
+    team_one ys x zs e =
+        let good = All-at (IsTeam (length i.places)) i.teams ys x zs e h.instance.teams in
+        let set = mask_again x.skills good.skills in
+        Holds (_, refl, omega arith) (Holds good.name (Spelled (record x { skills = 0 }, skills_of x.skills)
+        (record { name = good.name; home = good.home; from = omega (arith, good.shift, good.day); until = good.day; none = refl; skills = skills_in x.skills }) refl
+        (Holds (AllPairs-at (λ (a b : Team). a.name ≢ b.name) i.teams ys x zs e h.instance.team_names)
+        (Holds (good.shift, skills_rise x.skills) (On (ap (λ n. More (teams_due z (length zs) (record i2 { teams = ys ++ record x { skills = n } ∷ [] }))) (sym set)))))))
+
+    task_one : (ys : List Task) (x : Task) (zs : List Task) → i.tasks ≡ ys ++ x ∷ zs
+        → Says (tasks_due z (suc (length zs)) (record i3 { tasks = ys })) (task_line x) (More (tasks_due z (length zs) (record i3 { tasks = ys ++ x ∷ [] })))
+    task_one ys x zs e =
+        let good = All-at (IsTask (length i.places)) i.tasks ys x zs e h.instance.tasks in
+        let set = mask_again x.skills good.skills in
+        Holds (_, refl, omega arith) (Holds good.name (Spelled (record x { skills = 0 }, skills_of x.skills)
+        (record { name = good.name; place = good.place; earliest = omega (arith, good.order, good.day); latest = good.day; some_minutes = good.some_minutes; minutes = good.minutes; some_teams = good.some_teams; teams = good.teams; none = refl; skills = skills_in x.skills }) refl
+        (Holds (AllPairs-at (λ (a b : Task). a.name ≢ b.name) i.tasks ys x zs e h.instance.task_names)
+        (Holds (good.order, good.width, skills_rise x.skills) (On (ap (λ n. More (tasks_due z (length zs) (record i3 { tasks = ys ++ record x { skills = n } ∷ [] }))) (sym set)))))))

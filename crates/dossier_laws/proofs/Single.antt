@@ -1,0 +1,128 @@
+-- one thing is said of a line
+use Rattle.std.proofs.Common.{◌≡◌, ◌<◌, ◌≤◌, ℕ, zero, suc, ℤ, List, [], ◌∷◌, ◌++◌, length, ap, sym, refl, ◌∙◌, subst, arith, ◌⊎◌, inl, inr}
+use Rattle.std.proofs.lemmas.Bool.{cases_lt}
+use Rattle.crew_terms.specs.Instance.{Instance}
+use Rattle.crew_terms.specs.Plan.{Plan}
+use Rattle.crew_terms.specs.Verdict.{IsVerdict}
+use Rattle.crew_terms.specs.declared.PlanVerdict.{PlanVerdict}
+use Rattle.dossier_terms.specs.declared.Reason.{Reason}
+use Rattle.dossier_terms.specs.declared.Reason.TheVariants.{Plan as BadPlan}
+use Rattle.dossier_terms.specs.Dossier.{Dossier, Leaf, Potentials}
+use Rattle.crew_terms.specs.Limits.{root_limits, tasks_in, teams_in}
+use Rattle.crew_terms.specs.Words.{Words}
+use Rattle.dossier_terms.specs.Reading.{Reading, Said, No, Draft, Frame, Lower, Upper, Without, With, limits_below, Place, Form, Sizes, Places, Travels, Teams, Tasks, Pools, Routes, Plans, Jobs, Trees, Nodes, Prices, Extras, Worths, Phis, Ends}
+use Rattle.dossier_terms.specs.Rules.{Must, Holds, Fails, MustEach, HoldsOfAll, FailsAt, MustBy, HoldsBy, FailsBy, When, Then, Else, Spells, Spelled, Unspelled, Goes, On}
+use Rattle.dossier_terms.specs.Table.{Says, Finishes, Finish, BreaksPlan, after_job, after_table, after_phi, after_extra}
+use Rattle.dossier_laws.proofs.SoFar.{IsReading}
+use Rattle.dossier_laws.proofs.Spellings.{size_one, name_one, travel_one, team_one, task_one, pool_one, plan_one, window_one, node_pair_one, tree_one, route_one, do_one, prices_one, signed_one, worth_one}
+
+abbrev pub Single : (Said → Type 0) → Type 0
+Single R = (a b : Said) → R a → R b → a ≡ b
+
+must_one : {P : Type 0} {r : Reason} {rest : Said → Type 0} → Single rest → Single (Must P r rest)
+must_one one a b (Holds f o) (Holds g p) = one a b o p
+must_one one a b (Holds f o) (Fails g t) = absurd (g f)
+must_one one a b (Fails g t) (Holds f o) = absurd (g f)
+must_one one a b (Fails g t) (Fails h u) = t ∙ sym u
+
+-- the first at which a fact doesn't hold
+one_first : (P : ℕ → Type 0) (i j : ℕ) → ((k : ℕ) → k < i → P k) → (P i → ⊥) → ((k : ℕ) → k < j → P k) → (P j → ⊥) → i ≡ j
+one_first P i j before broken below fails = at (cases_lt i j) (cases_lt j i)
+  where
+    at : (i < j) ⊎ (j ≤ i) → (j < i) ⊎ (i ≤ j) → i ≡ j
+    at (inl l) d = absurd (broken (below i l))
+    at (inr l) (inl m) = absurd (fails (before j m))
+    at (inr l) (inr m) = omega arith
+
+each_one : {n : ℕ} {P : ℕ → Type 0} {reason : ℕ → Reason} {rest : Said → Type 0} → Single rest → Single (MustEach n P reason rest)
+each_one one a b (HoldsOfAll f o) (HoldsOfAll g p) = one a b o p
+each_one one a b (HoldsOfAll f o) (FailsAt j l first g t) = absurd (g (f j l))
+each_one one a b (FailsAt j l first g t) (HoldsOfAll f o) = absurd (g (f j l))
+each_one {P = P} {reason = reason} one a b (FailsAt i l first g t) (FailsAt j m before h u) = t ∙ ap (λ k. No (reason k)) (one_first P i j first g before h) ∙ sym u
+
+by_one : {P : Type 0} {Breaks : Reason → Type 0} {rest : Said → Type 0} → ((r q : Reason) → Breaks r → Breaks q → r ≡ q) → Single rest → Single (MustBy P Breaks rest)
+by_one reasons one a b (HoldsBy f o) (HoldsBy g p) = one a b o p
+by_one reasons one a b (HoldsBy f o) (FailsBy r how g t) = absurd (g f)
+by_one reasons one a b (FailsBy r how g t) (HoldsBy f o) = absurd (g f)
+by_one reasons one a b (FailsBy r how g t) (FailsBy q also h u) = t ∙ ap No (reasons r q how also) ∙ sym u
+
+when_one : {P : Type 0} {yes other : Said → Type 0} → Single yes → Single other → Single (When P yes other)
+when_one one two a b (Then f o) (Then g p) = one a b o p
+when_one one two a b (Then f o) (Else g p) = absurd (g f)
+when_one one two a b (Else g p) (Then f o) = absurd (g f)
+when_one one two a b (Else f o) (Else g p) = two a b o p
+
+spells_one : {A : Type 0} {spell : A → Words} {In : A → Type 0} {words : Words} {r : Reason} {rest : A → Said → Type 0}
+    → ((x y : A) → In x → In y → spell x ≡ spell y → x ≡ y) → ((x : A) → In x → Single (rest x)) → Single (Spells spell In words r rest)
+spells_one {rest = rest} only one a b (Spelled x i e o) (Spelled y j f p) = one y j a b (subst (λ z. rest z a) (only x y i j (sym e ∙ f)) o) p
+spells_one only one a b (Spelled x i e o) (Unspelled g t) = absurd (g x i e)
+spells_one only one a b (Unspelled g t) (Spelled x i e o) = absurd (g x i e)
+spells_one only one a b (Unspelled g t) (Unspelled h u) = t ∙ sym u
+
+goes_one : {next : Reading} → Single (Goes next)
+goes_one a b (On e) (On f) = e ∙ sym f
+
+finish_one : {d : Dossier} → Single (Finishes d)
+finish_one a b (Finish e) (Finish f) = e ∙ sym f
+
+-- a plan has one verdict
+abbrev pub HaveOneVerdict : Type 0
+HaveOneVerdict = (i : Instance) (p : Plan) (v w : PlanVerdict) → IsVerdict i p v → IsVerdict i p w → v ≡ w
+
+one_reason : HaveOneVerdict → (i : Instance) (p : Plan) (r q : Reason) → BreaksPlan i p r → BreaksPlan i p q → r ≡ q
+one_reason verdicts i p r q h k = h.2 ∙ ap BadPlan (verdicts i p h.0 k.0 h.1 k.1) ∙ sym k.2
+
+job_one : HaveOneVerdict → (b : Draft) (k from : ℕ) → Single (after_job b k from)
+job_one verdicts b zero from = by_one (one_reason verdicts b.instance b.plan) goes_one
+job_one verdicts b (suc k) from = goes_one
+
+table_one : (a : Place) (leaf : Leaf) (left : ℕ) → Single (after_table a leaf left)
+table_one a leaf zero = must_one (must_one goes_one)
+table_one a leaf (suc left) = goes_one
+
+phi_one : (a : Place) (prices : List ℤ) (extras : List (List ℤ)) (tables : List Potentials) (left : ℕ) (worth : ℤ) (rows : List (List ℤ)) (keys : List ℕ) → Single (after_phi a prices extras tables left worth rows keys)
+phi_one a prices extras tables left worth rows [] = each_one (must_one (table_one a (record { prices = prices; extras = extras; tables = tables ++ record { worth = worth; phi = rows } ∷ [] }) left))
+phi_one a prices extras tables left worth rows (j ∷ js) = goes_one
+
+extra_one : (a : Place) (prices : List ℤ) (rows : List (List ℤ)) (keys : List ℕ) → Single (after_extra a prices rows keys)
+extra_one a prices rows [] = table_one a (record { prices = prices; extras = rows; tables = [] }) _
+extra_one a prices rows (j ∷ js) = goes_one
+
+tail_is : {A : Type 0} (x y : A) (xs ys : List A) → x ∷ xs ≡ y ∷ ys → xs ≡ ys
+tail_is x y xs ys e = cc
+
+same_instance : (b : Draft) (fs : List Frame) → (limits_below (root_limits b.instance) fs).instance ≡ b.instance
+same_instance b [] = refl
+same_instance b (Lower j cut ∷ fs) = same_instance b fs
+same_instance b (Upper j cut low ∷ fs) = same_instance b fs
+same_instance b (Without k j ∷ fs) = same_instance b fs
+same_instance b (With k j low ∷ fs) = same_instance b fs
+
+few_tasks_below : (b : Draft) (fs : List Frame) → length b.instance.tasks ≤ 400 → tasks_in (limits_below (root_limits b.instance) fs) ≤ 400
+few_tasks_below b fs h = subst (λ (i : Instance). length i.tasks ≤ 400) (sym (same_instance b fs)) h
+
+few_teams_below : (b : Draft) (fs : List Frame) → length b.instance.teams ≤ 64 → teams_in (limits_below (root_limits b.instance) fs) ≤ 64
+few_teams_below b fs h = subst (λ (i : Instance). length i.teams ≤ 64) (sym (same_instance b fs)) h
+
+pub says_one : HaveOneVerdict → (s : Reading) (ws : Words) → IsReading s → Single (Says s ws)
+says_one verdicts Form ws r = must_one goes_one
+says_one verdicts Sizes ws r = must_one (spells_one size_one (λ z h. goes_one))
+says_one verdicts (Places z k i) ws r = must_one (spells_one name_one (λ x h. must_one goes_one))
+says_one verdicts (Travels z k i) ws r = must_one (spells_one (travel_one z.places) (λ x h. goes_one))
+says_one verdicts (Teams z k i) ws r = must_one (must_one (spells_one (team_one z.places r.2.size.places) (λ x h. must_one (must_one goes_one))))
+says_one verdicts (Tasks z k i) ws r = must_one (must_one (spells_one (task_one z.places r.2.size.places) (λ x h. must_one (must_one goes_one))))
+says_one verdicts (Pools i budget) ws r = must_one (spells_one pool_one (λ x h. must_one goes_one))
+says_one verdicts (Routes b k) ws r = must_one (spells_one (route_one b.instance r.0.head.instance.few_teams r.0.head.instance.few_tasks) (λ x h. must_one (must_one goes_one)))
+says_one verdicts (Plans b) ws r = must_one (spells_one (plan_one (length b.instance.tasks) r.0.head.instance.few_tasks) (λ x h. goes_one))
+says_one verdicts (Jobs b k from) ws r = must_one (spells_one (do_one b.instance r.0.pool.head.instance.few_teams r.0.pool.head.instance.few_tasks) (λ x h. must_one (job_one verdicts _ k _)))
+says_one verdicts (Trees b) ws r = must_one (spells_one tree_one (λ x h. must_one (must_one (must_one goes_one))))
+says_one verdicts (Nodes b c fs) ws r =
+    let i = r.0.planned.pool.head.instance in
+    when_one (must_one (spells_one (window_one _ (few_tasks_below b fs i.few_tasks)) (λ x h. must_one (must_one goes_one))))
+    (when_one (must_one (spells_one (node_pair_one _ _ (few_teams_below b fs i.few_teams) (few_tasks_below b fs i.few_tasks)) (λ x h. must_one (must_one goes_one))))
+    (must_one (when_one (must_one (must_one goes_one)) (when_one (must_one goes_one) (must_one (must_one goes_one))))))
+says_one verdicts (Prices a) ws r = must_one (spells_one (λ x y h k e. prices_one _ x y h k (tail_is _ _ _ _ e)) (λ x h. extra_one a x [] _))
+says_one verdicts (Extras a prices rows j js) ws r = must_one (spells_one (λ x y h k e. prices_one _ x y h k (tail_is _ _ _ _ (tail_is _ _ _ _ e))) (λ x h. extra_one a prices _ js))
+says_one verdicts (Worths a prices extras tables left) ws r = must_one (spells_one worth_one (λ x h. phi_one a prices extras tables left x [] _))
+says_one verdicts (Phis a prices extras tables left worth rows j js) ws r = must_one (spells_one (λ x y h k e. signed_one _ x y h k (tail_is _ _ _ _ (tail_is _ _ _ _ e))) (λ x h. phi_one a prices extras tables left worth _ js))
+says_one verdicts (Ends b c t) ws r = must_one (must_one finish_one)

@@ -1,0 +1,201 @@
+-- no two values have one spelling
+use Rattle.std.proofs.Common.{◌≡◌, ◌<◌, ◌≤◌, ◌+◌, ◌-◌, ◌*◌, ℕ, suc, ℤ, pos, negsuc, List, [], ◌∷◌, length, ap, sym, refl, ◌∙◌, arith, rules, true, false}
+use Rattle.std.proofs.lemmas.Int.{ints}
+use Rattle.std.specs.Prelude.{map, ◌≤ℤ◌}
+use Rattle.std.specs.List.{AllByRecursion, flat_map}
+use Rattle.std.specs.Fmt.{decimal, signed_decimal}
+use Rattle.std.specs.Str.{all_ascii_digits}
+use Rattle.std.proofs.lemmas.Str.Parse.{IsNumeralModel, numerals_by_fold}
+use Rattle.std.proofs.lemmas.Fmt.{decimal_injective, digits_decimal}
+use Rattle.crew_terms.specs.Name.{IsName}
+use Rattle.crew_terms.specs.Plan.{Job}
+use Rattle.crew_terms.specs.Instance.{Instance}
+use Rattle.crew_terms.specs.declared.Team.{Team}
+use Rattle.crew_terms.specs.declared.Task.{Task}
+use Rattle.crew_terms.specs.declared.Visit.{Visit}
+use Rattle.dossier_terms.specs.declared.Size.{Size}
+use Rattle.dossier_terms.specs.Dossier.{Route, IsWorthNumber, IsSigned}
+use Rattle.crew_terms.specs.Leaf.{IsPrice}
+use Rattle.dossier_terms.specs.Lines.{size_line, place_line, travel_line, team_words, task_words, pool_line, route_line, visit_words, plan_line, do_line, tree_line, window_line, pair_line, worth_line}
+use Rattle.dossier_terms.specs.Reading.{Counts}
+use Rattle.dossier_terms.specs.Table.{IsSize, IsTravel, IsTeamLine, IsTaskLine, IsRouteLine, IsDoLine, IsCounts, AreNumbers}
+use Rattle.dossier_laws.proofs.Lists.{by_recursion}
+
+-- ---- numbers
+
+pub dec : (m n : ℕ) → m < 18446744073709551616 → n < 18446744073709551616 → decimal m ≡ decimal n → m ≡ n
+dec m n a b e = decimal_injective m n (omega arith) (omega arith) e
+
+abbrev read_on : ℕ → List ℕ → ℕ
+read_on n [] = n
+read_on n (c ∷ cs) = read_on (10 * n + (c - 48)) cs
+
+own : IsNumeralModel (λ ds. all_ascii_digits ds ≡ true) (read_on 0)
+own = numerals_by_fold _ (search rules) read_on (search rules)
+
+no_sign : (n : ℕ) (ds : List ℕ) → n < 18446744073709551616 → decimal n ≡ 45 ∷ ds → ⊥
+no_sign n ds h e = let a : true ≡ false = sym (digits_decimal own n (omega arith)) ∙ ap all_ascii_digits e in absurd cc
+
+-- fits 64 bits, with a sign
+pub record IsWide (z : ℤ) : Type 0 where
+  pub least : negsuc 9223372036854775807 ≤ℤ z
+  pub most : z ≤ℤ pos 9223372036854775807
+
+small : (m : ℕ) → IsWide (pos m) → m < 18446744073709551616
+small m a = let p : pos m ≤ℤ pos 9223372036854775807 = a.most in omega (arith, ints)
+
+small_neg : (m : ℕ) → IsWide (negsuc m) → suc m < 18446744073709551616
+small_neg m a = let p : negsuc 9223372036854775807 ≤ℤ negsuc m = a.least in omega (arith, ints)
+
+pub sdec : (y z : ℤ) → IsWide y → IsWide z → signed_decimal y ≡ signed_decimal z → y ≡ z
+sdec (pos m) (pos n) a b e = ap pos (dec m n (small m a) (small n b) e)
+sdec (pos m) (negsuc n) a b e = absurd (no_sign m (decimal (suc n)) (small m a) e)
+sdec (negsuc m) (pos n) a b e = absurd (no_sign n (decimal (suc m)) (small n b) (sym e))
+sdec (negsuc m) (negsuc n) a b e =
+    let f : decimal (suc m) ≡ decimal (suc n) = cc in
+    let g : suc m ≡ suc n = dec (suc m) (suc n) (small_neg m a) (small_neg n b) f in
+    ap negsuc (omega arith)
+
+pub map_one : {A : Type 0} (f : A → List ℕ) (In : A → Type 0) → ((x y : A) → In x → In y → f x ≡ f y → x ≡ y)
+    → (xs ys : List A) → AllByRecursion In xs → AllByRecursion In ys → map f xs ≡ map f ys → xs ≡ ys
+map_one f In one [] [] h k e = refl
+map_one f In one [] (y ∷ ys) h k e = absurd cc
+map_one f In one (x ∷ xs) [] h k e = absurd cc
+map_one f In one (x ∷ xs) (y ∷ ys) h k e =
+    let a : f x ≡ f y = cc in
+    let b : map f xs ≡ map f ys = cc in
+    let c = one x y h.0 k.0 a in
+    let d = map_one f In one xs ys h.1 k.1 b in
+    cc
+
+-- ---- lines
+
+pub size_one : (x y : Size) → IsSize x → IsSize y → size_line x ≡ size_line y → x ≡ y
+size_one x y a b e =
+    let p = dec x.teams y.teams (omega (arith, a.teams)) (omega (arith, b.teams)) cc in
+    let q = dec x.tasks y.tasks (omega (arith, a.tasks)) (omega (arith, b.tasks)) cc in
+    let r = dec x.places y.places (omega (arith, a.places)) (omega (arith, b.places)) cc in
+    let s = dec x.nodes y.nodes (omega (arith, a.nodes)) (omega (arith, b.nodes)) cc in
+    ap (λ n. record x { teams = n }) p ∙ ap (λ n. record x { teams = y.teams; tasks = n }) q ∙ ap (λ n. record y { places = n; nodes = x.nodes }) r ∙ ap (λ n. record y { nodes = n }) s
+
+pub name_one : (x y : List ℕ) → IsName x → IsName y → place_line x ≡ place_line y → x ≡ y
+name_one x y a b e = cc
+
+-- numbers that are at most a bound
+small_one : (most : ℕ) → most < 18446744073709551616 → (m n : ℕ) → m ≤ most → n ≤ most → decimal m ≡ decimal n → m ≡ n
+small_one most l m n a b e = dec m n (omega arith) (omega arith) e
+
+below_one : (most : ℕ) → most < 18446744073709551616 → (m n : ℕ) → m < most → n < most → decimal m ≡ decimal n → m ≡ n
+below_one most l m n a b e = dec m n (omega arith) (omega arith) e
+
+pub travel_one : (places : ℕ) (x y : List ℕ) → IsTravel places x → IsTravel places y → travel_line x ≡ travel_line y → x ≡ y
+travel_one places x y a b e = map_one decimal (λ t. t ≤ 2880) (small_one 2880 (omega arith)) x y (by_recursion (λ t. t ≤ 2880) x a.minutes) (by_recursion (λ t. t ≤ 2880) y b.minutes) cc
+
+pub team_one : (places : ℕ) → places ≤ 200 → (x y : Team × List ℕ) → IsTeamLine places x → IsTeamLine places y → team_words x ≡ team_words y → x ≡ y
+team_one places few x y a b e =
+    let p = dec x.0.home y.0.home (omega (arith, a.home)) (omega (arith, b.home)) cc in
+    let q = dec x.0.from y.0.from (omega (arith, a.from)) (omega (arith, b.from)) cc in
+    let r = dec x.0.until y.0.until (omega (arith, a.until)) (omega (arith, b.until)) cc in
+    let m : map decimal x.1 ≡ map decimal y.1 = cc in
+    let s = map_one decimal (λ s. s < 64) (below_one 64 (omega arith)) x.1 y.1 a.skills b.skills m in
+    let n : x.0.name ≡ y.0.name = cc in
+    let k : x.0.skills ≡ y.0.skills = a.none ∙ sym b.none in
+    ap (λ (w : List ℕ). (record x.0 { name = w }, x.1)) n
+    ∙ ap (λ (w : ℕ). (record x.0 { name = y.0.name; home = w }, x.1)) p
+    ∙ ap (λ (w : ℕ). (record x.0 { name = y.0.name; home = y.0.home; from = w }, x.1)) q
+    ∙ ap (λ (w : ℕ). (record y.0 { until = w; skills = x.0.skills }, x.1)) r
+    ∙ ap (λ (w : ℕ). (record y.0 { skills = w }, x.1)) k
+    ∙ ap (λ (w : List ℕ). (y.0, w)) s
+
+pub task_one : (places : ℕ) → places ≤ 200 → (x y : Task × List ℕ) → IsTaskLine places x → IsTaskLine places y → task_words x ≡ task_words y → x ≡ y
+task_one places few x y a b e =
+    let p = dec x.0.place y.0.place (omega (arith, a.place)) (omega (arith, b.place)) cc in
+    let q = dec x.0.earliest y.0.earliest (omega (arith, a.earliest)) (omega (arith, b.earliest)) cc in
+    let r = dec x.0.latest y.0.latest (omega (arith, a.latest)) (omega (arith, b.latest)) cc in
+    let u = dec x.0.minutes y.0.minutes (omega (arith, a.minutes)) (omega (arith, b.minutes)) cc in
+    let v = dec x.0.teams y.0.teams (omega (arith, a.teams)) (omega (arith, b.teams)) cc in
+    let m : map decimal x.1 ≡ map decimal y.1 = cc in
+    let s = map_one decimal (λ s. s < 64) (below_one 64 (omega arith)) x.1 y.1 a.skills b.skills m in
+    let n : x.0.name ≡ y.0.name = cc in
+    let k : x.0.skills ≡ y.0.skills = a.none ∙ sym b.none in
+    ap (λ (w : List ℕ). (record x.0 { name = w }, x.1)) n
+    ∙ ap (λ (w : ℕ). (record x.0 { name = y.0.name; place = w }, x.1)) p
+    ∙ ap (λ (w : ℕ). (record x.0 { name = y.0.name; place = y.0.place; earliest = w }, x.1)) q
+    ∙ ap (λ (w : ℕ). (record x.0 { name = y.0.name; place = y.0.place; earliest = y.0.earliest; latest = w }, x.1)) r
+    ∙ ap (λ (w : ℕ). (record y.0 { minutes = w; teams = x.0.teams; skills = x.0.skills }, x.1)) u
+    ∙ ap (λ (w : ℕ). (record y.0 { teams = w; skills = x.0.skills }, x.1)) v
+    ∙ ap (λ (w : ℕ). (record y.0 { skills = w }, x.1)) k
+    ∙ ap (λ (w : List ℕ). (y.0, w)) s
+
+-- a pair of numbers below a bound
+pair_one : (x y : ℕ × ℕ) → x.0 < 18446744073709551616 → x.1 < 18446744073709551616 → y.0 < 18446744073709551616 → y.1 < 18446744073709551616
+    → decimal x.0 ≡ decimal y.0 → decimal x.1 ≡ decimal y.1 → x ≡ y
+pair_one x y a b c d e f = ap (λ (n : ℕ). (n, x.1)) (dec x.0 y.0 a c e) ∙ ap (λ (n : ℕ). (y.0, n)) (dec x.1 y.1 b d f)
+
+pub pool_one : (x y : ℕ × ℕ) → (x.0 ≤ 9223372036854775807) × (x.1 ≤ 9223372036854775807) → (y.0 ≤ 9223372036854775807) × (y.1 ≤ 9223372036854775807)
+    → pool_line x.0 x.1 ≡ pool_line y.0 y.1 → x ≡ y
+pool_one x y a b e = pair_one x y (omega arith) (omega arith) (omega arith) (omega arith) (cc) (cc)
+
+pub plan_one : (n : ℕ) → n ≤ 400 → (x y : ℕ × ℕ) → (x.0 ≤ n) × (x.1 ≤ n) → (y.0 ≤ n) × (y.1 ≤ n) → plan_line x.0 x.1 ≡ plan_line y.0 y.1 → x ≡ y
+plan_one n few x y a b e = pair_one x y (omega arith) (omega arith) (omega arith) (omega arith) (cc) (cc)
+
+pub window_one : (n : ℕ) → n ≤ 400 → (x y : ℕ × ℕ) → (x.0 < n) × (x.1 ≤ 2880) → (y.0 < n) × (y.1 ≤ 2880) → window_line x.0 x.1 ≡ window_line y.0 y.1 → x ≡ y
+window_one n few x y a b e = pair_one x y (omega arith) (omega arith) (omega arith) (omega arith) (cc) (cc)
+
+pub node_pair_one : (m n : ℕ) → m ≤ 64 → n ≤ 400 → (x y : ℕ × ℕ) → (x.0 < m) × (x.1 < n) → (y.0 < m) × (y.1 < n) → pair_line x.0 x.1 ≡ pair_line y.0 y.1 → x ≡ y
+node_pair_one m n few some x y a b e = pair_one x y (omega arith) (omega arith) (omega arith) (omega arith) (cc) (cc)
+
+pub tree_one : (x y : Counts) → IsCounts x → IsCounts y → tree_line x.splits x.closed x.left_open x.depth ≡ tree_line y.splits y.closed y.left_open y.depth → x ≡ y
+tree_one x y a b e =
+    let p = dec x.splits y.splits (omega (arith, a.splits)) (omega (arith, b.splits)) cc in
+    let q = dec x.closed y.closed (omega (arith, a.closed)) (omega (arith, b.closed)) cc in
+    let r = dec x.left_open y.left_open (omega (arith, a.left_open)) (omega (arith, b.left_open)) cc in
+    let s = dec x.depth y.depth (omega (arith, a.depth)) (omega (arith, b.depth)) cc in
+    ap (λ n. record x { splits = n }) p ∙ ap (λ n. record x { splits = y.splits; closed = n }) q ∙ ap (λ n. record y { left_open = n; depth = x.depth }) r ∙ ap (λ n. record y { depth = n }) s
+
+visits_one : (n : ℕ) → n ≤ 400 → (xs ys : List Visit) → AllByRecursion (λ (v : Visit). v.task < n) xs → AllByRecursion (λ (v : Visit). v.start ≤ 2880) xs
+    → AllByRecursion (λ (v : Visit). v.task < n) ys → AllByRecursion (λ (v : Visit). v.start ≤ 2880) ys → flat_map visit_words xs ≡ flat_map visit_words ys → xs ≡ ys
+visits_one n few [] [] a b c d e = refl
+visits_one n few [] (y ∷ ys) a b c d e = absurd cc
+visits_one n few (x ∷ xs) [] a b c d e = absurd cc
+visits_one n few (x ∷ xs) (y ∷ ys) a b c d e =
+    let p = dec x.task y.task (omega (arith, a.0)) (omega (arith, c.0)) cc in
+    let q = dec x.start y.start (omega (arith, b.0)) (omega (arith, d.0)) cc in
+    let f : flat_map visit_words xs ≡ flat_map visit_words ys = cc in
+    let r = visits_one n few xs ys a.1 b.1 c.1 d.1 f in
+    let v : x ≡ y = ap (λ (m : ℕ). record x { task = m }) p ∙ ap (λ (m : ℕ). record y { start = m }) q in
+    ap (λ (w : Visit). w ∷ xs) v ∙ ap (λ ws. y ∷ ws) r
+
+pub route_one : (i : Instance) → length i.teams ≤ 64 → length i.tasks ≤ 400 → (x y : Route) → IsRouteLine i x → IsRouteLine i y → route_line x ≡ route_line y → x ≡ y
+route_one i few some x y a b e =
+    let p = dec x.team y.team (omega (arith, a.team)) (omega (arith, b.team)) cc in
+    let f : flat_map visit_words x.visits ≡ flat_map visit_words y.visits = cc in
+    let q = visits_one (length i.tasks) some x.visits y.visits a.tasks a.starts b.tasks b.starts f in
+    ap (λ (m : ℕ). record x { team = m }) p ∙ ap (λ vs. record y { visits = vs }) q
+
+pub do_one : (i : Instance) → length i.teams ≤ 64 → length i.tasks ≤ 400 → (x y : ℕ × Job) → IsDoLine i x → IsDoLine i y → do_line x ≡ do_line y → x ≡ y
+do_one i few some x y a b e =
+    let p = dec x.0 y.0 (omega (arith, a.task)) (omega (arith, b.task)) cc in
+    let q = dec x.1.start y.1.start (omega (arith, a.start)) (omega (arith, b.start)) cc in
+    let f : map decimal x.1.teams ≡ map decimal y.1.teams = cc in
+    let r = map_one decimal (λ k. k < length i.teams) (below_one (length i.teams) (omega arith)) x.1.teams y.1.teams a.teams b.teams f in
+    let v : x.1 ≡ y.1 = ap (λ (m : ℕ). record x.1 { start = m }) q ∙ ap (λ ks. record y.1 { teams = ks }) r in
+    ap (λ (m : ℕ). (m, x.1)) p ∙ ap (λ (w : Job). (y.0, w)) v
+
+price_wide : (z : ℤ) → IsPrice z → IsWide z
+price_wide z h = let p = h.least in let q = h.most in record { least = omega (arith, ints); most = omega (arith, ints) }
+
+worth_wide : (z : ℤ) → IsWorthNumber z → IsWide z
+worth_wide z h = let p = h.least in let q = h.most in record { least = omega (arith, ints); most = omega (arith, ints) }
+
+signed_wide : (z : ℤ) → IsSigned z → IsWide z
+signed_wide z h = record { least = grind (arith, ints, h); most = grind (arith, ints, h) }
+
+pub prices_one : (n : ℕ) (x y : List ℤ) → AreNumbers IsPrice n x → AreNumbers IsPrice n y → map signed_decimal x ≡ map signed_decimal y → x ≡ y
+prices_one n x y a b e = map_one signed_decimal IsPrice (λ u v h k. sdec u v (price_wide u h) (price_wide v k)) x y a.each b.each e
+
+pub signed_one : (n : ℕ) (x y : List ℤ) → AreNumbers IsSigned n x → AreNumbers IsSigned n y → map signed_decimal x ≡ map signed_decimal y → x ≡ y
+signed_one n x y a b e = map_one signed_decimal IsSigned (λ u v h k. sdec u v (signed_wide u h) (signed_wide v k)) x y a.each b.each e
+
+pub worth_one : (x y : ℤ) → IsWorthNumber x → IsWorthNumber y → worth_line x ≡ worth_line y → x ≡ y
+worth_one x y a b e = sdec x y (worth_wide x a) (worth_wide y b) cc

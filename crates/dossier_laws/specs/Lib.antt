@@ -1,0 +1,4 @@
+pub mod Law
+pub mod Listed
+pub mod Path
+pub mod Sheet

@@ -1,0 +1,218 @@
+// The laws of dossiers: the table of lines reads what is good and nothing else, says one thing of each line,
+// and every good dossier's bound holds. Each law is the contract of a function with nothing to do.
+#![tactic(auto)]
+
+ghost use Rattle.std.specs.Prelude.{◌≡◌, ◌≤◌, ◌<◌, ◌^◌, ◌++◌, ◌↔◌, List, [], ◌∷◌, ℕ, ◌+◌, pos, length, slice_index, slice_index_or};
+ghost use Rattle.std.specs.Int.{bit_at};
+ghost use Rattle.crew_terms.specs.Words.{Words};
+ghost use Rattle.crew_terms.specs.Plan.{Plan, IsLegal, unassigned_count};
+ghost use Rattle.crew_terms.specs.Limits.{Limits, IsPermittedVisit, tasks_in, teams_in, pair_of};
+ghost use Rattle.crew_terms.specs.Leaf.{AreInRange, IsOnRequired, rho_of};
+ghost use Rattle.crew_terms.specs.declared.Pair.TheVariants.{Required};
+ghost use Rattle.dossier_terms.specs.declared.Reason.{Reason};
+ghost use Rattle.dossier_terms.specs.Dossier.{Dossier, IsGood, skills_of, mask_of, open_tasks, required_teams, priced, first_minute, Written, splits, closed, left_open, depth, Leaf, IsWritten, prices_of, phi_of, no_potentials};
+ghost use Rattle.dossier_terms.specs.Lines.{lines_of};
+ghost use Rattle.dossier_terms.specs.Reading.{Reading, Said, More, Whole, No, Form};
+ghost use Rattle.dossier_terms.specs.Table.{Says, Reaches, Ended};
+ghost use Rattle.dossier_terms.specs.Today.{IsSimple, Answers};
+ghost use Rattle.dossier_laws.specs.Sheet.{sheet, sheet_lines};
+ghost use Rattle.dossier_laws.specs.Path.{Leads, Answered, IsSimpleWhole};
+ghost use Rattle.dossier_laws.specs.Law.{IsWhole, IsRead};
+ghost use Rattle.dossier_laws.specs.Listed.{IsSkillList, IsListOf, IsMinuteOf};
+
+use crew_laws::{one_verdict, root_has_legal_plans, root_is_limits, tree_proves};
+
+/// Lines that the table reads to an end are the lines of a good dossier.
+pub fn read_is_good()
+    ensures { (lines : List Words) (d : Dossier) → IsRead lines d → IsWhole lines d }
+{}
+
+/// The lines of a good dossier are read to their end.
+pub fn good_is_read()
+    ensures { (d : Dossier) → IsGood d → IsRead (lines_of d) d }
+{}
+
+/// No lines of a good dossier begin those of another.
+pub fn one_dossier()
+    ensures { (d e : Dossier) (more : List Words) → IsGood d → IsGood e → lines_of e ≡ lines_of d ++ more → (more ≡ []) × (d ≡ e) }
+{
+    one_verdict();
+}
+
+/// The table says one thing of a line, where lines have led from the start to a state: one next state, one
+/// dossier or one reason.
+pub fn says_one_thing()
+    ensures { (lines : List Words) (s : Reading) (ws : Words) (a b : Said) → Reaches Form lines s → Says s ws a → Says s ws b → a ≡ b }
+{
+    one_verdict();
+}
+
+/// Where lines have led from the start to a state and a good dossier's lines begin with them, the rest of its
+/// lines end it from there.
+pub fn rest_is_read()
+    ensures { (lines more : List Words) (s : Reading) (d : Dossier) → Reaches Form lines s → IsGood d → lines_of d ≡ lines ++ more → Ended s more d }
+{
+    one_verdict();
+}
+
+/// Where the table refuses a line, no good dossier's lines begin with those so far and this one.
+pub fn refused_is_not_good()
+    ensures { (lines more : List Words) (s : Reading) (ws : Words) (reason : Reason) (d : Dossier) →
+        Reaches Form lines s → Says s ws (No reason) → IsGood d → lines_of d ≡ lines ++ ws ∷ more → ⊥ }
+{
+    one_verdict();
+}
+
+/// Lines that lead to a state, where one more is due, are not those of a good dossier.
+pub fn unended_is_not_good()
+    ensures { (lines : List Words) (s : Reading) (d : Dossier) → Reaches Form lines s → IsGood d → lines_of d ≡ lines → ⊥ }
+{
+    one_verdict();
+}
+
+/// A line of which the table says what is due next goes on with the lines before it.
+pub fn reading_goes_on()
+    ensures { (s : Reading) (lines : List Words) (m : Reading) (ws : Words) (next : Reading) →
+        Reaches s lines m → Says m ws (More next) → Reaches s (lines ++ ws ∷ []) next }
+{}
+
+/// A line of which the table says a dossier ends it with the lines before it.
+pub fn reading_ends()
+    ensures { (s : Reading) (lines : List Words) (m : Reading) (ws : Words) (d : Dossier) →
+        Reaches s lines m → Says m ws (Whole d) → Ended s (lines ++ ws ∷ []) d }
+{}
+
+/// The lines of a good dossier that is simple are taken, and the last of them ends it.
+pub fn simple_is_answered()
+    ensures { (d : Dossier) → IsGood d → IsSimple d → Answered Form (lines_of d) d }
+{}
+
+/// Lines that are taken, with the last of them ending a dossier, are those of a good dossier that is simple.
+pub fn answered_is_simple()
+    ensures { (lines : List Words) (d : Dossier) → Answered Form lines d → IsSimpleWhole lines d }
+{}
+
+/// There is one answer to a line, where lines have led from the start to a state.
+pub fn answers_one_thing()
+    ensures { (lines : List Words) (s : Reading) (ws : Words) (a b : Said) → Reaches Form lines s → Answers s ws a → Answers s ws b → a ≡ b }
+{
+    one_verdict();
+}
+
+/// Lines that are taken lead where the table says.
+pub fn taken_is_reached()
+    ensures { (s : Reading) (lines : List Words) (after : Reading) → Leads s lines after → Reaches s lines after }
+{}
+
+/// A line that is taken goes on with the lines before it.
+pub fn taking_goes_on()
+    ensures { (s : Reading) (lines : List Words) (m : Reading) (ws : Words) (next : Reading) →
+        Leads s lines m → Answers m ws (More next) → Leads s (lines ++ ws ∷ []) next }
+{}
+
+/// A line that is answered by a dossier ends it with the lines before it.
+pub fn taking_ends()
+    ensures { (s : Reading) (lines : List Words) (m : Reading) (ws : Words) (d : Dossier) →
+        Leads s lines m → Answers m ws (Whole d) → Answered s (lines ++ ws ∷ []) d }
+{}
+
+/// Where lines are taken and the lines of a good dossier that is simple begin with them, the rest of its lines
+/// are taken too, and end it.
+pub fn rest_is_answered()
+    ensures { (lines more : List Words) (s : Reading) (d : Dossier) →
+        Leads Form lines s → IsGood d → IsSimple d → lines_of d ≡ lines ++ more → Answered s more d }
+{
+    one_verdict();
+}
+
+/// Where a line is refused, by a rule or as not taken yet, no good dossier that is simple begins with the lines
+/// so far and this one.
+pub fn refused_is_not_simple()
+    ensures { (lines more : List Words) (s : Reading) (ws : Words) (reason : Reason) (d : Dossier) →
+        Leads Form lines s → Answers s ws (No reason) → IsGood d → IsSimple d → lines_of d ≡ lines ++ ws ∷ more → ⊥ }
+{
+    one_verdict();
+}
+
+/// Every legal plan of a good dossier's instance leaves at least its bound unassigned.
+pub fn good_bounds()
+    ensures { (d : Dossier) (p : Plan) → IsGood d → IsLegal d.instance p → d.bound ≤ unassigned_count p }
+{
+    tree_proves();
+    root_is_limits();
+    root_has_legal_plans();
+}
+
+/// Where the plan of a good dossier leaves as many unassigned as its bound, no legal plan leaves fewer.
+pub fn met_bound_is_best()
+    ensures { (d : Dossier) (p : Plan) → IsGood d → d.bound ≡ unassigned_count d.plan → IsLegal d.instance p → unassigned_count d.plan ≤ unassigned_count p }
+{
+    good_bounds();
+}
+
+/// A small dossier is good, and these are its lines.
+pub fn sheet_is_good()
+    ensures { IsGood sheet × (lines_of sheet ≡ sheet_lines) }
+{}
+
+/// The numbers of a tree fit one another.
+pub fn tree_numbers_fit()
+    ensures { (t : Written) → (closed t + left_open t ≡ splits t + 1) × (depth t ≤ splits t) }
+{}
+
+/// The prices of a leaf that has the numbers that its node wants lie in their range, and only required pairs
+/// have one.
+pub fn written_prices_are_in_range()
+    ensures { (n : Limits) (leaf : Leaf) → IsWritten n leaf → AreInRange (prices_of n leaf) × IsOnRequired n (prices_of n leaf) }
+{}
+
+/// A set of skills is spelled by a list of skills, and that list is of this set.
+pub fn set_is_spelled()
+    ensures { (mask : ℕ) → mask < 2 ^ 64 → IsSkillList (skills_of mask) × (mask_of (skills_of mask) ≡ mask) }
+{}
+
+/// A list of skills is of a set, which is spelled by this list.
+pub fn skills_are_a_set()
+    ensures { (skills : List ℕ) → IsSkillList skills → (mask_of skills < 2 ^ 64) × (skills_of (mask_of skills) ≡ skills) }
+{}
+
+/// The list of a set has the skills of the set, rising.
+pub fn skills_are_listed()
+    ensures { (mask : ℕ) → mask < 2 ^ 64 → IsListOf (λ s. bit_at mask s ≡ 1) (skills_of mask) }
+{}
+
+/// The minutes that are counted are those at which the team may begin the task.
+pub fn minutes_are_permitted()
+    ensures { (n : Limits) (k j t : ℕ) → IsPermittedVisit n k j t ↔ IsMinuteOf n k j t }
+{}
+
+/// The open tasks of a team are those that it may begin at some minute.
+pub fn open_tasks_may_begin()
+    ensures { (n : Limits) (k : ℕ) → IsListOf (λ j. (t : ℕ) × IsPermittedVisit n k j t) (open_tasks n k) }
+{}
+
+/// The required teams of a task are those whose pair with it is required.
+pub fn required_teams_are_listed()
+    ensures { (n : Limits) (j : ℕ) → IsListOf (λ k. (k < teams_in n) × (pair_of n k j ≡ Required)) (required_teams n j) }
+{}
+
+/// The priced tasks are those with a required pair.
+pub fn priced_tasks_are_listed()
+    ensures { (n : Limits) → IsListOf (λ j. (j < tasks_in n) × ((k : ℕ) × (k < teams_in n) × (pair_of n k j ≡ Required))) (priced n) }
+{}
+
+/// The number that a leaf writes at the place b of its row a of extras is the price of the pair of the task
+/// that is the priced one at a, and the team that is the required one of it at b.
+pub fn extra_is_written()
+    ensures { (n : Limits) (leaf : Leaf) (a b : ℕ) → IsWritten n leaf → a < length (priced n) →
+        (let j = slice_index (priced n) a in b < length (required_teams n j) →
+        rho_of (prices_of n leaf) (slice_index (required_teams n j) b) j ≡ slice_index_or (slice_index_or leaf.extras a []) b (pos 0)) }
+{}
+
+/// The number that a leaf writes at the place m of a team's row a of potentials is the potential of the task
+/// that is the open one at a, m minutes after the first minute of the team at it.
+pub fn potential_is_written()
+    ensures { (n : Limits) (leaf : Leaf) (k a m : ℕ) → IsWritten n leaf → k < teams_in n → a < length (open_tasks n k) →
+        (let j = slice_index (open_tasks n k) a in
+        phi_of n leaf k j (first_minute n k j + m) ≡ slice_index_or (slice_index_or (slice_index_or leaf.tables k no_potentials).phi a []) m (pos 0)) }
+{}

@@ -1,0 +1,4 @@
+pub mod Legal
+pub mod Order
+pub mod TeamTurns
+pub mod GoodJobs

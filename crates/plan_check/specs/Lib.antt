@@ -1,0 +1,4 @@
+pub mod Kept
+pub mod Teams
+pub mod Jobs
+pub mod Turns

@@ -1,0 +1,103 @@
+// Plans: when each task is begun, and by which teams.
+ghost use Rattle.std.specs.Prelude.{◌≡◌, ◌≤◌, ◌<◌, None, Some, IfOk, OnErr, OnOk, length, replicate, slice_set};
+ghost use Rattle.std.specs.Option.{option_map};
+ghost use Rattle.crew_terms.specs.Plan.{job_of, unassigned_count};
+ghost use Rattle.plan_check.specs.Teams.{teams_in};
+
+use std::alloc::{AllocError, Global};
+use std::marker::Model;
+
+// When a task is begun, and by which teams.
+#[derive(Drop)]
+struct Slot {
+    start: u32,
+    teams: Vec<u32>,
+}
+
+/// A plan: for each of at most 400 tasks nothing, or the minute of the day at which it is begun and the
+/// numbers of the teams that do it.
+#[derive(Drop)]
+pub struct Plan {
+    alloc: Global,
+    slots: Vec<Option<Slot>>,
+}
+
+impl Model for Plan {
+    ghost use Rattle.std.specs.Prelude.{◌≤◌, length};
+    ghost use Rattle.crew_terms.specs.Plan.{Plan as Jobs};
+
+    ghost Value = { Jobs };
+
+    ghost use Rattle.plan_check.specs.Kept.{kept};
+
+    ghost view = { kept };
+
+    ghost invariant = { λ a. length a.slots.items ≤ 400 };
+}
+
+impl Plan {
+    /// A plan for so many tasks, none of which is assigned.
+    pub fn empty(alloc: Global, tasks: usize) -> Result<Plan, AllocError>
+        requires { tasks ≤ 400 }
+        ensures { IfOk result (λ p. p ≡ replicate tasks None) }
+    {
+        let mut slots = Vec::with_capacity(alloc, tasks)?;
+        for _ in 0..tasks {
+            slots.push(None)?;
+        }
+        Ok(Plan { alloc, slots })
+    }
+
+    /// Has these teams begin task `i` at minute `start`, in place of what the plan had of the task. An
+    /// `Err` changes nothing.
+    pub fn assign(&mut self, i: u32, start: u32, teams: &[u32]) -> Result<(), AllocError>
+        requires { i < length self.old }
+        ensures ok { OnOk result (self.new ≡ slice_set self.old i (Some (record { start = start; teams = teams.now }))) }
+        ensures err { OnErr result (self.new ≡ self.old) }
+    {
+        let teams = Vec::from_slice(self.alloc, teams)?;
+        self.slots[i as usize] = Some(Slot { start, teams });
+        Ok(())
+    }
+
+    /// How many tasks the plan is for.
+    pub fn len(&self) -> usize
+        ensures count { result ≡ length self.now }
+        ensures few { result ≤ 400 }
+    {
+        self.slots.len()
+    }
+
+    /// The minute at which task `i` is begun; None exactly where it is unassigned.
+    pub fn start(&self, i: u32) -> Option<u32>
+        requires { i < length self.now }
+        ensures { result ≡ option_map (λ job. job.start) (job_of self.now i) }
+    {
+        let slot = &self.slots[i as usize];
+        slot.as_ref().map(|s| s.start)
+    }
+
+    /// The teams that do task `i`, none where it is unassigned.
+    pub fn teams(&self, i: u32) -> &[u32]
+        requires { i < length self.now }
+        ensures { result.now ≡ teams_in (job_of self.now i) }
+    {
+        match &self.slots[i as usize] {
+            Some(slot) => &slot.teams,
+            None => &[],
+        }
+    }
+}
+
+/// How many tasks of the plan are unassigned.
+pub fn unassigned(plan: &Plan) -> u32
+    ensures { result ≡ unassigned_count plan.now }
+{
+    let mut n = 0;
+    for slot in &plan.slots {
+        if slot.is_none() {
+            n += 1;
+        }
+    }
+    n
+}

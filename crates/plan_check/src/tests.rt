@@ -1,0 +1,132 @@
+ghost use Rattle.std.specs.Prelude.{◌<◌, ◌↔◌, length, All, IsTrue};
+ghost use Rattle.crew_terms.specs.Verdict.{IsPlanOf};
+
+use super::*;
+use crew_instance::{BuildFault, Builder, Instance, Name, Task, Team};
+use std::alloc::{AllocError, Global};
+use std::process::Abort;
+
+fn name(rt: &impl Abort, bytes: &[u8]) -> Name {
+    Name::read(bytes).expect(rt, "a name")
+}
+
+// A task of ten minutes with a window of one minute.
+fn task(name: Name, place: u32, at: u32, teams: u32, skills: u64) -> Task {
+    Task {
+        name,
+        place,
+        earliest: at,
+        latest: at,
+        minutes: 10,
+        teams,
+        skills,
+    }
+}
+
+// A team with no skills, two gates that are far apart and one between them, and tasks at each.
+fn day(rt: &impl Abort, alloc: Global) -> Result<Instance, BuildFault> {
+    let mut day = Builder::new(alloc);
+    for place in [&b"BASE"[..], b"G1", b"G2", b"G3"] {
+        day.place(name(rt, place))?;
+    }
+    day.default_travel(10);
+    day.travel(1, 3, 60)?;
+    for gate in 1..4 {
+        day.travel(0, gate, 5)?;
+        day.travel(gate, 0, 25)?;
+    }
+    day.team(Team {
+        name: name(rt, b"T"),
+        home: 0,
+        from: 360,
+        until: 840,
+        skills: 0,
+    })?;
+    day.task(task(name(rt, b"A"), 1, 420, 1, 0))?;
+    day.task(task(name(rt, b"X"), 2, 440, 1, 0))?;
+    day.task(task(name(rt, b"C"), 3, 460, 1, 0))?;
+    day.task(task(name(rt, b"SKILLED"), 1, 500, 1, 2))?;
+    day.task(task(name(rt, b"LATE"), 1, 806, 1, 0))?;
+    day.task(task(name(rt, b"TWO"), 1, 600, 2, 0))?;
+    day.finish()
+}
+
+fn are_below(teams: &[u32], n: usize) -> bool
+    ensures { IsTrue result ↔ All (λ k. k < n) teams.now }
+{
+    teams.iter().all(|k| (*k as usize) < n)
+}
+
+// Whether the plan is one of the instance.
+fn belongs(instance: &Instance, plan: &Plan) -> bool
+    ensures { IsTrue result → IsPlanOf instance.now plan.now }
+{
+    for j in 0..plan.len() as u32 {
+        if !are_below(plan.teams(j), instance.teams()) {
+            return false;
+        }
+    }
+    plan.len() == instance.tasks()
+}
+
+// The plan with these jobs.
+fn plan(rt: &impl Abort, alloc: Global, jobs: &[(u32, u32, &[u32])]) -> Result<Plan, AllocError> {
+    let mut plan = Plan::empty(alloc, 6)?;
+    for (i, start, teams) in jobs {
+        assert!(rt; (*i as usize) < plan.len());
+        plan.assign(*i, *start, teams)?;
+    }
+    Ok(plan)
+}
+
+fn verdict(rt: &impl Abort, alloc: Global, jobs: &[(u32, u32, &[u32])]) -> PlanVerdict {
+    let day = day(rt, alloc).expect(rt, "a day");
+    let plan = plan(rt, alloc, jobs).expect(rt, "memory");
+    assert!(rt; belongs(&day, &plan));
+    check_plan(&day, &plan)
+}
+
+#[test]
+fn a_task_between_makes_a_plan_legal(rt: HostRuntime) {
+    let all: [(u32, u32, &[u32]); 3] = [(2, 460, &[0]), (0, 420, &[0]), (1, 440, &[0])];
+    assert_eq!(rt; verdict(&rt, rt.alloc(), &all), PlanVerdict::Legal);
+    assert_eq!(rt;
+        verdict(&rt, rt.alloc(), &all[..2]),
+        PlanVerdict::Clash(0, 0, 2)
+    );
+}
+
+#[test]
+fn tells_each_fault(rt: HostRuntime) {
+    assert_eq!(rt;
+        verdict(&rt, rt.alloc(), &[(0, 421, &[0])]),
+        PlanVerdict::Window(0)
+    );
+    assert_eq!(rt;
+        verdict(&rt, rt.alloc(), &[(0, 420, &[])]),
+        PlanVerdict::Count(0)
+    );
+    assert_eq!(rt;
+        verdict(&rt, rt.alloc(), &[(5, 600, &[0, 0])]),
+        PlanVerdict::Count(5)
+    );
+    assert_eq!(rt;
+        verdict(&rt, rt.alloc(), &[(3, 500, &[0])]),
+        PlanVerdict::Skill(0, 3)
+    );
+    assert_eq!(rt;
+        verdict(&rt, rt.alloc(), &[(4, 806, &[0])]),
+        PlanVerdict::Shift(0, 4)
+    );
+}
+
+#[test]
+fn holds_what_is_assigned(rt: HostRuntime) {
+    let plan = plan(&rt, rt.alloc(), &[(1, 440, &[0]), (2, 460, &[0, 3])]).expect(&rt, "memory");
+    assert_eq!(rt; plan.len(), 6);
+    assert_eq!(rt; unassigned(&plan), 4);
+    assert!(rt; 2 < plan.len());
+    assert_eq!(rt; plan.start(0), None);
+    assert_eq!(rt; plan.start(2), Some(460));
+    assert_eq!(rt; plan.teams(2), [0, 3].as_slice());
+}

@@ -1,0 +1,103 @@
+// A team's tasks in the order in which it does them, and the first that it can't come to in time.
+ghost use Rattle.std.specs.Prelude.{◌≡◌, ◌≤◌, ◌<◌, ◌+◌, ◌↔◌, ◌∷◌, ℕ, length, All, IfSome, IsTrue, MatchOption};
+ghost use Rattle.std.specs.List.Sorted.{IsPermutation};
+ghost use Rattle.crew_terms.specs.Instance.{CanFollow, task_of};
+ghost use Rattle.crew_terms.specs.Plan.{Does, IsLegal};
+ghost use Rattle.crew_terms.specs.Verdict.{AreJobsBelow, HasNoClash, IsPlanOf, IsVerdict};
+ghost use Rattle.arrayvec.specs.ArrayVec.{array_vec_len};
+ghost use Rattle.plan_check.specs.Turns.{AreTurns, IsClash, IsInOrder};
+
+use crate::plan::Plan;
+use arrayvec::ArrayVec;
+use crew_instance::Instance;
+use crew_terms::PlanVerdict;
+
+// A task that a team begins, at a minute of the day.
+#[derive(Clone, Copy, Default)]
+struct Turn {
+    start: u32,
+    task: u32,
+}
+
+// Puts a task behind those that begin no later.
+fn put_in_order(turns: &mut ArrayVec<Turn, 400>, turn: Turn)
+    requires room { array_vec_len turns.old < 400 }
+    requires order { IsInOrder turns.old.items }
+    requires last { All (λ v. v.task < turn.task) turns.old.items }
+    ensures order { IsInOrder turns.new.items }
+    ensures moved { IsPermutation (turn ∷ turns.old.items) turns.new.items }
+{
+    let at = turns.partition_point(|v| v.start <= turn.start);
+    turns.insert(at, turn);
+}
+
+// The turn of team `k` at a task, if it does the task.
+fn turn_at(plan: &Plan, k: u32, task: u32) -> Option<Turn>
+    requires { task < length plan.now }
+    ensures { MatchOption result ((t : ℕ) → Does plan.now k task t → ⊥) (λ v. (v.task ≡ task) × Does plan.now k v.task v.start) }
+{
+    let start = plan.start(task)?;
+    if plan.teams(task).contains(&k) {
+        Some(Turn { start, task })
+    } else {
+        None
+    }
+}
+
+// The tasks of team `k`, in order.
+fn turns_of(plan: &Plan, k: u32) -> ArrayVec<Turn, 400>
+    ensures { AreTurns plan.now k (length plan.now) result.items }
+{
+    let mut turns = ArrayVec::new();
+    for task in 0..plan.len() as u32 {
+        if let Some(turn) = turn_at(plan, k, task) {
+            put_in_order(&mut turns, turn);
+        }
+    }
+    turns
+}
+
+// Whether a team that does the one can do the other after it.
+fn can_follow(instance: &Instance, before: Turn, after: Turn) -> bool
+    requires before { before.task < length instance.now.tasks }
+    requires after { after.task < length instance.now.tasks }
+    requires window { before.start ≤ (task_of instance.now before.task).latest }
+    ensures { IsTrue result ↔ CanFollow instance.now before.task before.start after.task after.start }
+{
+    let from = instance.task(before.task);
+    let to = instance.task(after.task);
+    before.start + from.minutes + instance.travel(from.place, to.place) <= after.start
+}
+
+// The first of the team's tasks that it can't come to in time from the one before.
+fn clash_of(instance: &Instance, plan: &Plan, k: u32) -> Option<PlanVerdict>
+    requires plan { IsPlanOf instance.now plan.now }
+    requires jobs { AreJobsBelow instance.now plan.now (length plan.now) }
+    ensures { MatchOption result (HasNoClash instance.now plan.now k) (IsClash instance.now plan.now k) }
+{
+    let turns = turns_of(plan, k);
+    let turns = turns.as_slice();
+    for i in 1..turns.len() {
+        let before = turns[i - 1];
+        let after = turns[i];
+        if !can_follow(instance, before, after) {
+            return Some(PlanVerdict::Clash(k, before.task, after.task));
+        }
+    }
+    None
+}
+
+/// The first clash of a team, by team, in a plan whose jobs are good; None exactly where the plan is legal.
+pub fn fault_of_teams(instance: &Instance, plan: &Plan) -> Option<PlanVerdict>
+    requires plan { IsPlanOf instance.now plan.now }
+    requires jobs { AreJobsBelow instance.now plan.now (length plan.now) }
+    ensures verdict { MatchOption result (IsLegal instance.now plan.now) (IsVerdict instance.now plan.now) }
+    ensures fault { IfSome result (λ _. ¬ (IsLegal instance.now plan.now)) }
+{
+    for k in 0..instance.teams() as u32 {
+        if let Some(fault) = clash_of(instance, plan, k) {
+            return Some(fault);
+        }
+    }
+    None
+}

@@ -1,0 +1,11 @@
+pub mod Words
+pub mod Feeds
+pub mod Lists
+pub mod Short
+pub mod Spellings
+pub mod Heads
+pub mod Plans
+pub mod Nodes
+pub mod Good
+pub mod Read
+pub mod Once
