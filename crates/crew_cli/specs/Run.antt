@@ -1,8 +1,9 @@
 -- what the program writes for what it reads
-use Rattle.std.specs.Prelude.{◌≡◌, ◌≤◌, ◌++◌, ℕ, List, Option, Some, IfSome}
+use Rattle.std.specs.Prelude.{◌≡◌, ◌≤◌, ◌++◌, ℕ, Bool, true, false, List, Option, Some, IfSome, All}
+use Rattle.std.specs.List.{flat_map}
 use Rattle.crew_terms.specs.Plan.{Plan, IsLegal, unassigned_count}
 use Rattle.dossier_terms.specs.declared.Reason.{Reason}
-use Rattle.dossier_terms.specs.Dossier.{Dossier}
+use Rattle.dossier_terms.specs.Dossier.{Dossier, IsGood}
 use Rattle.dossier_terms.specs.Texts.{yes_line, no_line}
 use Rattle.dossier_terms.specs.Today.{IsSimpleInput}
 use Rattle.crew_cli.specs.Input.{IsRefusal}
@@ -22,19 +23,36 @@ number_of Memory = 6
 abbrev pub OfBytes : Option (List ℕ) → Option (List ℕ) → Option (List ℕ) → (List ℕ → List ℕ → Type 0) → Type 0
 OfBytes left got later Fact = IfSome left (λ input. IfSome got (λ before. (written : List ℕ) × (later ≡ Some (before ++ written)) × Fact input written))
 
--- the input is the text of a good dossier, whose yes line was written: its plan is legal, and every legal plan
--- of its instance leaves at least its bound unassigned
-pub record SaysYes (input written : List ℕ) : Type 0 where
-  pub dossier : Dossier
-  pub is : IsSimpleInput input dossier
-  pub line : written ≡ yes_line dossier
-  pub legal : IsLegal dossier.instance dossier.plan
-  pub bound : (p : Plan) → IsLegal dossier.instance p → dossier.bound ≤ unassigned_count p
+-- a good dossier is what it says: its plan is legal, and every legal plan of its instance leaves at least its bound
+-- unassigned
+pub record IsTrueYes (d : Dossier) : Type 0 where
+  pub good : IsGood d
+  pub legal : IsLegal d.instance d.plan
+  pub bound : (p : Plan) → IsLegal d.instance p → d.bound ≤ unassigned_count p
 
--- the input is no such text, and the no line of the first line that is refused was written
+-- the input is accepted as these dossiers, whose yes lines were written
+pub record SaysYes (input written : List ℕ) : Type 0 where
+  pub dossiers : List Dossier
+  pub accepted : IsSimpleInput input dossiers
+  pub lines : written ≡ flat_map yes_line dossiers
+  pub each : All IsTrueYes dossiers
+
+-- the input is accepted as no dossiers; the yes lines of those before the first line that is refused were written,
+-- and its no line
 pub record SaysNo (input written : List ℕ) : Type 0 where
-  pub no_dossier : (d : Dossier) → IsSimpleInput input d → ⊥
+  pub not_accepted : (dossiers : List Dossier) → IsSimpleInput input dossiers → ⊥
+  pub before : List Dossier
   pub number : ℕ
   pub reason : Reason
-  pub refusal : IsRefusal input number reason
-  pub line : written ≡ no_line number reason
+  pub refusal : IsRefusal input before number reason
+  pub lines : written ≡ flat_map yes_line before ++ no_line number reason
+  pub each : All IsTrueYes before
+
+-- the answers to a line that is refused
+abbrev pub is_no_or_write_fault : Status → Bool
+is_no_or_write_fault Done = false
+is_no_or_write_fault No = true
+is_no_or_write_fault Words = false
+is_no_or_write_fault ReadFault = false
+is_no_or_write_fault WriteFault = true
+is_no_or_write_fault Memory = false

@@ -1,7 +1,8 @@
-// An input, line by line.
-ghost use Rattle.std.specs.Prelude.{◌≡◌, ◌≤◌, IfOk, IfSome};
+// An input, dossier by dossier and line by line.
+ghost use Rattle.std.specs.Prelude.{◌≡◌, ◌≤◌, ◌<◌, ◌↔◌, ℕ, List, IfOk, IsTrue};
 ghost use Rattle.crew_io.specs.Io.{Rose};
-ghost use Rattle.crew_cli.specs.Input.{IsOutcome, outcome_after_of, outcome_at_stop_of};
+ghost use Rattle.dossier_terms.specs.Dossier.{Dossier};
+ghost use Rattle.crew_cli.specs.Input.{IsBetween, IsOpen, IsOutcome, OpensNext, outcome_at_stop_of};
 
 use crate::checker::judge;
 use crate::due::{Draft, Due, Step};
@@ -13,24 +14,35 @@ use field_table::Cuts;
 use std::alloc::{AllocError, Global};
 
 /// The most bytes that an input may have.
-const INPUT: u64 = 1 << 62;
+pub const INPUT: u64 = 1 << 62;
 
-/// What an input is.
+/// What comes next in an input.
 #[derive(Drop)]
 pub enum Outcome {
-    /// The text of a good dossier.
-    Yes(Draft),
-    /// No such text: the first line that is refused, from 1, and why.
+    /// A good dossier; so many lines of the input are read now.
+    Yes { draft: Draft, lines: u64 },
+    /// The input has ended behind a dossier.
+    End,
+    /// The first line that is refused, from 1, and why.
     No { line: u64, reason: Reason },
     /// A read failed.
     ReadFault,
 }
 
-/// The outcome where no line comes whole.
-fn outcome_at_stop(stop: Progress, line: u64) -> Outcome
-    ensures { result ≡ outcome_at_stop_of stop line }
+/// Whether a dossier was whole just before, where the dossier that is read begins behind the first `from` lines
+/// of the input, and `line` lines are read.
+fn is_between(line: u64, from: u64) -> bool
+    ensures { IsTrue result ↔ ((line ≡ from) × (0 < from)) }
+{
+    line == from && from > 0
+}
+
+/// The outcome where no line comes whole; `is_between` says that a dossier was whole just before.
+fn outcome_at_stop(stop: Progress, is_between: bool, line: u64) -> Outcome
+    ensures { result ≡ outcome_at_stop_of stop is_between line }
 {
     let reason = match stop {
+        Progress::End { partial: 0 } if is_between => return Outcome::End,
         Progress::End { .. } => Reason::End,
         Progress::TooLong => Reason::TooLong,
         Progress::TooMuch => Reason::TooMuch,
@@ -39,36 +51,29 @@ fn outcome_at_stop(stop: Progress, line: u64) -> Outcome
     Outcome::No { line, reason }
 }
 
-/// The outcome after a whole dossier, behind which no byte may come.
-fn outcome_after(draft: Draft, more: Progress, line: u64) -> Outcome
-    ensures { result ≡ outcome_after_of draft more line }
-{
-    match more {
-        Progress::End { partial: 0 } => Outcome::Yes(draft),
-        Progress::ReadFault => Outcome::ReadFault,
-        _ => Outcome::No {
-            line,
-            reason: Reason::Later,
-        },
-    }
-}
-
-/// Reads a dossier to its end.
-pub fn read_dossier<S: Source>(alloc: Global, src: &mut S) -> Result<Outcome, AllocError>
-    ensures outcome { IfOk result (λ outcome. IfSome (S.left src.old) (λ input. IsOutcome input outcome)) }
+/// Reads the next dossier to its end, behind the first `from` lines of the input.
+pub fn next_dossier<S: Source>(
+    alloc: Global,
+    reader: &mut LineReader,
+    cuts: &mut Cuts,
+    src: &mut S,
+    from: u64,
+) -> Result<Outcome, AllocError>
+    requires { IsOpen reader.old from }
+    ensures outcome { IfOk result (λ outcome. (input : List ℕ) (done : List Dossier) → IsBetween input done reader.old (S.left src.old) from
+        → IsOutcome input done reader.new (S.left src.new) outcome) }
+    ensures next { IfOk result (OpensNext reader.old reader.new) }
     ensures fault { IfOk result (λ outcome. outcome ≡ Outcome.ReadFault → Rose (S.faults src.old) (S.faults src.new)) }
     ensures later { S.faults src.old ≤ S.faults src.new }
 {
-    let mut reader = LineReader::open(alloc, INPUT)?;
-    let mut cuts = Cuts::new(alloc)?;
     let mut due = Due::Form;
-    let mut line = 0;
+    let mut line = from;
     whole_is_good();
     'lines: loop {
         let progress = reader.advance(src);
         let Progress::Line = progress else {
             drop(due);
-            let outcome = outcome_at_stop(progress, line + 1);
+            let outcome = outcome_at_stop(progress, is_between(line, from), line + 1);
             return Ok(outcome);
         };
         line += 1;
@@ -76,11 +81,7 @@ pub fn read_dossier<S: Source>(alloc: Global, src: &mut S) -> Result<Outcome, Al
         let step = judge(alloc, due, words)?;
         match step {
             Step::More(next) => due = next,
-            Step::Whole(draft) => {
-                let more = reader.advance(src);
-                let outcome = outcome_after(draft, more, line + 1);
-                return Ok(outcome);
-            }
+            Step::Whole(draft) => return Ok(Outcome::Yes { draft, lines: line }),
             Step::No(reason) => return Ok(Outcome::No { line, reason }),
         }
     }

@@ -1,31 +1,35 @@
-// Laws of inputs: what is refused is no text of a good dossier, and what ends a dossier is its text.
+// Laws of inputs: what is refused is accepted as no dossiers, and what ends a dossier is its text.
 ghost use Rattle.std.specs.Prelude.{◌≡◌, ℕ, List, map};
 ghost use Rattle.crew_terms.specs.Words.{words_of};
 ghost use Rattle.dossier_terms.specs.declared.Reason.{Reason};
 ghost use Rattle.dossier_terms.specs.Dossier.{Dossier, IsGood};
-ghost use Rattle.dossier_terms.specs.Lines.{text_of};
+ghost use Rattle.dossier_terms.specs.Lines.{lines_of, text_of};
 ghost use Rattle.dossier_terms.specs.Reading.{Form};
 ghost use Rattle.dossier_terms.specs.Today.{IsSimple, IsSimpleInput};
 ghost use Rattle.dossier_laws.specs.Path.{Answered};
 ghost use Rattle.crew_cli.specs.Input.{IsRefusal, text_of_lines};
 
-use dossier_laws::{answered_is_simple, answers_one_thing, simple_is_answered};
-use text_laws::{good_lines, read_front};
+use dossier_laws::{answered_is_simple, answers_one_thing, one_dossier, simple_is_answered};
+use text_laws::{good_lines, read_front, words_of_line};
 
-/// An input with a line that is refused is no text of a good dossier that is taken today.
-pub fn refused_is_not_good()
-    ensures { (input : List ℕ) (number : ℕ) (reason : Reason) (d : Dossier) → IsRefusal input number reason → IsSimpleInput input d → ⊥ }
+/// An input with a line that is refused is accepted as no list of dossiers that are taken today.
+pub fn refused_is_not_accepted()
+    ensures { (input : List ℕ) (done : List Dossier) (number : ℕ) (reason : Reason) (dossiers : List Dossier)
+        → IsRefusal input done number reason → IsSimpleInput input dossiers → ⊥ }
 {
     read_front();
     good_lines();
+    words_of_line();
+    text_laws::text_of_lines();
+    one_dossier();
     simple_is_answered();
     answers_one_thing();
 }
 
-/// Lines that are taken, with the last of them ending a dossier, are its text, and it is good.
+/// Lines that are taken, with the last of them ending a dossier, are its text, and it is good and simple.
 pub fn whole_is_good()
     ensures { (lines : List (List ℕ)) (d : Dossier) → Answered Form (map words_of lines) d
-        → IsGood d × IsSimple d × (text_of d ≡ text_of_lines lines) }
+        → IsGood d × IsSimple d × (text_of d ≡ text_of_lines lines) × (lines_of d ≡ map words_of lines) }
 {
     answered_is_simple();
     text_laws::text_of_lines();

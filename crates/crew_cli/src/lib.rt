@@ -7,6 +7,8 @@ pub mod due;
 pub mod head;
 pub mod input;
 pub mod laws;
+#[cfg(test)]
+mod line_tests;
 pub mod numbers;
 pub mod run;
 #[cfg(test)]

@@ -1,14 +1,18 @@
 // The top call.
-ghost use Rattle.std.specs.Prelude.{◌≡◌, ◌≢◌, ◌≤◌, ◌↔◌, [], ◌∷◌, map, codes, string_bytes, IsTrue};
-ghost use Rattle.crew_io.specs.Io.{Rose};
-ghost use Rattle.crew_cli.specs.Run.{OfBytes, SaysYes, SaysNo, number_of};
+ghost use Rattle.std.specs.Prelude.{◌≡◌, ◌≢◌, ◌≤◌, ◌↔◌, [], ◌∷◌, map, codes, string_bytes, IfOk, IsTrue};
+ghost use Rattle.crew_io.specs.Io.{Appended, Rose};
+ghost use Rattle.dossier_terms.specs.Texts.{no_line};
+ghost use Rattle.crew_cli.specs.Run.{OfBytes, SaysYes, SaysNo, is_no_or_write_fault, number_of};
 
-use crate::input::{Outcome, read_dossier};
-use crate::laws::refused_is_not_good;
+use crate::input::{INPUT, Outcome, next_dossier};
+use crate::laws::refused_is_not_accepted;
 use crate::texts::{put_no, put_yes};
+use crew_io::lines::LineReader;
 use crew_io::sink::{Sink, WriteFault};
 use crew_io::source::Source;
 use dossier_laws::good_bounds;
+use dossier_terms::Reason;
+use field_table::Cuts;
 use std::alloc::{AllocError, Global};
 
 /// How a call ended.
@@ -51,37 +55,56 @@ fn is_check(words: &[String]) -> bool
     words.len() == 1 && words[0].as_str() == "check"
 }
 
-/// Reads a dossier and writes the answer to it.
-fn check<S: Source, K: Sink>(alloc: Global, src: &mut S, out: &mut K) -> Status
-    ensures done { result ≡ Status.Done → OfBytes (S.left src.old) (K.got out.old) (K.got out.new) SaysYes }
-    ensures no { result ≡ Status.No → OfBytes (S.left src.old) (K.got out.old) (K.got out.new) SaysNo }
-    ensures words { result ≢ Status.Words }
-    ensures read_fault { result ≡ Status.ReadFault → Rose (S.faults src.old) (S.faults src.new) }
-    ensures write_fault { result ≡ Status.WriteFault → Rose (K.faults out.old) (K.faults out.new) }
+/// Reads one dossier after another, and writes the yes line of each, or the no line of the first line that
+/// is refused.
+fn check<S: Source, K: Sink>(alloc: Global, src: &mut S, out: &mut K) -> Result<Status, AllocError>
+    ensures done { IfOk result (λ status. status ≡ Status.Done → OfBytes (S.left src.old) (K.got out.old) (K.got out.new) SaysYes) }
+    ensures no { IfOk result (λ status. status ≡ Status.No → OfBytes (S.left src.old) (K.got out.old) (K.got out.new) SaysNo) }
+    ensures words { IfOk result (λ status. status ≢ Status.Words) }
+    ensures read_fault { IfOk result (λ status. status ≡ Status.ReadFault → Rose (S.faults src.old) (S.faults src.new)) }
+    ensures write_fault { IfOk result (λ status. status ≡ Status.WriteFault → Rose (K.faults out.old) (K.faults out.new)) }
     ensures source_later { S.faults src.old ≤ S.faults src.new }
     ensures sink_later { K.faults out.old ≤ K.faults out.new }
 {
-    refused_is_not_good();
+    let mut reader = LineReader::open(alloc, INPUT)?;
+    let mut cuts = Cuts::new(alloc)?;
+    let mut from = 0;
+    refused_is_not_accepted();
     good_bounds();
-    match read_dossier(alloc, src) {
-        Err(AllocError) => Status::Memory,
-        Ok(Outcome::ReadFault) => Status::ReadFault,
-        Ok(Outcome::Yes(draft)) => match put_yes(out, &draft) {
-            Ok(()) => Status::Done,
-            Err(WriteFault) => Status::WriteFault,
-        },
-        Ok(Outcome::No { line, reason }) => match put_no(out, line, reason) {
-            Ok(()) => Status::No,
-            Err(WriteFault) => Status::WriteFault,
-        },
+    'dossiers: loop {
+        match next_dossier(alloc, &mut reader, &mut cuts, src, from)? {
+            Outcome::Yes { draft, lines } => {
+                if let Err(WriteFault) = put_yes(out, &draft) {
+                    return Ok(Status::WriteFault);
+                }
+                from = lines;
+            }
+            Outcome::End => return Ok(Status::Done),
+            Outcome::No { line, reason } => return Ok(refuse(out, line, reason)),
+            Outcome::ReadFault => return Ok(Status::ReadFault),
+        }
     }
 }
 
-/// Does what the words ask for: with `check`, reads a dossier and writes one line, `yes` with its counts
-/// where the input is the text of a good one whose pool is empty and whose tree is one bare leaf, and else
-/// `no` with the first line that is refused and why. Other words have no form: nothing is read or written.
+/// Writes the no line of the first line that is refused.
+fn refuse<K: Sink>(out: &mut K, line: u64, reason: Reason) -> Status
+    ensures no { result ≡ Status.No → Appended (K.got out.old) (K.got out.new) (no_line line reason) }
+    ensures others { IsTrue (is_no_or_write_fault result) }
+    ensures write_fault { result ≡ Status.WriteFault → Rose (K.faults out.old) (K.faults out.new) }
+    ensures later { K.faults out.old ≤ K.faults out.new }
+{
+    match put_no(out, line, reason) {
+        Ok(()) => Status::No,
+        Err(WriteFault) => Status::WriteFault,
+    }
+}
+
+/// Does what the words ask for: with `check`, reads one dossier after another and writes a line `yes` with its
+/// counts for each good one whose pool is empty and whose tree is one bare leaf. At the first line that is
+/// refused it writes a line `no` with its number and the reason, and ends. Other words have no form: nothing is
+/// read or written.
 pub fn run<S: Source, K: Sink>(alloc: Global, words: &[String], src: &mut S, out: &mut K) -> Status
-    // A yes is true, and comes for every text that is taken.
+    // Each yes is true, and where no line is refused, these are all; a no is exact.
     ensures done { result ≡ Status.Done → OfBytes (S.left src.old) (K.got out.old) (K.got out.new) SaysYes }
     ensures no { result ≡ Status.No → OfBytes (S.left src.old) (K.got out.old) (K.got out.new) SaysNo }
 
@@ -97,7 +120,7 @@ pub fn run<S: Source, K: Sink>(alloc: Global, words: &[String], src: &mut S, out
     if !is_check(words) {
         return Status::Words;
     }
-    let status = check(alloc, src, out);
+    let status = check(alloc, src, out).unwrap_or(Status::Memory);
     match out.flush() {
         Ok(()) => status,
         Err(_) => Status::WriteFault,

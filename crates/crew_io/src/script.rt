@@ -22,6 +22,7 @@ fn is_due(fails: &[u64], calls: u64) -> bool
 }
 
 impl Script {
+    /// A script with no call yet, whose calls of these numbers, from 1, fail.
     pub fn new(fails: Vec<u64>) -> Script
         ensures { result ≡ record { fails = fails; calls = 0; faults = 0 } }
     {

@@ -1,10 +1,10 @@
 -- what the checker takes today: dossiers with an empty pool and one bare leaf
-use Rattle.std.specs.Prelude.{◌≡◌, ◌<◌, ◌+◌, ◌≤◌, ◌^◌, ℕ, List, [], length}
+use Rattle.std.specs.Prelude.{All, ◌≡◌, ◌<◌, ◌+◌, ℕ, List, []}
 use Rattle.crew_terms.specs.Words.{Words}
 use Rattle.dossier_terms.specs.declared.Reason.{Reason}
 use Rattle.dossier_terms.specs.declared.Reason.TheVariants.{Later}
-use Rattle.dossier_terms.specs.Dossier.{Dossier, IsGood, Bare}
-use Rattle.dossier_terms.specs.Lines.{text_of}
+use Rattle.dossier_terms.specs.Dossier.{Dossier, Bare}
+use Rattle.dossier_terms.specs.Accepted.{IsAccepted}
 use Rattle.dossier_terms.specs.Reading.{Reading, Said, More, Whole, No, Form, Sizes, Places, Travels, Teams, Tasks, Pools, Routes, Plans, Jobs, Trees, Nodes, Prices, Extras, Worths, Phis, Ends}
 use Rattle.dossier_terms.specs.Table.{Says}
 
@@ -13,12 +13,10 @@ pub record IsSimple (d : Dossier) : Type 0 where
   pub pool : d.pool ≡ []
   pub tree : d.tree ≡ Bare
 
--- the bytes are the text of this good dossier, which is simple
-pub record IsSimpleInput (bytes : List ℕ) (d : Dossier) : Type 0 where
-  pub size : length bytes ≤ 2 ^ 62
-  pub good : IsGood d
-  pub simple : IsSimple d
-  pub text : bytes ≡ text_of d
+-- the bytes are accepted as these dossiers, which are simple
+pub record IsSimpleInput (bytes : List ℕ) (dossiers : List Dossier) : Type 0 where
+  pub accepted : IsAccepted bytes dossiers
+  pub simple : All IsSimple dossiers
 
 -- this line is not taken yet: a route, a leaf's prices, or the nodes of a tree with a split or a closed leaf
 abbrev pub IsLater : Reading → Type 0

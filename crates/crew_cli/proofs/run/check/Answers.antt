@@ -1,7 +1,40 @@
-use Rattle.crew_cli.proofs.Said.{says_no}
+use Rattle.std.proofs.Common.{subst, arith}
+use Rattle.crew_cli.specs.Due.{dossier_of}
+use Rattle.crew_cli.specs.Input.{IsOutcome, OpensNext}
+use Rattle.crew_cli.proofs.Said.{opens, begins, says_one_more, says_yes, says_no}
 use Rattle.crew_cli.proofs.run.check.Goals as goal
 
-pub returns-in-Ok-put_no-clause-no : goal.returns-in-Ok-put_no-clause-no
-returns-in-Ok-put_no-clause-no g c = λ _.
-    says_no (g.S.Source.left c.args.src.now) (g.K.Sink.got c.args.out.now) (g.K.Sink.got c.put_no.new.out) c.in-Ok-No.line c.in-Ok-No.reason c.refused_is_not_good.ensures
-    (rw c.in-Ok-No.field-0-is at c.in-Ok-No.ensures.outcome) c.in-Ok-put_no.ensures.all
+pub dossiers-init : goal.dossiers-init
+dossiers-init g c = record {
+  going = opens c.in_ok-reader.reader c.in_ok-reader.ensures;
+  so_far = begins (g.S.Source.left c.args.src.now) (g.K.Sink.got c.args.out.now) c.in_ok-reader.reader c.in_ok-reader.ensures;
+  source_later = omega arith;
+  sink_later = omega arith;
+}
+
+pub dossiers-preserved : goal.dossiers-preserved
+dossiers-preserved g c =
+    let next = subst (OpensNext c.dossiers.reader c.next_dossier.new.reader) c.in-Yes.is c.in_ok-draft.ensures.next in
+    record {
+      going = next.0;
+      so_far = says_one_more (g.S.Source.left c.args.src.now) (g.K.Sink.got c.args.out.now) c.dossiers.reader c.next_dossier.new.reader
+          (g.S.Source.left c.dossiers.src) (g.S.Source.left c.next_dossier.new.src) (g.K.Sink.got c.dossiers.out) (g.K.Sink.got c.put_yes.new.out)
+          c.dossiers.from c.in-Yes.lines (dossier_of c.in-Yes.draft) c.good_bounds.ensures
+          (λ input done b. subst (IsOutcome input done c.next_dossier.new.reader (g.S.Source.left c.next_dossier.new.src)) c.in-Yes.is (c.in_ok-draft.ensures.outcome input done b))
+          c.in_default.ensures.all c.dossiers.invariant.so_far;
+      source_later = let x = c.dossiers.invariant.source_later in let y = c.in_ok-draft.ensures.later in omega (arith, x, y);
+      sink_later = let x = c.dossiers.invariant.sink_later in let y = c.put_yes.ensures.later in omega (arith, x, y);
+    }
+
+pub returns-in-End-clause-done : goal.returns-in-End-clause-done
+returns-in-End-clause-done g c = λ _.
+    says_yes (g.S.Source.left c.args.src.now) (g.K.Sink.got c.args.out.now) c.dossiers.reader (g.S.Source.left c.dossiers.src) (g.K.Sink.got c.dossiers.out) c.dossiers.from
+    (λ input done b. subst (IsOutcome input done c.next_dossier.new.reader (g.S.Source.left c.next_dossier.new.src)) c.in-End.is (c.in_ok-draft.ensures.outcome input done b))
+    c.dossiers.invariant.so_far
+
+pub returns-in-No-clause-no : goal.returns-in-No-clause-no
+returns-in-No-clause-no g c = λ is.
+    says_no (g.S.Source.left c.args.src.now) (g.K.Sink.got c.args.out.now) c.dossiers.reader (g.S.Source.left c.dossiers.src) (g.K.Sink.got c.dossiers.out) (g.K.Sink.got c.refuse.new.out)
+    c.dossiers.from c.in-No.line c.in-No.reason c.refused_is_not_accepted.ensures
+    (λ input done b. subst (IsOutcome input done c.next_dossier.new.reader (g.S.Source.left c.next_dossier.new.src)) c.in-No.is (c.in_ok-draft.ensures.outcome input done b))
+    (c.refuse.ensures.no is) c.dossiers.invariant.so_far

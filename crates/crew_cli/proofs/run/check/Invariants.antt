@@ -1,0 +1,15 @@
+use Rattle.std.proofs.Common.{◌≤◌, ◌-◌}
+use Rattle.crew_cli.specs.Input.{IsOpen}
+use Rattle.crew_cli.proofs.Said.{HasSaidOf}
+use Rattle.crew_cli.proofs.run.check.Given as goal
+
+abbrev pub invariant-dossiers : goal.invariant-dossiers
+invariant-dossiers g l = record {
+  going : IsOpen l.reader l.from;
+  so_far : HasSaidOf (g.S.Source.left l.fn.src) (g.K.Sink.got l.fn.out) l.reader (g.S.Source.left l.src) (g.K.Sink.got l.out) l.from;
+  source_later : g.S.Source.faults l.fn.src ≤ g.S.Source.faults l.src;
+  sink_later : g.K.Sink.faults l.fn.out ≤ g.K.Sink.faults l.out;
+}
+
+abbrev pub decreases-dossiers : goal.decreases-dossiers
+decreases-dossiers g l = l.reader.limit - l.reader.handed
