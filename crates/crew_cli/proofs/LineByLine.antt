@@ -113,6 +113,7 @@ goes_on first left0 from old new left later due next count s a step = record {
           is = f.1;
           read = record {
             text = text_more input done r.lines new.line r.rest f.0 r.read.text f.2.parts;
+            within = (let h = handed_more done r.lines new.line old.handed new.handed a.handed r.handed in let w = a.within in let l = a.limit in let m = s.going.limit in omega arith);
             good = r.read.good;
             simple = r.read.simple;
             each = All-push IsLine r.lines new.line r.read.each a.line;
@@ -130,7 +131,7 @@ refuses first left0 from old new left later due reason count s a step input done
     let r = s.read input done b in
     let f = found input done old new left later progress.Line (reading_of due) count s.going.limit r a in
     BadLine r.lines new.line f.0 (reading_of due)
-    (record { text = r.read.text ∙ ap (λ x. text_before done r.lines ++ x) f.2.parts; good = r.read.good; simple = r.read.simple; each = r.read.each; leads = r.read.leads })
+    (record { text = r.read.text ∙ ap (λ x. text_before done r.lines ++ x) f.2.parts; within = r.read.within; good = r.read.good; simple = r.read.simple; each = r.read.each; leads = r.read.leads })
     f.2.plain f.2.fits step.answer (let n = r.number in omega arith)
 
 no_bytes : (rest : List ℕ) → length rest ≡ 0 → rest ≡ []
@@ -205,6 +206,8 @@ ends_whole first left0 from old new left later due draft count law s a step inpu
       is = f.1;
       read = record {
         text = text_more input done r.lines new.line r.rest f.0 r.read.text f.2.parts ∙ ap (λ x. x ++ f.0) (sym texts ∙ sym (append-nil (flat_map text_of (done ++ d ∷ []))));
+        within = (let h = handed_more done r.lines new.line old.handed new.handed a.handed r.handed ∙ ap length (sym texts ∙ sym (append-nil (flat_map text_of (done ++ d ∷ [])))) in
+            let w = a.within in let l = a.limit in let m = s.going.limit in omega arith);
         good = All-push IsGood done d r.read.good good.0;
         simple = All-push IsSimple done d r.read.simple good.1;
         each = All-nil IsLine;

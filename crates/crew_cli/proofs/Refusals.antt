@@ -16,8 +16,8 @@ use Rattle.dossier_terms.specs.Reading.{Reading, Said, More, Whole, No, Form}
 use Rattle.dossier_terms.specs.Table.{Says, Reaches}
 use Rattle.dossier_terms.specs.Today.{Answers, IsWhole, IsRefused, IsMore, IsDeferred, IsSimple, IsSimpleInput}
 use Rattle.dossier_laws.specs.Path.{Leads, Answered}
-use Rattle.text_laws.specs.Texts.{IsFront, AreLine}
-use Rattle.crew_cli.specs.Input.{IsRefusal, BadLine, NoLine, HasRead, IsStop, Stops, LineTooLong, InputTooLong, IsEnd, text_of_lines, text_before, room_after}
+use Rattle.text_laws.specs.Texts.{IsFront, AreLine, HasMore}
+use Rattle.crew_cli.specs.Input.{IsRefusal, BadLine, NoLine, HasRead, IsStop, Stops, LineTooLong, InputTooLong, IsEnd, text_of_lines, text_before, lines_before, room_after}
 
 says_more : (s : Reading) (ws : Words) (next : Reading) → Answers s ws (More next) → Says s ws (More next)
 says_more s ws next (IsWhole d says is) = absurd (cc)
@@ -80,9 +80,66 @@ front_of (x ∷ xs) (y ∷ ys) a b e =
       | inr m ↦ inr (m.0, ap (λ z. z ∷ ys) (sym f) ∙ ap (λ z. x ∷ z) m.1)
     ]
 
-cancel : (xs a b : List Words) → xs ++ a ≡ xs ++ b → a ≡ b
+cancel : {X : Type 0} (xs a b : List X) → xs ++ a ≡ xs ++ b → a ≡ b
 cancel [] a b e = e
 cancel (x ∷ xs) a b e = cancel xs a b (cc)
+
+-- what holds of all holds of those behind the first ones
+all_behind : {X : Type 0} (P : X → Type 0) (xs ys : List X) → All P (xs ++ ys) → All P ys
+all_behind P xs ys h = λ k x l.
+    let a : length xs + k < length (xs ++ ys) = (let n = length-append xs ys in omega arith) in
+    subst P (get_or-append-add xs ys k x) (h (length xs + k) x a)
+
+-- where a line comes whole within the room, nothing stops
+whole_line : (room : ℕ) (rest : List ℕ) (reason : Reason) (line after : List ℕ) → IsStop room rest reason
+    → IsLine line → length line < room → rest ≡ with_feed line ++ after → ⊥
+whole_line room rest reason line after (Stops partial part why) plain fits is = feed_in line after (subst NoFeed is part.plain.whole)
+whole_line room rest reason line after (LineTooLong long why) plain fits is =
+    feed_at line after (LONGEST + 1) (let a = plain.short in omega arith) (subst (λ x. NoFeed (take (LONGEST + 1) x)) is long.whole)
+whole_line room rest reason line after (InputTooLong long why) plain fits is =
+    feed_at line after room fits (subst (λ x. NoFeed (take room x)) is long.whole)
+
+-- a reading stops for one reason
+one_stop : (room : ℕ) (rest : List ℕ) (reason cause : Reason) → IsStop room rest reason → IsStop room rest cause → reason ≡ cause
+one_stop room rest reason cause (Stops p a e) (Stops q b f) = e ∙ sym f
+one_stop room rest reason cause (Stops p a e) (LineTooLong b f) = absurd (let s = a.plain.short in let m = b.more in omega arith)
+one_stop room rest reason cause (Stops p a e) (InputTooLong b f) = absurd (let s = a.fits in let m = b.more in omega arith)
+one_stop room rest reason cause (LineTooLong a e) (Stops q b f) = absurd (let s = b.plain.short in let m = a.more in omega arith)
+one_stop room rest reason cause (LineTooLong a e) (LineTooLong b f) = e ∙ sym f
+one_stop room rest reason cause (LineTooLong a e) (InputTooLong b f) = absurd (let s = a.large in let m = b.small in omega arith)
+one_stop room rest reason cause (InputTooLong a e) (Stops q b f) = absurd (let s = b.fits in let m = a.more in omega arith)
+one_stop room rest reason cause (InputTooLong a e) (LineTooLong b f) = absurd (let s = b.large in let m = a.small in omega arith)
+one_stop room rest reason cause (InputTooLong a e) (InputTooLong b f) = e ∙ sym f
+
+-- what is refused behind these lines: the next one, or that none comes whole
+data Stands (done : List Dossier) (lines : List (List ℕ)) (rest : List ℕ) (due : Reading) (reason : Reason) : Type 0 where
+  AtLine : (line after : List ℕ) (parts : rest ≡ with_feed line ++ after) (plain : IsLine line) (fits : length line < room_after done lines)
+      (answer : Answers due (words_of line) (No reason)) → Stands done lines rest due reason
+  AtStop : (stop : IsStop (room_after done lines) rest reason) → Stands done lines rest due reason
+
+-- where an input is refused
+record IsPlace (input : List ℕ) (done : List Dossier) (number : ℕ) (reason : Reason) : Type 0 where
+  lines : List (List ℕ)
+  rest : List ℕ
+  due : Reading
+  read : HasRead input done lines rest due
+  stands : Stands done lines rest due reason
+  is : number ≡ suc (lines_before done lines)
+
+place_of : (input : List ℕ) (done : List Dossier) (number : ℕ) (reason : Reason) → IsRefusal input done number reason → IsPlace input done number reason
+place_of input done number reason (BadLine lines line after due read plain fits answer is) =
+    record { lines = lines; rest = with_feed line ++ after; due = due; read = read; stands = AtLine line after refl plain fits answer; is = is }
+place_of input done number reason (NoLine lines rest due read stop more is) =
+    record { lines = lines; rest = rest; due = due; read = read; stands = AtStop stop; is = is }
+
+-- a reading that goes on where another stands does so within the same dossier, or beyond it
+data GoesOn (done others : List Dossier) (ws vs m : List Words) : Type 0 where
+  Within : (same : done ≡ others) (words : vs ≡ ws ++ m) → GoesOn done others ws vs m
+  Beyond : (d : Dossier) (good : IsGood d) (simple : IsSimple d) (tail : List Words) (words : ws ++ m ≡ lines_of d ++ tail) → GoesOn done others ws vs m
+
+extend : (d x : Dossier) (done others : List Dossier) (ws vs m : List Words) → d ≡ x → GoesOn done others ws vs m → GoesOn (d ∷ done) (x ∷ others) ws vs m
+extend d x done others ws vs m same (Within s w) = Within (ap (λ y. d ∷ y) s ∙ ap (λ y. y ∷ others) same) w
+extend d x done others ws vs m same (Beyond e g s t w) = Beyond e g s t w
 
 no_text : (d : Dossier) (xs : List Words) → [] ≡ lines_of d ++ xs → ⊥
 no_text d xs e = cc
@@ -94,6 +151,10 @@ no_words (x ∷ xs) e = absurd (cc)
 both_none : (xs ys : List Words) → xs ++ ys ≡ [] → (xs ≡ []) × (ys ≡ [])
 both_none [] ys e = (refl, e)
 both_none (x ∷ xs) ys e = absurd (cc)
+
+-- the lines that were read of an input
+abbrev lines_read : List Dossier → List (List ℕ) → List (List ℕ)
+lines_read done lines = map line_of (flat_map lines_of done) ++ lines
 
 -- the laws of the table and of texts
 module _
@@ -306,3 +367,152 @@ module _
       at (NoLine lines rest due read stop more is) =
           let t = tail_of done es lines rest read.good accepted.good read.each (sym accepted.text ∙ read.text) in
           stopped lines rest due read stop more t t.others refl
+
+  are_lines : (done : List Dossier) (lines : List (List ℕ)) → All IsGood done → All IsLine lines → All IsLine (lines_read done lines)
+  are_lines done lines g each = All-append IsLine (map line_of (flat_map lines_of done)) lines
+      (All-map IsLine line_of (flat_map lines_of done) (λ i y b. (good_all done g i y b).line)) each
+
+  text_read : (done : List Dossier) (lines : List (List ℕ)) → All IsGood done → text_before done lines ≡ flat_map with_feed (lines_read done lines)
+  text_read done lines g = let bytes = map line_of (flat_map lines_of done) in
+      ap (λ x. x ++ text_of_lines lines) (texts done bytes (sym (cut_all (flat_map lines_of done) (good_all done g)))) ∙ sym (flat_map-append with_feed bytes lines)
+
+  words_read : (done : List Dossier) (lines : List (List ℕ)) → All IsGood done → map words_of (lines_read done lines) ≡ flat_map lines_of done ++ map words_of lines
+  words_read done lines g = map-append words_of (map line_of (flat_map lines_of done)) lines
+      ∙ ap (λ x. x ++ map words_of lines) (cut_all (flat_map lines_of done) (good_all done g))
+
+  -- lines that lead on lead on from where the first of them lead
+  leads_after : (before : List Words) (s : Reading) (lines more : List Words) (t u : Reading)
+      → Reaches Form before s → Leads s lines t → Leads s (lines ++ more) u → Leads t more u
+  leads_after before s [] more t u r h a = subst (λ x. Leads x more u) h a
+  leads_after before s (ws ∷ lines) more t u r h n =
+      let e : More h.0 ≡ More n.0 = one before s ws (More h.0) (More n.0) r h.1 n.1 in
+      let f : h.0 ≡ n.0 = cc in
+      leads_after (before ++ ws ∷ []) h.0 lines more t u (reach_more Form before ws s h.0 r (says_more s ws h.0 h.1)) h.2
+      (subst (λ x. Leads x (lines ++ more) u) (sym f) n.2)
+
+  same_first : (d x : Dossier) (a b : List Words) → IsGood d → IsGood x → lines_of x ++ a ≡ lines_of d ++ b → d ≡ x
+  same_first d x a b gd gx f = elim (front_of (lines_of x) (lines_of d) a b f) [
+    | inl m ↦ (first d x m.0 gd gx m.1).1
+    | inr m ↦ sym (first x d m.0 gx gd m.1).1
+  ]
+
+  goes_on : (done others : List Dossier) (ws vs m : List Words) (due : Reading) → All IsGood done → All IsSimple done → All IsGood others → All IsSimple others
+      → Leads Form vs due → flat_map lines_of others ++ vs ≡ (flat_map lines_of done ++ ws) ++ m → GoesOn done others ws vs m
+  goes_on [] [] ws vs m due gd sd go so leads e = Within refl e
+  goes_on [] (d ∷ ds) ws vs m due gd sd go so leads e = Beyond d (go 0 d (omega arith)) (so 0 d (omega arith)) (flat_map lines_of ds ++ vs)
+      (sym e ∙ append_assoc (lines_of d) (flat_map lines_of ds) vs)
+  goes_on (d ∷ done) [] ws vs m due gd sd go so leads e =
+      let f : vs ≡ lines_of d ++ ((flat_map lines_of done ++ ws) ++ m) = e ∙ ap (λ x. x ++ m) (append_assoc (lines_of d) (flat_map lines_of done) ws)
+      ∙ append_assoc (lines_of d) (flat_map lines_of done ++ ws) m in
+      absurd (leads_not_past [] Form (lines_of d) ((flat_map lines_of done ++ ws) ++ m) due d refl (answered d (gd 0 d (omega arith)) (sd 0 d (omega arith)))
+      (subst (λ x. Leads Form x due) f leads))
+  goes_on (d ∷ done) (x ∷ others) ws vs m due gd sd go so leads e =
+      let a = flat_map lines_of others ++ vs in
+      let b = (flat_map lines_of done ++ ws) ++ m in
+      let f : lines_of x ++ a ≡ lines_of d ++ b = sym (append_assoc (lines_of x) (flat_map lines_of others) vs) ∙ e
+      ∙ ap (λ y. y ++ m) (append_assoc (lines_of d) (flat_map lines_of done) ws) ∙ append_assoc (lines_of d) (flat_map lines_of done ++ ws) m in
+      let same : d ≡ x = same_first d x a b (gd 0 d (omega arith)) (go 0 x (omega arith)) f in
+      let g : a ≡ b = cancel (lines_of d) a b (ap (λ y. lines_of y ++ a) same ∙ f) in
+      extend d x done others ws vs m same (goes_on done others ws vs m due
+      (λ k y l. gd (suc k) y (omega arith)) (λ k y l. sd (suc k) y (omega arith)) (λ k y l. go (suc k) y (omega arith)) (λ k y l. so (suc k) y (omega arith)) leads g)
+
+  -- an answer that takes a line
+  record IsTaken (due : Reading) (words : Words) : Type 0 where
+    said : Said
+    answer : Answers due words said
+    taken : (reason : Reason) → said ≢ No reason
+
+  next_taken : (done others : List Dossier) (ws vs : List Words) (w : Words) (ms : List Words) (due later : Reading)
+      → Leads Form ws due → Leads Form vs later → GoesOn done others ws vs (w ∷ ms) → IsTaken due w
+  next_taken done others ws vs w ms due later leads on (Within same words) =
+      let l = leads_after [] Form ws (w ∷ ms) due later refl leads (subst (λ y. Leads Form y later) words on) in
+      record { said = More l.0; answer = l.1; taken = λ reason e. cc }
+  next_taken done others ws vs w ms due later leads on (Beyond d g s tail words) = elim (front_of ws (lines_of d) (w ∷ ms) tail words) [
+    | inl k ↦ absurd (leads_not_past [] Form (lines_of d) k.0 due d refl (answered d g s) (subst (λ x. Leads Form x due) k.1 leads))
+    | inr k ↦ at k.0 (answered_after [] Form ws k.0 due d refl leads (subst (λ x. Answered Form x d) k.1 (answered d g s)))
+        (cancel ws (w ∷ ms) (k.0 ++ tail) (words ∙ ap (λ x. x ++ tail) k.1 ∙ append_assoc ws k.0 tail))
+  ]
+    where
+      at : (k : List Words) → Answered due k d → w ∷ ms ≡ k ++ tail → IsTaken due w
+      at [] a f = absurd a
+      at (y ∷ k) (inl z) f = record { said = Whole d; answer = subst (λ x. Answers due x (Whole d)) (let h : y ≡ w = cc in h) z.0; taken = λ reason x. cc }
+      at (y ∷ k) (inr n) f = record { said = More n.0; answer = subst (λ x. Answers due x (More n.0)) (let h : y ≡ w = cc in h) n.1; taken = λ reason x. cc }
+
+  -- a line that is taken is not where an input is refused
+  not_taken : (done : List Dossier) (lines : List (List ℕ)) (rest : List ℕ) (due : Reading) (reason : Reason) (line after : List ℕ) → Leads Form (map words_of lines) due
+      → Stands done lines rest due reason → rest ≡ with_feed line ++ after → IsLine line → length line < room_after done lines → IsTaken due (words_of line) → ⊥
+  not_taken done lines rest due reason line after leads (AtLine bad behind parts plain fits answer) text whole room t =
+      let is : bad ≡ line = same_line bad line behind after plain.whole whole.whole (sym parts ∙ text) in
+      t.taken reason (one (map words_of lines) due (words_of line) t.said (No reason) (reaches Form (map words_of lines) due leads) t.answer
+      (subst (λ x. Answers due (words_of x) (No reason)) is answer))
+  not_taken done lines rest due reason line after leads (AtStop stop) text whole room t = whole_line (room_after done lines) rest reason line after stop whole room text
+
+  one_stand : (done : List Dossier) (lines : List (List ℕ)) (rest : List ℕ) (due : Reading) (reason cause : Reason) → Leads Form (map words_of lines) due
+      → Stands done lines rest due reason → Stands done lines rest due cause → reason ≡ cause
+  one_stand done lines rest due reason cause leads (AtLine a x e p f n) (AtLine b y g q h m) =
+      let is : a ≡ b = same_line a b x y p.whole q.whole (sym e ∙ g) in
+      let both : No reason ≡ No cause = one (map words_of lines) due (words_of b) (No reason) (No cause) (reaches Form (map words_of lines) due leads)
+      (subst (λ z. Answers due (words_of z) (No reason)) is n) m in
+      cc
+  one_stand done lines rest due reason cause leads (AtLine a x e p f n) (AtStop stop) = absurd (whole_line (room_after done lines) rest cause a x stop p f e)
+  one_stand done lines rest due reason cause leads (AtStop stop) (AtLine a x e p f n) = absurd (whole_line (room_after done lines) rest reason a x stop p f e)
+  one_stand done lines rest due reason cause leads (AtStop a) (AtStop b) = one_stop (room_after done lines) rest reason cause a b
+
+  -- of two refusals the one that has read no less stands at the same place
+  not_ahead : (input : List ℕ) (done others : List Dossier) (number other : ℕ) (reason cause : Reason) (a : IsPlace input done number reason) (b : IsPlace input others other cause)
+      (more : List (List ℕ)) → lines_read others b.lines ≡ lines_read done a.lines ++ more → a.rest ≡ flat_map with_feed more ++ b.rest
+      → (done ≡ others) × (number ≡ other) × (reason ≡ cause)
+  not_ahead input done others number other reason cause a b more e text = at more e text (goes_on done others (map words_of a.lines) (map words_of b.lines) (map words_of more) b.due
+      a.read.good a.read.simple b.read.good b.read.simple b.read.leads words)
+    where
+      words : flat_map lines_of others ++ map words_of b.lines ≡ (flat_map lines_of done ++ map words_of a.lines) ++ map words_of more
+      words = sym (words_read others b.lines b.read.good) ∙ ap (map words_of) e ∙ map-append words_of (lines_read done a.lines) more
+          ∙ ap (λ y. y ++ map words_of more) (words_read done a.lines a.read.good)
+
+      room : (x : List ℕ) (xs : List (List ℕ)) → lines_read others b.lines ≡ lines_read done a.lines ++ x ∷ xs → length x < room_after done a.lines
+      room x xs e =
+          let f = ap length (text_read others b.lines b.read.good ∙ ap (flat_map with_feed) e ∙ flat_map-append with_feed (lines_read done a.lines) (x ∷ xs)) in
+          let g = length-append (flat_map with_feed (lines_read done a.lines)) (flat_map with_feed (x ∷ xs)) in
+          let h = length-append (with_feed x) (flat_map with_feed xs) in
+          let i = length-append x (10 ∷ []) in
+          let j = ap length (text_read done a.lines a.read.good) in
+          let k = b.read.within in
+          omega arith
+
+      same : done ≡ others → a.lines ≡ b.lines → a.rest ≡ b.rest → a.due ≡ b.due → (done ≡ others) × (number ≡ other) × (reason ≡ cause)
+      same p q r s =
+          let stands : Stands done a.lines a.rest a.due cause = subst (λ z. Stands done a.lines a.rest z cause) (sym s)
+          (subst (λ z. Stands done a.lines z b.due cause) (sym r) (subst (λ z. Stands done z b.rest b.due cause) (sym q) (subst (λ z. Stands z b.lines b.rest b.due cause) (sym p) b.stands))) in (
+            p,
+            a.is ∙ ap (λ z. suc (lines_before z a.lines)) p ∙ ap (λ z. suc (lines_before others z)) q ∙ sym b.is,
+            one_stand done a.lines a.rest a.due reason cause a.read.leads a.stands stands,
+          )
+
+      at : (more : List (List ℕ)) → lines_read others b.lines ≡ lines_read done a.lines ++ more → a.rest ≡ flat_map with_feed more ++ b.rest
+          → GoesOn done others (map words_of a.lines) (map words_of b.lines) (map words_of more) → (done ≡ others) × (number ≡ other) × (reason ≡ cause)
+      at (x ∷ xs) e text on =
+          absurd (not_taken done a.lines a.rest a.due reason x (flat_map with_feed xs ++ b.rest) a.read.leads a.stands (text ∙ append_assoc (with_feed x) (flat_map with_feed xs) b.rest)
+          (all_behind IsLine (lines_read done a.lines) (x ∷ xs) (subst (All IsLine) e (are_lines others b.lines b.read.good b.read.each)) 0 x (omega arith)) (room x xs e)
+          (next_taken done others (map words_of a.lines) (map words_of b.lines) (words_of x) (map words_of xs) a.due b.due a.read.leads b.read.leads on))
+      at [] e text (Within p w) =
+          let bytes : map line_of (flat_map lines_of done) ++ b.lines ≡ map line_of (flat_map lines_of done) ++ a.lines =
+          ap (λ z. map line_of (flat_map lines_of z) ++ b.lines) p ∙ e ∙ append-nil (lines_read done a.lines) in
+          same p (sym (cancel (map line_of (flat_map lines_of done)) b.lines a.lines bytes)) text
+          (leads_after [] Form (map words_of a.lines) [] a.due b.due refl a.read.leads (subst (λ y. Leads Form y b.due) w b.read.leads))
+      at [] e text (Beyond d g s tail w) =
+          absurd (leads_not_past [] Form (lines_of d) tail a.due d refl (answered d g s) (subst (λ y. Leads Form y a.due) (sym (append-nil (map words_of a.lines)) ∙ w) a.read.leads))
+
+  pub one_refusal : ((xs ys : List (List ℕ)) (a b : List ℕ) → All IsLine xs → All IsLine ys → flat_map with_feed xs ++ a ≡ flat_map with_feed ys ++ b
+      → HasMore xs ys a b ⊎ HasMore ys xs b a)
+      → (input : List ℕ) (done others : List Dossier) (number other : ℕ) (reason cause : Reason)
+      → IsRefusal input done number reason → IsRefusal input others other cause → (done ≡ others) × (number ≡ other) × (reason ≡ cause)
+  one_refusal either input done others number other reason cause r s =
+      let a = place_of input done number reason r in
+      let b = place_of input others other cause s in
+      let text : flat_map with_feed (lines_read done a.lines) ++ a.rest ≡ flat_map with_feed (lines_read others b.lines) ++ b.rest =
+      ap (λ z. z ++ a.rest) (sym (text_read done a.lines a.read.good)) ∙ sym a.read.text ∙ b.read.text ∙ ap (λ z. z ++ b.rest) (text_read others b.lines b.read.good) in
+      elim (either (lines_read done a.lines) (lines_read others b.lines) a.rest b.rest
+      (are_lines done a.lines a.read.good a.read.each) (are_lines others b.lines b.read.good b.read.each) text) [
+        | inl m ↦ (let t = not_ahead input others done other number cause reason b a m.more m.lines m.text in (sym t.0, sym t.1, sym t.2))
+        | inr m ↦ not_ahead input done others number other reason cause a b m.more m.lines m.text
+      ]

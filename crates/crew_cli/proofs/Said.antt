@@ -40,7 +40,7 @@ begins (Some input) (Some before) reader e = subst (λ r. HasSaid input before r
   between = record {
     rest = input;
     is = refl;
-    read = record { text = refl; good = All-nil _; simple = All-nil _; each = All-nil _; leads = refl };
+    read = record { text = refl; within = omega arith; good = All-nil _; simple = All-nil _; each = All-nil _; leads = refl };
     handed = refl;
     number = refl;
   };

@@ -29,9 +29,10 @@ abbrev pub lines_before : List Dossier → List (List ℕ) → ℕ
 lines_before done lines = length (flat_map lines_of done) + length lines
 
 -- the input begins with these good dossiers, which are simple, and these lines of the next one, by which the checker
--- comes to what is due; the rest is left
+-- comes to what is due, within the bytes that an input may have; the rest is left
 pub record HasRead (input : List ℕ) (done : List Dossier) (lines : List (List ℕ)) (rest : List ℕ) (due : Reading) : Type 0 where
   pub text : input ≡ text_before done lines ++ rest
+  pub within : length (text_before done lines) ≤ 2 ^ 62
   pub good : All IsGood done
   pub simple : All IsSimple done
   pub each : All IsLine lines

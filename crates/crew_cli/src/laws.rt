@@ -10,13 +10,28 @@ ghost use Rattle.dossier_laws.specs.Path.{Answered};
 ghost use Rattle.crew_cli.specs.Input.{IsRefusal, text_of_lines};
 
 use dossier_laws::{answered_is_simple, answers_one_thing, one_dossier, simple_is_answered};
-use text_laws::{good_lines, read_front, words_of_line};
+use text_laws::{good_lines, lines_in_text, read_front, words_of_line};
 
 /// An input with a line that is refused is accepted as no list of dossiers that are taken today.
 pub fn refused_is_not_accepted()
     ensures { (input : List ℕ) (done : List Dossier) (number : ℕ) (reason : Reason) (dossiers : List Dossier)
         → IsRefusal input done number reason → IsSimpleInput input dossiers → ⊥ }
 {
+    read_front();
+    good_lines();
+    words_of_line();
+    text_laws::text_of_lines();
+    one_dossier();
+    simple_is_answered();
+    answers_one_thing();
+}
+
+/// An input is refused at one line, behind one list of dossiers, for one reason.
+pub fn one_refusal()
+    ensures { (input : List ℕ) (done others : List Dossier) (number other : ℕ) (reason cause : Reason)
+        → IsRefusal input done number reason → IsRefusal input others other cause → (done ≡ others) × (number ≡ other) × (reason ≡ cause) }
+{
+    lines_in_text();
     read_front();
     good_lines();
     words_of_line();
