@@ -1,5 +1,5 @@
 -- an input with a line that is refused is accepted as no dossiers
-use Rattle.std.proofs.Common.{◌≡◌, ◌≢◌, ◌≤◌, ◌<◌, ◌+◌, ◌-◌, ◌^◌, ◌++◌, ℕ, zero, suc, List, [], ◌∷◌, length, map, take, sym, subst, ap, refl, ◌∙◌, arith, ◌⊎◌, inl, inr, length-append, append_assoc, append-nil}
+use Rattle.std.proofs.Common.{◌≡◌, ◌≢◌, ◌<◌, ◌+◌, ◌++◌, ℕ, zero, suc, List, [], ◌∷◌, length, map, take, sym, subst, ap, refl, ◌∙◌, arith, ◌⊎◌, inl, inr, length-append, append_assoc, append-nil}
 use Rattle.std.proofs.lemmas.List.{get_or-append-add}
 use Rattle.std.proofs.lemmas.List.{map-append}
 use Rattle.std.proofs.lemmas.List.Concat.{flat_map-append}
@@ -11,7 +11,6 @@ use Rattle.crew_io.specs.Lines.{NoFeed}
 use Rattle.dossier_terms.specs.declared.Reason.{Reason}
 use Rattle.dossier_terms.specs.Dossier.{Dossier, IsGood}
 use Rattle.dossier_terms.specs.Lines.{lines_of, text_of}
-use Rattle.dossier_terms.specs.Accepted.{IsAccepted}
 use Rattle.dossier_terms.specs.Reading.{Reading, Said, More, Whole, No, Form}
 use Rattle.dossier_terms.specs.Table.{Says, Reaches}
 use Rattle.dossier_terms.specs.Today.{Answers, IsWhole, IsRefused, IsMore, IsDeferred, IsSimple, IsSimpleInput}
@@ -64,10 +63,6 @@ feed_in : (m x : List ℕ) → NoFeed (with_feed m ++ x) → ⊥
 feed_in [] x h = h 0 0 (omega arith) refl
 feed_in (c ∷ m) x h = feed_in m x (λ k z b. h (suc k) z (omega arith))
 
--- what comes after a text within a limit leaves it within that limit
-no_more_room : (input before rest : List ℕ) (limit : ℕ) → input ≡ before ++ rest → length input ≤ limit → limit - length before < length rest → ⊥
-no_more_room input before rest limit e l r = let a = ap length e in let b = length-append before rest in omega arith
-
 -- of two lists that go on to one list, one goes on to the other
 front_of : (xs ys a b : List Words) → xs ++ a ≡ ys ++ b → ((m : List Words) × (xs ≡ ys ++ m)) ⊎ ((m : List Words) × (ys ≡ xs ++ m))
 front_of [] ys a b e = inr (ys, refl)
@@ -115,7 +110,7 @@ one_stop room rest reason cause (InputTooLong a e) (InputTooLong b f) = e ∙ sy
 data Stands (done : List Dossier) (lines : List (List ℕ)) (rest : List ℕ) (due : Reading) (reason : Reason) : Type 0 where
   AtLine : (line after : List ℕ) (parts : rest ≡ with_feed line ++ after) (plain : IsLine line) (fits : length line < room_after done lines)
       (answer : Answers due (words_of line) (No reason)) → Stands done lines rest due reason
-  AtStop : (stop : IsStop (room_after done lines) rest reason) → Stands done lines rest due reason
+  AtStop : (stop : IsStop (room_after done lines) rest reason) (more : IsEnd done lines rest → ⊥) → Stands done lines rest due reason
 
 -- where an input is refused
 record IsPlace (input : List ℕ) (done : List Dossier) (number : ℕ) (reason : Reason) : Type 0 where
@@ -130,7 +125,7 @@ place_of : (input : List ℕ) (done : List Dossier) (number : ℕ) (reason : Rea
 place_of input done number reason (BadLine lines line after due read plain fits answer is) =
     record { lines = lines; rest = with_feed line ++ after; due = due; read = read; stands = AtLine line after refl plain fits answer; is = is }
 place_of input done number reason (NoLine lines rest due read stop more is) =
-    record { lines = lines; rest = rest; due = due; read = read; stands = AtStop stop; is = is }
+    record { lines = lines; rest = rest; due = due; read = read; stands = AtStop stop more; is = is }
 
 -- a reading that goes on where another stands does so within the same dossier, or beyond it
 data GoesOn (done others : List Dossier) (ws vs m : List Words) : Type 0 where
@@ -190,6 +185,13 @@ module _
       leads_not_past (before ++ ws ∷ []) n.0 lines more t d (reach_more Form before ws s n.0 r (says_more s ws n.0 n.1)) n.2
       (subst (λ x. Leads x (lines ++ more) t) f h.2)
 
+  -- two good dossiers whose lines begin one text are one
+  same_first : (d x : Dossier) (a b : List Words) → IsGood d → IsGood x → lines_of x ++ a ≡ lines_of d ++ b → d ≡ x
+  same_first d x a b gd gx f = elim (front_of (lines_of x) (lines_of d) a b f) [
+    | inl m ↦ (first d x m.0 gd gx m.1).1
+    | inr m ↦ sym (first x d m.0 gx gd m.1).1
+  ]
+
   -- good dossiers whose lines begin with those of others begin with these
   split_off : (done es : List Dossier) (xs : List Words) → All IsGood done → All IsGood es → flat_map lines_of es ≡ flat_map lines_of done ++ xs
       → (rest : List Dossier) × (es ≡ done ++ rest) × (xs ≡ flat_map lines_of rest)
@@ -197,12 +199,7 @@ module _
   split_off (d ∷ done) [] xs gd ge e = absurd (no_text d (flat_map lines_of done ++ xs) (e ∙ append_assoc (lines_of d) (flat_map lines_of done) xs))
   split_off (d ∷ done) (x ∷ es) xs gd ge e =
       let f : lines_of x ++ flat_map lines_of es ≡ lines_of d ++ (flat_map lines_of done ++ xs) = e ∙ append_assoc (lines_of d) (flat_map lines_of done) xs in
-      let gd0 : IsGood d = gd 0 d (omega arith) in
-      let gx0 : IsGood x = ge 0 d (omega arith) in
-      let same : d ≡ x = elim (front_of (lines_of x) (lines_of d) (flat_map lines_of es) (flat_map lines_of done ++ xs) f) [
-        | inl m ↦ (first d x m.0 gd0 gx0 m.1).1
-        | inr m ↦ sym (first x d m.0 gx0 gd0 m.1).1
-      ] in
+      let same : d ≡ x = same_first d x (flat_map lines_of es) (flat_map lines_of done ++ xs) (gd 0 d (omega arith)) (ge 0 d (omega arith)) f in
       let g : flat_map lines_of es ≡ flat_map lines_of done ++ xs = cancel (lines_of d) (flat_map lines_of es) (flat_map lines_of done ++ xs)
       (ap (λ y. lines_of y ++ flat_map lines_of es) same ∙ f) in
       let r = split_off done es xs (λ k y l. gd (suc k) y (omega arith)) (λ k y l. ge (suc k) y (omega arith)) g in
@@ -219,155 +216,7 @@ module _
       let e : words_of (line_of ws) ≡ ws = cut ws w.some (λ k x l. (w.each k x l).no_space) in
       ap (λ x. x ∷ map words_of (map line_of ls)) e ∙ ap (λ x. ws ∷ x) (cut_all ls (λ k x l. h (suc k) x (omega arith)))
 
-  -- the rest of accepted bytes behind whole dossiers and lines of the next one
-  record IsTail (done es : List Dossier) (lines : List (List ℕ)) (rest : List ℕ) : Type 0 where
-    more : List (List ℕ)
-    each : All IsLine more
-    text : rest ≡ flat_map with_feed more
-    others : List Dossier
-    all : es ≡ done ++ others
-    words : map words_of lines ++ map words_of more ≡ flat_map lines_of others
-
-  front_each : (all : List Words) (lines more : List (List ℕ)) → All AreLine all → map line_of all ≡ lines ++ more → All IsLine more
-  front_each all lines more h e = λ k x l.
-      let a : All IsLine (lines ++ more) = subst (All IsLine) e (All-map IsLine line_of all (λ i y b. (h i y b).line)) in
-      let b : length lines + k < length (lines ++ more) = (let n = length-append lines more in omega arith) in
-      subst IsLine (get_or-append-add lines more k x) (a (length lines + k) x b)
-
-  tail_of : (done es : List Dossier) (lines : List (List ℕ)) (rest : List ℕ) → All IsGood done → All IsGood es → All IsLine lines
-      → flat_map text_of es ≡ text_before done lines ++ rest → IsTail done es lines rest
-  tail_of done es lines rest gd ge each text =
-      let ls = flat_map lines_of done in
-      let bytes = map line_of ls in
-      let are = good_all done gd in
-      let back : map words_of bytes ≡ ls = cut_all ls are in
-      let whole : flat_map text_of done ≡ flat_map with_feed bytes = texts done bytes (sym back) in
-      let joined : text_before done lines ≡ flat_map with_feed (bytes ++ lines) = ap (λ x. x ++ text_of_lines lines) whole ∙ sym (flat_map-append with_feed bytes lines) in
-      let plain : All IsLine (bytes ++ lines) = All-append IsLine bytes lines (All-map IsLine line_of ls (λ i y b. (are i y b).line)) each in
-      let f = front es (bytes ++ lines) rest ge plain (text ∙ ap (λ x. x ++ rest) joined) in
-      let words : flat_map lines_of es ≡ ls ++ (map words_of lines ++ map words_of f.more) =
-      f.words ∙ ap (λ x. x ++ map words_of f.more) (map-append words_of bytes lines ∙ ap (λ x. x ++ map words_of lines) back)
-      ∙ append_assoc ls (map words_of lines) (map words_of f.more) in
-      let s = split_off done es (map words_of lines ++ map words_of f.more) gd ge words in
-      record {
-        more = f.more;
-        each = front_each (flat_map lines_of es) (bytes ++ lines) f.more (good_all es ge) f.spelled;
-        text = f.text;
-        others = s.0;
-        all = s.1;
-        words = s.2;
-      }
-
-  -- where the lines lead to what is due, the next line of the rest is answered there
-  record IsNext (due : Reading) (more : List (List ℕ)) : Type 0 where
-    line : List ℕ
-    later : List (List ℕ)
-    is : more ≡ line ∷ later
-    said : Said
-    answer : Answers due (words_of line) said
-    taken : (reason : Reason) → said ≢ No reason
-
-  next_of : (lines more : List (List ℕ)) (due : Reading) (d : Dossier) (ds : List Dossier) → IsGood d → IsSimple d → Leads Form (map words_of lines) due
-      → map words_of lines ++ map words_of more ≡ lines_of d ++ flat_map lines_of ds → IsNext due more
-  next_of lines more due d ds g s leads e = elim (front_of (map words_of lines) (lines_of d) (map words_of more) (flat_map lines_of ds) e) [
-    | inl m ↦ absurd (leads_not_past [] Form (lines_of d) m.0 due d refl (answered d g s) (subst (λ x. Leads Form x due) m.1 leads))
-    | inr m ↦ at m.0 more (answered_after [] Form (map words_of lines) m.0 due d refl leads (subst (λ x. Answered Form x d) m.1 (answered d g s)))
-        (cancel (map words_of lines) (map words_of more) (m.0 ++ flat_map lines_of ds)
-        (e ∙ ap (λ x. x ++ flat_map lines_of ds) m.1 ∙ append_assoc (map words_of lines) m.0 (flat_map lines_of ds)))
-  ]
-    where
-      at : (m : List Words) (more : List (List ℕ)) → Answered due m d → map words_of more ≡ m ++ flat_map lines_of ds → IsNext due more
-      at [] more a f = absurd a
-      at (ws ∷ m) [] a f = absurd (cc)
-      at (ws ∷ m) (line ∷ later) (inl w) f = record {
-        line = line;
-        later = later;
-        is = refl;
-        said = Whole d;
-        answer = subst (λ x. Answers due x (Whole d)) (let h : ws ≡ words_of line = cc in h) w.0;
-        taken = λ reason x. cc;
-      }
-      at (ws ∷ m) (line ∷ later) (inr n) f = record {
-        line = line;
-        later = later;
-        is = refl;
-        said = More n.0;
-        answer = subst (λ x. Answers due x (More n.0)) (let h : ws ≡ words_of line = cc in h) n.1;
-        taken = λ reason x. cc;
-      }
-
-  -- the next line is the one that is refused
-  bad_line : (lines : List (List ℕ)) (line after : List ℕ) (due : Reading) (reason : Reason) (more : List (List ℕ))
-      → Leads Form (map words_of lines) due → IsLine line → Answers due (words_of line) (No reason)
-      → All IsLine more → with_feed line ++ after ≡ flat_map with_feed more → IsNext due more → ⊥
-  bad_line lines line after due reason [] leads plain answer each text n = let e = n.is in cc
-  bad_line lines line after due reason (m ∷ ms) leads plain answer each text n =
-      let is : line ≡ m = same_line line m after (flat_map with_feed ms) plain.whole (each 0 m (omega arith)).whole text in
-      let same : m ≡ n.line = (let e = n.is in cc) in
-      let r : Reaches Form (map words_of lines) due = reaches Form (map words_of lines) due leads in
-      n.taken reason (one (map words_of lines) due (words_of n.line) n.said (No reason) r n.answer (subst (λ x. Answers due (words_of x) (No reason)) (is ∙ same) answer))
-
-  -- the next line comes whole
-  no_line : (input : List ℕ) (done : List Dossier) (lines : List (List ℕ)) (rest : List ℕ) (reason : Reason) (m : List ℕ) (ms : List (List ℕ))
-      → length input ≤ 2 ^ 62 → input ≡ text_before done lines ++ rest → IsStop (room_after done lines) rest reason
-      → IsLine m → rest ≡ flat_map with_feed (m ∷ ms) → ⊥
-  no_line input done lines rest reason m ms small text (Stops partial part why) plain is =
-      feed_in m (flat_map with_feed ms) (subst NoFeed is part.plain.whole)
-  no_line input done lines rest reason m ms small text (LineTooLong long why) plain is =
-      feed_at m (flat_map with_feed ms) (LONGEST + 1) (let a = plain.short in omega arith) (subst (λ x. NoFeed (take (LONGEST + 1) x)) is long.whole)
-  no_line input done lines rest reason m ms small text (InputTooLong long why) plain is =
-      no_more_room input (text_before done lines) rest (2 ^ 62) text small long.more
-
-  simple_others : (done others es : List Dossier) (P : Dossier → Type 0) → es ≡ done ++ others → All P es → All P others
-  simple_others done others es P e h = λ k x l.
-      let a : length done + k < length (done ++ others) = (let n = length-append done others in omega arith) in
-      subst P (get_or-append-add done others k x) (subst (All P) e h (length done + k) x a)
-
-  pub refused_is_not_accepted : (input : List ℕ) (done : List Dossier) (number : ℕ) (reason : Reason) (es : List Dossier)
-      → IsRefusal input done number reason → IsSimpleInput input es → ⊥
-  refused_is_not_accepted input done number reason es refusal h = at refusal
-    where
-      accepted : IsAccepted input es
-      accepted = h.accepted
-
-      bad : (lines : List (List ℕ)) (line after : List ℕ) (due : Reading) → HasRead input done lines (with_feed line ++ after) due → IsLine line → Answers due (words_of line) (No reason)
-          → (t : IsTail done es lines (with_feed line ++ after)) → (others : List Dossier) → t.others ≡ others → ⊥
-      bad lines line after due read plain answer t [] e =
-          let none = both_none (map words_of lines) (map words_of t.more) (t.words ∙ ap (flat_map lines_of) e) in
-          let empty : with_feed line ++ after ≡ [] = t.text ∙ ap (flat_map with_feed) (no_words t.more none.1) in
-          let n = ap length empty in let m = length-append (with_feed line) after in let k = length-append line (10 ∷ []) in absurd (omega arith)
-      bad lines line after due read plain answer t (d ∷ ds) e =
-          let all = t.all ∙ ap (λ x. done ++ x) e in
-          let g = simple_others done (d ∷ ds) es IsGood all accepted.good in
-          let s = simple_others done (d ∷ ds) es IsSimple all h.simple in
-          bad_line lines line after due reason t.more read.leads plain answer t.each t.text
-          (next_of lines t.more due d ds (g 0 d (omega arith)) (s 0 d (omega arith)) read.leads (t.words ∙ ap (flat_map lines_of) e))
-
-      stopped : (lines : List (List ℕ)) (rest : List ℕ) (due : Reading) → HasRead input done lines rest due → IsStop (room_after done lines) rest reason → (IsEnd done lines rest → ⊥)
-          → (t : IsTail done es lines rest) → (others : List Dossier) → t.others ≡ others → ⊥
-      stopped lines rest due read stop more t [] e =
-          let none = both_none (map words_of lines) (map words_of t.more) (t.words ∙ ap (flat_map lines_of) e) in
-          more (record {
-            some = λ x. accepted.some (t.all ∙ ap (λ y. done ++ y) e ∙ append-nil done ∙ x);
-            between = no_words lines none.0;
-            none = t.text ∙ ap (flat_map with_feed) (no_words t.more none.1);
-          })
-      stopped lines rest due read stop more t (d ∷ ds) e =
-          let all = t.all ∙ ap (λ x. done ++ x) e in
-          let g = simple_others done (d ∷ ds) es IsGood all accepted.good in
-          let s = simple_others done (d ∷ ds) es IsSimple all h.simple in
-          let n = next_of lines t.more due d ds (g 0 d (omega arith)) (s 0 d (omega arith)) read.leads (t.words ∙ ap (flat_map lines_of) e) in
-          let each : All IsLine (n.line ∷ n.later) = subst (All IsLine) n.is t.each in
-          no_line input done lines rest reason n.line n.later accepted.size read.text stop (each 0 n.line (omega arith)) (t.text ∙ ap (flat_map with_feed) n.is)
-
-      at : IsRefusal input done number reason → ⊥
-      at (BadLine lines line after due read plain fits answer is) =
-          let t = tail_of done es lines (with_feed line ++ after) read.good accepted.good read.each (sym accepted.text ∙ read.text) in
-          bad lines line after due read plain answer t t.others refl
-      at (NoLine lines rest due read stop more is) =
-          let t = tail_of done es lines rest read.good accepted.good read.each (sym accepted.text ∙ read.text) in
-          stopped lines rest due read stop more t t.others refl
-
+  -- the lines that were read are lines, with these bytes and words
   are_lines : (done : List Dossier) (lines : List (List ℕ)) → All IsGood done → All IsLine lines → All IsLine (lines_read done lines)
   are_lines done lines g each = All-append IsLine (map line_of (flat_map lines_of done)) lines
       (All-map IsLine line_of (flat_map lines_of done) (λ i y b. (good_all done g i y b).line)) each
@@ -380,6 +229,38 @@ module _
   words_read done lines g = map-append words_of (map line_of (flat_map lines_of done)) lines
       ∙ ap (λ x. x ++ map words_of lines) (cut_all (flat_map lines_of done) (good_all done g))
 
+  -- the rest of accepted bytes behind whole dossiers and lines of the next one
+  record IsTail (done es : List Dossier) (lines : List (List ℕ)) (rest : List ℕ) : Type 0 where
+    more : List (List ℕ)
+    each : All IsLine more
+    text : rest ≡ flat_map with_feed more
+    others : List Dossier
+    all : es ≡ done ++ others
+    words : map words_of lines ++ map words_of more ≡ flat_map lines_of others
+
+  front_each : (all : List Words) (lines more : List (List ℕ)) → All AreLine all → map line_of all ≡ lines ++ more → All IsLine more
+  front_each all lines more h e = all_behind IsLine lines more (subst (All IsLine) e (All-map IsLine line_of all (λ i y b. (h i y b).line)))
+
+  tail_of : (done es : List Dossier) (lines : List (List ℕ)) (rest : List ℕ) → All IsGood done → All IsGood es → All IsLine lines
+      → flat_map text_of es ≡ text_before done lines ++ rest → IsTail done es lines rest
+  tail_of done es lines rest gd ge each text =
+      let read = lines_read done lines in
+      let f = front es read rest ge (are_lines done lines gd each) (text ∙ ap (λ x. x ++ rest) (text_read done lines gd)) in
+      let words : flat_map lines_of es ≡ flat_map lines_of done ++ (map words_of lines ++ map words_of f.more) =
+      f.words ∙ ap (λ x. x ++ map words_of f.more) (words_read done lines gd) ∙ append_assoc (flat_map lines_of done) (map words_of lines) (map words_of f.more) in
+      let s = split_off done es (map words_of lines ++ map words_of f.more) gd ge words in
+      record {
+        more = f.more;
+        each = front_each (flat_map lines_of es) read f.more (good_all es ge) f.spelled;
+        text = f.text;
+        others = s.0;
+        all = s.1;
+        words = s.2;
+      }
+
+  those_behind : (done others es : List Dossier) (P : Dossier → Type 0) → es ≡ done ++ others → All P es → All P others
+  those_behind done others es P e h = all_behind P done others (subst (All P) e h)
+
   -- lines that lead on lead on from where the first of them lead
   leads_after : (before : List Words) (s : Reading) (lines more : List Words) (t u : Reading)
       → Reaches Form before s → Leads s lines t → Leads s (lines ++ more) u → Leads t more u
@@ -389,12 +270,6 @@ module _
       let f : h.0 ≡ n.0 = cc in
       leads_after (before ++ ws ∷ []) h.0 lines more t u (reach_more Form before ws s h.0 r (says_more s ws h.0 h.1)) h.2
       (subst (λ x. Leads x (lines ++ more) u) (sym f) n.2)
-
-  same_first : (d x : Dossier) (a b : List Words) → IsGood d → IsGood x → lines_of x ++ a ≡ lines_of d ++ b → d ≡ x
-  same_first d x a b gd gx f = elim (front_of (lines_of x) (lines_of d) a b f) [
-    | inl m ↦ (first d x m.0 gd gx m.1).1
-    | inr m ↦ sym (first x d m.0 gx gd m.1).1
-  ]
 
   goes_on : (done others : List Dossier) (ws vs m : List Words) (due : Reading) → All IsGood done → All IsSimple done → All IsGood others → All IsSimple others
       → Leads Form vs due → flat_map lines_of others ++ vs ≡ (flat_map lines_of done ++ ws) ++ m → GoesOn done others ws vs m
@@ -422,12 +297,10 @@ module _
     answer : Answers due words said
     taken : (reason : Reason) → said ≢ No reason
 
-  next_taken : (done others : List Dossier) (ws vs : List Words) (w : Words) (ms : List Words) (due later : Reading)
-      → Leads Form ws due → Leads Form vs later → GoesOn done others ws vs (w ∷ ms) → IsTaken due w
-  next_taken done others ws vs w ms due later leads on (Within same words) =
-      let l = leads_after [] Form ws (w ∷ ms) due later refl leads (subst (λ y. Leads Form y later) words on) in
-      record { said = More l.0; answer = l.1; taken = λ reason e. cc }
-  next_taken done others ws vs w ms due later leads on (Beyond d g s tail words) = elim (front_of ws (lines_of d) (w ∷ ms) tail words) [
+  -- the next line of a dossier
+  taken_in : (ws : List Words) (w : Words) (ms : List Words) (due : Reading) (d : Dossier) (tail : List Words) → IsGood d → IsSimple d
+      → Leads Form ws due → ws ++ w ∷ ms ≡ lines_of d ++ tail → IsTaken due w
+  taken_in ws w ms due d tail g s leads words = elim (front_of ws (lines_of d) (w ∷ ms) tail words) [
     | inl k ↦ absurd (leads_not_past [] Form (lines_of d) k.0 due d refl (answered d g s) (subst (λ x. Leads Form x due) k.1 leads))
     | inr k ↦ at k.0 (answered_after [] Form ws k.0 due d refl leads (subst (λ x. Answered Form x d) k.1 (answered d g s)))
         (cancel ws (w ∷ ms) (k.0 ++ tail) (words ∙ ap (λ x. x ++ tail) k.1 ∙ append_assoc ws k.0 tail))
@@ -438,6 +311,13 @@ module _
       at (y ∷ k) (inl z) f = record { said = Whole d; answer = subst (λ x. Answers due x (Whole d)) (let h : y ≡ w = cc in h) z.0; taken = λ reason x. cc }
       at (y ∷ k) (inr n) f = record { said = More n.0; answer = subst (λ x. Answers due x (More n.0)) (let h : y ≡ w = cc in h) n.1; taken = λ reason x. cc }
 
+  next_taken : (done others : List Dossier) (ws vs : List Words) (w : Words) (ms : List Words) (due later : Reading)
+      → Leads Form ws due → Leads Form vs later → GoesOn done others ws vs (w ∷ ms) → IsTaken due w
+  next_taken done others ws vs w ms due later leads on (Within same words) =
+      let l = leads_after [] Form ws (w ∷ ms) due later refl leads (subst (λ y. Leads Form y later) words on) in
+      record { said = More l.0; answer = l.1; taken = λ reason e. cc }
+  next_taken done others ws vs w ms due later leads on (Beyond d g s tail words) = taken_in ws w ms due d tail g s leads words
+
   -- a line that is taken is not where an input is refused
   not_taken : (done : List Dossier) (lines : List (List ℕ)) (rest : List ℕ) (due : Reading) (reason : Reason) (line after : List ℕ) → Leads Form (map words_of lines) due
       → Stands done lines rest due reason → rest ≡ with_feed line ++ after → IsLine line → length line < room_after done lines → IsTaken due (words_of line) → ⊥
@@ -445,7 +325,7 @@ module _
       let is : bad ≡ line = same_line bad line behind after plain.whole whole.whole (sym parts ∙ text) in
       t.taken reason (one (map words_of lines) due (words_of line) t.said (No reason) (reaches Form (map words_of lines) due leads) t.answer
       (subst (λ x. Answers due (words_of x) (No reason)) is answer))
-  not_taken done lines rest due reason line after leads (AtStop stop) text whole room t = whole_line (room_after done lines) rest reason line after stop whole room text
+  not_taken done lines rest due reason line after leads (AtStop stop more) text whole room t = whole_line (room_after done lines) rest reason line after stop whole room text
 
   one_stand : (done : List Dossier) (lines : List (List ℕ)) (rest : List ℕ) (due : Reading) (reason cause : Reason) → Leads Form (map words_of lines) due
       → Stands done lines rest due reason → Stands done lines rest due cause → reason ≡ cause
@@ -454,9 +334,9 @@ module _
       let both : No reason ≡ No cause = one (map words_of lines) due (words_of b) (No reason) (No cause) (reaches Form (map words_of lines) due leads)
       (subst (λ z. Answers due (words_of z) (No reason)) is n) m in
       cc
-  one_stand done lines rest due reason cause leads (AtLine a x e p f n) (AtStop stop) = absurd (whole_line (room_after done lines) rest cause a x stop p f e)
-  one_stand done lines rest due reason cause leads (AtStop stop) (AtLine a x e p f n) = absurd (whole_line (room_after done lines) rest reason a x stop p f e)
-  one_stand done lines rest due reason cause leads (AtStop a) (AtStop b) = one_stop (room_after done lines) rest reason cause a b
+  one_stand done lines rest due reason cause leads (AtLine a x e p f n) (AtStop stop more) = absurd (whole_line (room_after done lines) rest cause a x stop p f e)
+  one_stand done lines rest due reason cause leads (AtStop stop more) (AtLine a x e p f n) = absurd (whole_line (room_after done lines) rest reason a x stop p f e)
+  one_stand done lines rest due reason cause leads (AtStop a c) (AtStop b d) = one_stop (room_after done lines) rest reason cause a b
 
   -- of two refusals the one that has read no less stands at the same place
   not_ahead : (input : List ℕ) (done others : List Dossier) (number other : ℕ) (reason cause : Reason) (a : IsPlace input done number reason) (b : IsPlace input others other cause)
@@ -516,3 +396,54 @@ module _
         | inl m ↦ (let t = not_ahead input others done other number cause reason b a m.more m.lines m.text in (sym t.0, sym t.1, sym t.2))
         | inr m ↦ not_ahead input done others number other reason cause a b m.more m.lines m.text
       ]
+
+  pub refused_is_not_accepted : (input : List ℕ) (done : List Dossier) (number : ℕ) (reason : Reason) (es : List Dossier)
+      → IsRefusal input done number reason → IsSimpleInput input es → ⊥
+  refused_is_not_accepted input done number reason es refusal h = at t.others refl
+    where
+      a : IsPlace input done number reason
+      a = place_of input done number reason refusal
+
+      t : IsTail done es a.lines a.rest
+      t = tail_of done es a.lines a.rest a.read.good h.accepted.good a.read.each (sym h.accepted.text ∙ a.read.text)
+
+      nothing : Stands done a.lines a.rest a.due reason → t.others ≡ [] → ⊥
+      nothing (AtLine line after parts plain fits answer) e =
+          let none = both_none (map words_of a.lines) (map words_of t.more) (t.words ∙ ap (flat_map lines_of) e) in
+          let empty : with_feed line ++ after ≡ [] = sym parts ∙ t.text ∙ ap (flat_map with_feed) (no_words t.more none.1) in
+          let n = ap length empty in let m = length-append (with_feed line) after in let k = length-append line (10 ∷ []) in absurd (omega arith)
+      nothing (AtStop stop more) e =
+          let none = both_none (map words_of a.lines) (map words_of t.more) (t.words ∙ ap (flat_map lines_of) e) in
+          more (record {
+            some = λ x. h.accepted.some (t.all ∙ ap (λ y. done ++ y) e ∙ append-nil done ∙ x);
+            between = no_words a.lines none.0;
+            none = t.text ∙ ap (flat_map with_feed) (no_words t.more none.1);
+          })
+
+      room : (x : List ℕ) (xs : List (List ℕ)) → a.rest ≡ flat_map with_feed (x ∷ xs) → length x < room_after done a.lines
+      room x xs is =
+          let e = h.accepted.size in
+          let f = ap length a.read.text in
+          let g = length-append (text_before done a.lines) a.rest in
+          let i = ap length is in
+          let j = length-append (with_feed x) (flat_map with_feed xs) in
+          let k = length-append x (10 ∷ []) in
+          omega arith
+
+      something : (d : Dossier) (ds : List Dossier) → t.others ≡ d ∷ ds → IsGood d → IsSimple d → (more : List (List ℕ)) → t.more ≡ more → ⊥
+      something d ds e good simple [] f =
+          let words : map words_of a.lines ≡ lines_of d ++ flat_map lines_of ds = sym (append-nil (map words_of a.lines))
+          ∙ ap (λ m. map words_of a.lines ++ map words_of m) (sym f) ∙ t.words ∙ ap (flat_map lines_of) e in
+          leads_not_past [] Form (lines_of d) (flat_map lines_of ds) a.due d refl (answered d good simple) (subst (λ y. Leads Form y a.due) words a.read.leads)
+      something d ds e good simple (x ∷ xs) f =
+          let words : map words_of a.lines ++ map words_of (x ∷ xs) ≡ lines_of d ++ flat_map lines_of ds =
+          ap (λ m. map words_of a.lines ++ map words_of m) (sym f) ∙ t.words ∙ ap (flat_map lines_of) e in
+          let is : a.rest ≡ flat_map with_feed (x ∷ xs) = t.text ∙ ap (flat_map with_feed) f in
+          not_taken done a.lines a.rest a.due reason x (flat_map with_feed xs) a.read.leads a.stands is (subst (All IsLine) f t.each 0 x (omega arith)) (room x xs is)
+          (taken_in (map words_of a.lines) (words_of x) (map words_of xs) a.due d (flat_map lines_of ds) good simple a.read.leads words)
+
+      at : (others : List Dossier) → t.others ≡ others → ⊥
+      at [] e = nothing a.stands e
+      at (d ∷ ds) e =
+          let all = t.all ∙ ap (λ x. done ++ x) e in
+          something d ds e (those_behind done (d ∷ ds) es IsGood all h.accepted.good 0 d (omega arith)) (those_behind done (d ∷ ds) es IsSimple all h.simple 0 d (omega arith)) t.more refl
