@@ -1,18 +1,20 @@
 -- what is written for the dossiers of an input, one after another
-use Rattle.std.proofs.Common.{◌≡◌, ◌≤◌, ◌^◌, ◌++◌, ℕ, List, [], ◌∷◌, Option, None, Some, ap, subst, sym, refl, ◌∙◌, arith, append_assoc, append-nil}
+use Rattle.std.proofs.Common.{◌≡◌, ◌≤◌, ◌^◌, ◌++◌, ℕ, List, [], ◌∷◌, length, take, Option, None, Some, ap, subst, sym, refl, ◌∙◌, arith, append_assoc, append-nil}
+use Rattle.std.proofs.Math.Seq.{take-length}
 use Rattle.std.specs.Prelude.{All, IfSome}
 use Rattle.std.specs.List.{flat_map}
 use Rattle.std.proofs.lemmas.List.Concat.{flat_map-append}
 use Rattle.std.proofs.lemmas.List.Elements.{All-nil, All-push, All-contains, Contains-push}
 use Rattle.crew_terms.specs.Plan.{Plan, IsLegal, unassigned_count}
-use Rattle.crew_io.specs.Io.{Appended}
+use Rattle.crew_io.specs.Io.{Appended, AppendedPart}
 use Rattle.crew_io.specs.Lines.{Reader, fresh_reader}
 use Rattle.dossier_terms.specs.declared.Reason.{Reason}
 use Rattle.dossier_terms.specs.Dossier.{Dossier, IsGood}
+use Rattle.dossier_terms.specs.Lines.{text_of}
 use Rattle.dossier_terms.specs.Texts.{yes_line, no_line}
 use Rattle.dossier_terms.specs.Today.{IsSimpleInput}
 use Rattle.crew_cli.specs.Input.{IsBetween, IsOpen, IsRefusal}
-use Rattle.crew_cli.specs.Run.{OfBytes, IsTrueYes, SaysYes, SaysNo}
+use Rattle.crew_cli.specs.Run.{OfBytes, IsTrueYes, SaysYes, SaysNo, SaysFront, Nothing, YesFront, NoFront}
 
 -- these dossiers are read, and their yes lines are written
 pub record HasSaid (input before : List ℕ) (reader : Reader) (left got : Option (List ℕ)) (count : ℕ) : Type 0 where
@@ -94,5 +96,88 @@ says_no (Some input) (Some before) reader left got added count number reason law
         refusal = refusal;
         lines = refl;
         each = so.each;
+      },
+    )
+
+-- ---- what stands where a call ends early
+
+-- all of a piece is a front of it
+pub all_is_part : (got added : Option (List ℕ)) (piece : List ℕ) → Appended got added piece → AppendedPart got added piece
+all_is_part None added piece wrote = wrote
+all_is_part (Some bytes) added piece wrote = (length piece, omega arith, wrote ∙ ap (λ x. Some (bytes ++ x)) (sym (take-length piece)))
+
+-- nothing was read or written yet
+pub front_none : (left got : Option (List ℕ)) → OfBytes left got got SaysFront
+front_none None got = tt
+front_none (Some input) None = tt
+front_none (Some input) (Some before) = (
+  [],
+  ap Some (sym (append-nil before)),
+  record { dossiers = []; rest = input; text = refl; each = All-nil IsTrueYes; part = []; lines = refl; next = Nothing refl },
+)
+
+-- no more was written
+pub front_so_far : (left0 got0 : Option (List ℕ)) (reader : Reader) (left got : Option (List ℕ)) (count : ℕ)
+    → HasSaidOf left0 got0 reader left got count → OfBytes left0 got0 got SaysFront
+front_so_far None got0 reader left got count so = tt
+front_so_far (Some input) None reader left got count so = tt
+front_so_far (Some input) (Some before) reader left got count so = (
+  flat_map yes_line so.done,
+  so.written,
+  record {
+    dossiers = so.done;
+    rest = so.between.rest;
+    text = so.between.read.text ∙ ap (λ x. x ++ so.between.rest) (append-nil (flat_map text_of so.done));
+    each = so.each;
+    part = [];
+    lines = sym (append-nil (flat_map yes_line so.done));
+    next = Nothing refl;
+  },
+)
+
+-- the front of one more yes line was written
+pub front_yes : (left0 got0 : Option (List ℕ)) (old new : Reader) (left later got added : Option (List ℕ)) (count more : ℕ) (d : Dossier) → GoodBounds
+    → ((input : List ℕ) (done : List Dossier) → IsBetween input done old left count → IsBetween input (done ++ d ∷ []) new later more)
+    → AppendedPart got added (yes_line d) → HasSaidOf left0 got0 old left got count → OfBytes left0 got0 added SaysFront
+front_yes None got0 old new left later got added count more d bounds next wrote so = tt
+front_yes (Some input) None old new left later got added count more d bounds next wrote so = tt
+front_yes (Some input) (Some before) old new left later got added count more d bounds next wrote so =
+    let w = subst (λ g. AppendedPart g added (yes_line d)) so.written wrote in
+    let b = next input so.done so.between in
+    let good : IsGood d = All-contains IsGood (so.done ++ d ∷ []) d b.read.good (Contains-push so.done d) in
+    let text : input ≡ flat_map text_of (so.done ++ d ∷ []) ++ b.rest = b.read.text ∙ ap (λ x. x ++ b.rest) (append-nil (flat_map text_of (so.done ++ d ∷ []))) in
+    let part = take w.0 (yes_line d) in (
+      flat_map yes_line so.done ++ part,
+      w.2 ∙ ap Some (append_assoc before (flat_map yes_line so.done) part),
+      record {
+        dossiers = so.done;
+        rest = so.between.rest;
+        text = so.between.read.text ∙ ap (λ x. x ++ so.between.rest) (append-nil (flat_map text_of so.done));
+        each = so.each;
+        part = part;
+        lines = refl;
+        next = YesFront d b.rest text (record { good = good; legal = good.plan; bound = λ p legal. bounds d p good legal }) w.0 refl;
+      },
+    )
+
+-- the front of a no line was written
+pub front_no : (left0 got0 : Option (List ℕ)) (reader : Reader) (left got added : Option (List ℕ)) (count number : ℕ) (reason : Reason)
+    → ((input : List ℕ) (done : List Dossier) → IsBetween input done reader left count → IsRefusal input done number reason)
+    → AppendedPart got added (no_line number reason) → HasSaidOf left0 got0 reader left got count → OfBytes left0 got0 added SaysFront
+front_no None got0 reader left got added count number reason refused wrote so = tt
+front_no (Some input) None reader left got added count number reason refused wrote so = tt
+front_no (Some input) (Some before) reader left got added count number reason refused wrote so =
+    let w = subst (λ g. AppendedPart g added (no_line number reason)) so.written wrote in
+    let part = take w.0 (no_line number reason) in (
+      flat_map yes_line so.done ++ part,
+      w.2 ∙ ap Some (append_assoc before (flat_map yes_line so.done) part),
+      record {
+        dossiers = so.done;
+        rest = so.between.rest;
+        text = so.between.read.text ∙ ap (λ x. x ++ so.between.rest) (append-nil (flat_map text_of so.done));
+        each = so.each;
+        part = part;
+        lines = refl;
+        next = NoFront number reason (refused input so.done so.between) w.0 refl;
       },
     )

@@ -1,9 +1,10 @@
 -- what the program writes for what it reads
-use Rattle.std.specs.Prelude.{◌≡◌, ◌≤◌, ◌++◌, ℕ, Bool, true, false, List, Option, Some, IfSome, All}
+use Rattle.std.specs.Prelude.{◌≡◌, ◌≤◌, ◌++◌, ℕ, Bool, true, false, List, [], ◌∷◌, take, Option, Some, IfSome, All}
 use Rattle.std.specs.List.{flat_map}
 use Rattle.crew_terms.specs.Plan.{Plan, IsLegal, unassigned_count}
 use Rattle.dossier_terms.specs.declared.Reason.{Reason}
 use Rattle.dossier_terms.specs.Dossier.{Dossier, IsGood}
+use Rattle.dossier_terms.specs.Lines.{text_of}
 use Rattle.dossier_terms.specs.Texts.{yes_line, no_line}
 use Rattle.dossier_terms.specs.Today.{IsSimpleInput}
 use Rattle.crew_cli.specs.Input.{IsRefusal}
@@ -47,6 +48,24 @@ pub record SaysNo (input written : List ℕ) : Type 0 where
   pub refusal : IsRefusal input before number reason
   pub lines : written ≡ flat_map yes_line before ++ no_line number reason
   pub each : All IsTrueYes before
+
+-- what stands behind whole yes lines: nothing, or the front of the line that is due there
+pub data IsLineFront (input : List ℕ) (dossiers : List Dossier) (part : List ℕ) : Type 0 where
+  Nothing : (is : part ≡ []) → IsLineFront input dossiers part
+  YesFront : (d : Dossier) (rest : List ℕ) (text : input ≡ flat_map text_of (dossiers ++ d ∷ []) ++ rest) (true_yes : IsTrueYes d)
+      (n : ℕ) (is : part ≡ take n (yes_line d)) → IsLineFront input dossiers part
+  NoFront : (number : ℕ) (reason : Reason) (refusal : IsRefusal input dossiers number reason)
+      (n : ℕ) (is : part ≡ take n (no_line number reason)) → IsLineFront input dossiers part
+
+-- the yes lines of dossiers with which the input begins were written, each of which is true, and the front of one more line
+pub record SaysFront (input written : List ℕ) : Type 0 where
+  pub dossiers : List Dossier
+  pub rest : List ℕ
+  pub text : input ≡ flat_map text_of dossiers ++ rest
+  pub each : All IsTrueYes dossiers
+  pub part : List ℕ
+  pub lines : written ≡ flat_map yes_line dossiers ++ part
+  pub next : IsLineFront input dossiers part
 
 -- the answers to a line that is refused
 abbrev pub is_no_or_write_fault : Status → Bool

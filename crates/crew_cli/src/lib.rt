@@ -4,6 +4,8 @@
 pub mod body;
 pub mod checker;
 pub mod due;
+#[cfg(test)]
+mod fault_tests;
 pub mod head;
 pub mod input;
 pub mod laws;

@@ -1,8 +1,8 @@
 // The top call.
 ghost use Rattle.std.specs.Prelude.{◌≡◌, ◌≢◌, ◌≤◌, ◌↔◌, [], ◌∷◌, map, codes, string_bytes, IfOk, IsTrue};
-ghost use Rattle.crew_io.specs.Io.{Appended, Rose};
+ghost use Rattle.crew_io.specs.Io.{Appended, AppendedPart, Rose};
 ghost use Rattle.dossier_terms.specs.Texts.{no_line};
-ghost use Rattle.crew_cli.specs.Run.{OfBytes, SaysYes, SaysNo, is_no_or_write_fault, number_of};
+ghost use Rattle.crew_cli.specs.Run.{OfBytes, SaysYes, SaysNo, SaysFront, is_no_or_write_fault, number_of};
 
 use crate::input::{INPUT, Outcome, next_dossier};
 use crate::laws::refused_is_not_accepted;
@@ -60,6 +60,7 @@ fn is_check(words: &[String]) -> bool
 fn check<S: Source, K: Sink>(alloc: Global, src: &mut S, out: &mut K) -> Result<Status, AllocError>
     ensures done { IfOk result (λ status. status ≡ Status.Done → OfBytes (S.left src.old) (K.got out.old) (K.got out.new) SaysYes) }
     ensures no { IfOk result (λ status. status ≡ Status.No → OfBytes (S.left src.old) (K.got out.old) (K.got out.new) SaysNo) }
+    ensures front { OfBytes (S.left src.old) (K.got out.old) (K.got out.new) SaysFront }
     ensures words { IfOk result (λ status. status ≢ Status.Words) }
     ensures read_fault { IfOk result (λ status. status ≡ Status.ReadFault → Rose (S.faults src.old) (S.faults src.new)) }
     ensures write_fault { IfOk result (λ status. status ≡ Status.WriteFault → Rose (K.faults out.old) (K.faults out.new)) }
@@ -89,6 +90,7 @@ fn check<S: Source, K: Sink>(alloc: Global, src: &mut S, out: &mut K) -> Result<
 /// Writes the no line of the first line that is refused.
 fn refuse<K: Sink>(out: &mut K, line: u64, reason: Reason) -> Status
     ensures no { result ≡ Status.No → Appended (K.got out.old) (K.got out.new) (no_line line reason) }
+    ensures part { AppendedPart (K.got out.old) (K.got out.new) (no_line line reason) }
     ensures others { IsTrue (is_no_or_write_fault result) }
     ensures write_fault { result ≡ Status.WriteFault → Rose (K.faults out.old) (K.faults out.new) }
     ensures later { K.faults out.old ≤ K.faults out.new }
@@ -107,6 +109,9 @@ pub fn run<S: Source, K: Sink>(alloc: Global, words: &[String], src: &mut S, out
     // Each yes is true, and where no line is refused, these are all; a no is exact.
     ensures done { result ≡ Status.Done → OfBytes (S.left src.old) (K.got out.old) (K.got out.new) SaysYes }
     ensures no { result ≡ Status.No → OfBytes (S.left src.old) (K.got out.old) (K.got out.new) SaysNo }
+
+    // Also at a fault, what was written is whole lines that are true, and the front of one more.
+    ensures front { OfBytes (S.left src.old) (K.got out.old) (K.got out.new) SaysFront }
 
     ensures words { (result ≡ Status.Words) ↔ (map (λ w. string_bytes w) words.now ≢ codes "check" ∷ []) }
     ensures untouched { result ≡ Status.Words → (src.new ≡ src.old) × (out.new ≡ out.old) }

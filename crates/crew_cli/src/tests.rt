@@ -6,7 +6,7 @@ use std::alloc::Global;
 use std::test::Fail;
 
 /// A good dossier: one team, and one task that it does.
-const GOOD: &[u8] =
+pub const GOOD: &[u8] =
     b"crew dossier 1\nsize 1 1 2 1\nplace BASE\nplace G1\ntravel 0 10\ntravel 10 0\nteam T1 0 360 840\ntask A 1 420 450 30 1\npool 0 0\nplan 0 0\ndo 0 420 0\ntree 0 0 1 0\nleaf bare\nend\n";
 
 /// A good dossier: two teams, and one task that they do together.
@@ -14,7 +14,7 @@ const TOGETHER: &[u8] =
     b"crew dossier 1\nsize 2 1 2 1\nplace BASE\nplace G1\ntravel 0 10\ntravel 10 0\nteam T1 0 360 840 3\nteam T2 0 360 840 3\ntask J 1 420 420 30 2 3\npool 0 0\nplan 0 0\ndo 0 420 0 1\ntree 0 0 1 0\nleaf bare\nend\n";
 
 /// The front of a dossier whose pool has two routes.
-const WITH_POOL: &[u8] =
+pub const WITH_POOL: &[u8] =
     b"crew dossier 1\nsize 1 2 2 1\nplace BASE\nplace G1\ntravel 0 10\ntravel 10 0\nteam T1 0 360 840\ntask A 1 420 420 30 1\ntask B 1 420 420 30 1\npool 0 2\nroute 0 0 420\nroute 0 1 420\nplan 1 1\ndo 0 420 0\n";
 
 /// The front of a dossier whose tree is one open leaf with its prices.
@@ -47,7 +47,7 @@ pub fn with_line(alloc: Global, text: &[u8], number: u64, line: &[u8]) -> Result
 }
 
 /// These pieces, one after another.
-fn joined(alloc: Global, pieces: &[&[u8]]) -> Result<Vec<u8>, Fail> {
+pub fn joined(alloc: Global, pieces: &[&[u8]]) -> Result<Vec<u8>, Fail> {
     let mut bytes = Vec::new(alloc);
     for piece in pieces {
         bytes.extend_from_slice(piece)?;
@@ -183,18 +183,5 @@ fn other_words_have_no_form(rt: HostRuntime) -> Result<(), Fail> {
         assert_eq!(rt; status, Status::Words);
         assert!(rt; written.is_empty());
     }
-    Ok(())
-}
-
-#[test]
-fn faults_have_statuses_of_their_own(rt: HostRuntime) -> Result<(), Fail> {
-    let input = GOOD.to_vec(rt.alloc())?;
-    let (read, nothing) = answer(rt.alloc(), &["check"], input, &[2], &[])?;
-    assert_eq!(rt; read, Status::ReadFault);
-    assert!(rt; nothing.is_empty());
-    let input = GOOD.to_vec(rt.alloc())?;
-    let (write, none) = answer(rt.alloc(), &["check"], input, &[], &[1])?;
-    assert_eq!(rt; write, Status::WriteFault);
-    assert!(rt; none.is_empty());
     Ok(())
 }

@@ -1,7 +1,7 @@
 use Rattle.std.proofs.Common.{subst, arith}
 use Rattle.crew_cli.specs.Due.{dossier_of}
 use Rattle.crew_cli.specs.Input.{IsOutcome, OpensNext}
-use Rattle.crew_cli.proofs.Said.{opens, begins, says_one_more, says_yes, says_no}
+use Rattle.crew_cli.proofs.Said.{opens, begins, says_one_more, says_yes, says_no, front_so_far, front_yes, front_no}
 use Rattle.crew_cli.proofs.run.check.Goals as goal
 
 pub dossiers-init : goal.dossiers-init
@@ -38,3 +38,30 @@ returns-in-No-clause-no g c = λ is.
     c.dossiers.from c.in-No.line c.in-No.reason c.refused_is_not_accepted.ensures
     (λ input done b. subst (IsOutcome input done c.next_dossier.new.reader (g.S.Source.left c.next_dossier.new.src)) c.in-No.is (c.in_ok-draft.ensures.outcome input done b))
     (c.refuse.ensures.no is) c.dossiers.invariant.so_far
+
+pub returns-in_err-draft-clause-front : goal.returns-in_err-draft-clause-front
+returns-in_err-draft-clause-front g c =
+    front_so_far (g.S.Source.left c.args.src.now) (g.K.Sink.got c.args.out.now) c.dossiers.reader (g.S.Source.left c.dossiers.src) (g.K.Sink.got c.dossiers.out) c.dossiers.from c.dossiers.invariant.so_far
+
+pub returns-in-End-clause-front : goal.returns-in-End-clause-front
+returns-in-End-clause-front g c =
+    front_so_far (g.S.Source.left c.args.src.now) (g.K.Sink.got c.args.out.now) c.dossiers.reader (g.S.Source.left c.dossiers.src) (g.K.Sink.got c.dossiers.out) c.dossiers.from c.dossiers.invariant.so_far
+
+pub returns-in-ReadFault-clause-front : goal.returns-in-ReadFault-clause-front
+returns-in-ReadFault-clause-front g c =
+    front_so_far (g.S.Source.left c.args.src.now) (g.K.Sink.got c.args.out.now) c.dossiers.reader (g.S.Source.left c.dossiers.src) (g.K.Sink.got c.dossiers.out) c.dossiers.from c.dossiers.invariant.so_far
+
+pub returns-in-Err-clause-front : goal.returns-in-Err-clause-front
+returns-in-Err-clause-front g c =
+    front_yes (g.S.Source.left c.args.src.now) (g.K.Sink.got c.args.out.now) c.dossiers.reader c.next_dossier.new.reader
+    (g.S.Source.left c.dossiers.src) (g.S.Source.left c.next_dossier.new.src) (g.K.Sink.got c.dossiers.out) (g.K.Sink.got c.put_yes.new.out)
+    c.dossiers.from c.in-Yes.lines (dossier_of c.in-Yes.draft) c.good_bounds.ensures
+    (λ input done b. subst (IsOutcome input done c.next_dossier.new.reader (g.S.Source.left c.next_dossier.new.src)) c.in-Yes.is (c.in_ok-draft.ensures.outcome input done b))
+    c.in-Err.ensures.part c.dossiers.invariant.so_far
+
+pub returns-in-No-clause-front : goal.returns-in-No-clause-front
+returns-in-No-clause-front g c =
+    front_no (g.S.Source.left c.args.src.now) (g.K.Sink.got c.args.out.now) c.dossiers.reader (g.S.Source.left c.dossiers.src) (g.K.Sink.got c.dossiers.out) (g.K.Sink.got c.refuse.new.out)
+    c.dossiers.from c.in-No.line c.in-No.reason
+    (λ input done b. subst (IsOutcome input done c.next_dossier.new.reader (g.S.Source.left c.next_dossier.new.src)) c.in-No.is (c.in_ok-draft.ensures.outcome input done b))
+    c.refuse.ensures.part c.dossiers.invariant.so_far
