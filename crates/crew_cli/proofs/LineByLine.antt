@@ -6,7 +6,7 @@ use Rattle.std.proofs.lemmas.List.Concat.{flat_map-append}
 use Rattle.std.proofs.lemmas.List.Elements.{All-nil, All-push}
 use Rattle.crew_terms.specs.Words.{IsLine, words_of, with_feed}
 use Rattle.crew_io.specs.Io.{Rose}
-use Rattle.crew_io.specs.Lines.{Reader, Advances, AnswersTold, Answers as Finds, rest_of, allowance}
+use Rattle.crew_io.specs.Lines.{Reader, Advances, AnswersTold, Answers as Finds, IsPartial, rest_of, allowance}
 use Rattle.crew_io.specs.declared.lines.Progress.{Progress}
 use Rattle.crew_io.specs.declared.lines.Progress.TheVariants as progress
 use Rattle.dossier_terms.specs.declared.Reason.{Reason}
@@ -156,19 +156,20 @@ pub stops : (first : Reader) (left0 : Option (List ℕ)) (from : ℕ) (old new :
 stops first left0 from old new left later answer due count between is not s a stopped input done b =
     let r = s.read input done b in
     let f = found input done old new left later answer (reading_of due) count s.going.limit r a in
-    refused r answer stopped between is not f.0 f.2
+    refused r answer stopped between is not f.0 f.1 f.2 (λ e. subst (λ room. IsPartial room new.held (length new.held)) (let h = r.handed in let l = s.going.limit in omega arith) (a.fault e))
   where
     no_end : (r : ReadTo input done old left (reading_of due) count) → 0 < length r.rest → IsEnd done r.lines r.rest → ⊥
     no_end r l e = let n = ap length e.none in absurd (omega arith)
 
     refused : (r : ReadTo input done old left (reading_of due) count) (answer : Progress) → answer ≢ progress.Line
         → (between : Bool) → (between ≡ true → (count ≡ from) × (0 < from)) → (between ≡ false → (count ≡ from) × (0 < from) → ⊥) → (after : List ℕ)
-        → Finds (room_after done r.lines) r.rest answer new.line after → IsOutcome input done new later (outcome_at_stop_of answer between (count + 1))
-    refused r progress.Line stopped between is not after f = absurd (stopped refl)
-    refused r progress.TooLong stopped between is not after f = NoLine r.lines r.rest (reading_of due) r.read (LineTooLong f.0 refl) (no_end r (let m = f.0.more in omega arith)) (let n = r.number in omega arith)
-    refused r progress.TooMuch stopped between is not after f = NoLine r.lines r.rest (reading_of due) r.read (InputTooLong f.0 refl) (no_end r (let m = f.0.more in omega arith)) (let n = r.number in omega arith)
-    refused r (progress.End (suc partial)) stopped between is not after f = NoLine r.lines r.rest (reading_of due) r.read (Stops (suc partial) f.0 refl) (no_end r (let m = f.0.count in omega arith)) (let n = r.number in omega arith)
-    refused r (progress.End zero) stopped true is not after f =
+        → rest_of new later ≡ Some after → Finds (room_after done r.lines) r.rest answer new.line after
+        → (answer ≡ progress.ReadFault → IsPartial (room_after done r.lines) new.held (length new.held)) → IsOutcome input done new later (outcome_at_stop_of answer between (count + 1))
+    refused r progress.Line stopped between is not after left_is f fault = absurd (stopped refl)
+    refused r progress.TooLong stopped between is not after left_is f fault = NoLine r.lines r.rest (reading_of due) r.read (LineTooLong f.0 refl) (no_end r (let m = f.0.more in omega arith)) (let n = r.number in omega arith)
+    refused r progress.TooMuch stopped between is not after left_is f fault = NoLine r.lines r.rest (reading_of due) r.read (InputTooLong f.0 refl) (no_end r (let m = f.0.more in omega arith)) (let n = r.number in omega arith)
+    refused r (progress.End (suc partial)) stopped between is not after left_is f fault = NoLine r.lines r.rest (reading_of due) r.read (Stops (suc partial) f.0 refl) (no_end r (let m = f.0.count in omega arith)) (let n = r.number in omega arith)
+    refused r (progress.End zero) stopped true is not after left_is f fault =
         let at = is refl in
         let n = r.number in
         let m = b.number in
@@ -183,10 +184,11 @@ stops first left0 from old new left later answer due count between is not s a st
           accepted = record { size = small; some = λ x. absurd (let k = ap (λ y. length (flat_map lines_of y)) x in omega arith); good = r.read.good; text = text };
           simple = r.read.simple;
         }
-    refused r (progress.End zero) stopped false is not after f = NoLine r.lines r.rest (reading_of due) r.read (Stops 0 f.0 refl)
+    refused r (progress.End zero) stopped false is not after left_is f fault = NoLine r.lines r.rest (reading_of due) r.read (Stops 0 f.0 refl)
         (λ e. not refl ((let n = r.number in let m = b.number in let k = ap length e.between in omega arith), (let m = b.number in let l = some_lines done e.some in omega arith)))
         (let n = r.number in omega arith)
-    refused r progress.ReadFault stopped between is not after f = tt
+    refused r progress.ReadFault stopped between is not after left_is f fault =
+        record { lines = r.lines; rest = r.rest; due = reading_of due; is = left_is ∙ ap Some f; read = r.read; front = fault refl }
 
 pub ends_whole : (first : Reader) (left0 : Option (List ℕ)) (from : ℕ) (old new : Reader) (left later : Option (List ℕ)) (due : Due) (draft : Draft) (count : ℕ)
     → ((lines : List (List ℕ)) (d : Dossier) → Answered FormDue (map words_of lines) d → IsGood d × IsSimple d × (text_of d ≡ text_of_lines lines) × (lines_of d ≡ map words_of lines))

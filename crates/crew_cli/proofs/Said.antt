@@ -1,31 +1,32 @@
 -- what is written for the dossiers of an input, one after another
-use Rattle.std.proofs.Common.{◌≡◌, ◌≤◌, ◌^◌, ◌++◌, ℕ, List, [], ◌∷◌, length, take, Option, None, Some, ap, subst, sym, refl, ◌∙◌, arith, append_assoc, append-nil}
+use Rattle.std.proofs.Common.{◌≡◌, ◌≤◌, ◌^◌, ◌+◌, ◌++◌, ℕ, List, [], ◌∷◌, length, take, Option, None, Some, Result, Ok, Err, ap, subst, sym, refl, ◌∙◌, arith, append_assoc, append-nil}
 use Rattle.std.proofs.Math.Seq.{take-length}
-use Rattle.std.specs.Prelude.{All, IfSome}
+use Rattle.std.specs.Prelude.{All, IfSome, OnErr}
 use Rattle.std.specs.List.{flat_map}
 use Rattle.std.proofs.lemmas.List.Concat.{flat_map-append}
 use Rattle.std.proofs.lemmas.List.Elements.{All-nil, All-push, All-contains, Contains-push}
 use Rattle.crew_terms.specs.Plan.{Plan, IsLegal, unassigned_count}
 use Rattle.crew_io.specs.Io.{Appended, AppendedPart}
-use Rattle.crew_io.specs.Lines.{Reader, fresh_reader}
+use Rattle.crew_io.specs.Lines.{Reader, fresh_reader, rest_of}
 use Rattle.dossier_terms.specs.declared.Reason.{Reason}
 use Rattle.dossier_terms.specs.Dossier.{Dossier, IsGood}
 use Rattle.dossier_terms.specs.Lines.{text_of}
+use Rattle.dossier_terms.specs.Reading.{Form}
 use Rattle.dossier_terms.specs.Texts.{yes_line, no_line}
 use Rattle.dossier_terms.specs.Today.{IsSimpleInput}
-use Rattle.crew_cli.specs.Input.{IsBetween, IsOpen, IsRefusal}
-use Rattle.crew_cli.specs.Run.{OfBytes, IsTrueYes, SaysYes, SaysNo, SaysFront, Nothing, YesFront, NoFront}
+use Rattle.crew_cli.specs.Input.{IsBetween, IsOpen, IsRefusal, IsInterrupted, HasRead}
+use Rattle.crew_cli.specs.Run.{OfBytes, IsTrueYes, SaysYes, SaysNo, SaysFront, SaysReadFault, SaysYesLines, Nothing, YesFront, NoFront}
 
 -- these dossiers are read, and their yes lines are written
-pub record HasSaid (input before : List ℕ) (reader : Reader) (left got : Option (List ℕ)) (count : ℕ) : Type 0 where
+pub record HasSaid (input : List ℕ) (before : Option (List ℕ)) (reader : Reader) (left got : Option (List ℕ)) (count : ℕ) : Type 0 where
   pub done : List Dossier
   pub between : IsBetween input done reader left count
-  pub written : got ≡ Some (before ++ flat_map yes_line done)
+  pub written : Appended before got (flat_map yes_line done)
   pub each : All IsTrueYes done
 
--- where the source tells its bytes and the sink what it got
+-- where the source tells its bytes
 abbrev pub HasSaidOf : Option (List ℕ) → Option (List ℕ) → Reader → Option (List ℕ) → Option (List ℕ) → ℕ → Type 0
-HasSaidOf left0 got0 reader left got count = IfSome left0 (λ input. IfSome got0 (λ before. HasSaid input before reader left got count))
+HasSaidOf left0 got0 reader left got count = IfSome left0 (λ input. HasSaid input got0 reader left got count)
 
 -- every legal plan of a good dossier's instance leaves at least its bound unassigned
 abbrev pub GoodBounds : Type 0
@@ -34,19 +35,30 @@ GoodBounds = (d : Dossier) (p : Plan) → IsGood d → IsLegal d.instance p → 
 pub opens : (reader : Reader) → reader ≡ fresh_reader (2 ^ 62) → IsOpen reader 0
 opens reader e = subst (λ r. IsOpen r 0) (sym e) (record { going = refl; limit = refl; within = omega arith; few = omega arith })
 
+appended_none : (got : Option (List ℕ)) → Appended got got []
+appended_none None = refl
+appended_none (Some bytes) = ap Some (sym (append-nil bytes))
+
+appended_both : (old mid new : Option (List ℕ)) (xs ys : List ℕ) → Appended old mid xs → Appended mid new ys → Appended old new (xs ++ ys)
+appended_both None mid new xs ys p q = subst (λ m. Appended m new ys) p q
+appended_both (Some bytes) mid new xs ys p q = subst (λ m. Appended m new ys) p q ∙ ap Some (append_assoc bytes xs ys)
+
+appended_front : (old mid new : Option (List ℕ)) (xs ys : List ℕ) → Appended old mid xs → AppendedPart mid new ys → (n : ℕ) × Appended old new (xs ++ take n ys)
+appended_front None mid new xs ys p q = (0, subst (λ m. AppendedPart m new ys) p q)
+appended_front (Some bytes) mid new xs ys p q =
+    let w = subst (λ m. AppendedPart m new ys) p q in
+    (w.0, w.2 ∙ ap Some (append_assoc bytes xs (take w.0 ys)))
+
+-- nothing is read yet of an input
+none_read : (input : List ℕ) → HasRead input [] [] input Form
+none_read input = record { text = refl; within = omega arith; good = All-nil _; simple = All-nil _; each = All-nil _; leads = refl }
+
 pub begins : (left got : Option (List ℕ)) (reader : Reader) → reader ≡ fresh_reader (2 ^ 62) → HasSaidOf left got reader left got 0
 begins None got reader e = tt
-begins (Some input) None reader e = tt
-begins (Some input) (Some before) reader e = subst (λ r. HasSaid input before r (Some input) (Some before) 0) (sym e) (record {
+begins (Some input) got reader e = subst (λ r. HasSaid input got r (Some input) got 0) (sym e) (record {
   done = [];
-  between = record {
-    rest = input;
-    is = refl;
-    read = record { text = refl; within = omega arith; good = All-nil _; simple = All-nil _; each = All-nil _; leads = refl };
-    handed = refl;
-    number = refl;
-  };
-  written = ap Some (sym (append-nil before));
+  between = record { rest = input; is = refl; read = none_read input; handed = refl; number = refl };
+  written = appended_none got;
   each = All-nil IsTrueYes;
 })
 
@@ -55,16 +67,15 @@ pub says_one_more : (left0 got0 : Option (List ℕ)) (old new : Reader) (left la
     → ((input : List ℕ) (done : List Dossier) → IsBetween input done old left count → IsBetween input (done ++ d ∷ []) new later more)
     → Appended got added (yes_line d) → HasSaidOf left0 got0 old left got count → HasSaidOf left0 got0 new later added more
 says_one_more None got0 old new left later got added count more d bounds next wrote so = tt
-says_one_more (Some input) None old new left later got added count more d bounds next wrote so = tt
-says_one_more (Some input) (Some before) old new left later got added count more d bounds next wrote so =
+says_one_more (Some input) got0 old new left later got added count more d bounds next wrote so =
     let b = next input so.done so.between in
     let good : IsGood d = All-contains IsGood (so.done ++ d ∷ []) d b.read.good (Contains-push so.done d) in
+    let lines : flat_map yes_line so.done ++ yes_line d ≡ flat_map yes_line (so.done ++ d ∷ []) =
+    ap (λ x. flat_map yes_line so.done ++ x) (sym (append-nil (yes_line d))) ∙ sym (flat_map-append yes_line so.done (d ∷ [])) in
     record {
       done = so.done ++ d ∷ [];
       between = b;
-      written = subst (λ g. Appended g added (yes_line d)) so.written wrote
-          ∙ ap Some (append_assoc before (flat_map yes_line so.done) (yes_line d)
-          ∙ ap (λ x. before ++ x) (ap (λ x. flat_map yes_line so.done ++ x) (sym (append-nil (yes_line d))) ∙ sym (flat_map-append yes_line so.done (d ∷ []))));
+      written = subst (λ bytes. Appended got0 added bytes) lines (appended_both got0 got added (flat_map yes_line so.done) (yes_line d) so.written wrote);
       each = All-push IsTrueYes so.done d so.each (record { good = good; legal = good.plan; bound = λ p legal. bounds d p good legal });
     }
 
@@ -73,8 +84,7 @@ pub says_yes : (left0 got0 : Option (List ℕ)) (reader : Reader) (left got : Op
     → ((input : List ℕ) (done : List Dossier) → IsBetween input done reader left count → IsSimpleInput input done)
     → HasSaidOf left0 got0 reader left got count → OfBytes left0 got0 got SaysYes
 says_yes None got0 reader left got count whole so = tt
-says_yes (Some input) None reader left got count whole so = tt
-says_yes (Some input) (Some before) reader left got count whole so =
+says_yes (Some input) got0 reader left got count whole so =
     (flat_map yes_line so.done, so.written, record { dossiers = so.done; accepted = whole input so.done so.between; lines = refl; each = so.each })
 
 -- a line is refused behind these dossiers
@@ -83,11 +93,10 @@ pub says_no : (left0 got0 : Option (List ℕ)) (reader : Reader) (left got added
     → ((input : List ℕ) (done : List Dossier) → IsBetween input done reader left count → IsRefusal input done number reason)
     → Appended got added (no_line number reason) → HasSaidOf left0 got0 reader left got count → OfBytes left0 got0 added SaysNo
 says_no None got0 reader left got added count number reason law refused wrote so = tt
-says_no (Some input) None reader left got added count number reason law refused wrote so = tt
-says_no (Some input) (Some before) reader left got added count number reason law refused wrote so =
+says_no (Some input) got0 reader left got added count number reason law refused wrote so =
     let refusal = refused input so.done so.between in (
       flat_map yes_line so.done ++ no_line number reason,
-      subst (λ g. Appended g added (no_line number reason)) so.written wrote ∙ ap Some (append_assoc before (flat_map yes_line so.done) (no_line number reason)),
+      appended_both got0 got added (flat_map yes_line so.done) (no_line number reason) so.written wrote,
       record {
         not_accepted = λ dossiers. law input so.done number reason dossiers refusal;
         before = so.done;
@@ -101,6 +110,10 @@ says_no (Some input) (Some before) reader left got added count number reason law
 
 -- ---- what stands where a call ends early
 
+pub on_err : {X E : Type 0} (r : Result X E) (P : Type 0) → P → OnErr r P
+on_err (Ok x) P p = tt
+on_err (Err e) P p = p
+
 -- all of a piece is a front of it
 pub all_is_part : (got added : Option (List ℕ)) (piece : List ℕ) → Appended got added piece → AppendedPart got added piece
 all_is_part None added piece wrote = wrote
@@ -109,19 +122,25 @@ all_is_part (Some bytes) added piece wrote = (length piece, omega arith, wrote �
 -- nothing was read or written yet
 pub front_none : (left got : Option (List ℕ)) → OfBytes left got got SaysFront
 front_none None got = tt
-front_none (Some input) None = tt
-front_none (Some input) (Some before) = (
+front_none (Some input) got = (
   [],
-  ap Some (sym (append-nil before)),
+  appended_none got,
   record { dossiers = []; rest = input; text = refl; each = All-nil IsTrueYes; part = []; lines = refl; next = Nothing refl },
+)
+
+pub yes_lines_none : (left got : Option (List ℕ)) → OfBytes left got got SaysYesLines
+yes_lines_none None got = tt
+yes_lines_none (Some input) got = (
+  [],
+  appended_none got,
+  record { dossiers = []; rest = input; read = none_read input; yes_lines = refl; each = All-nil IsTrueYes },
 )
 
 -- no more was written
 pub front_so_far : (left0 got0 : Option (List ℕ)) (reader : Reader) (left got : Option (List ℕ)) (count : ℕ)
     → HasSaidOf left0 got0 reader left got count → OfBytes left0 got0 got SaysFront
 front_so_far None got0 reader left got count so = tt
-front_so_far (Some input) None reader left got count so = tt
-front_so_far (Some input) (Some before) reader left got count so = (
+front_so_far (Some input) got0 reader left got count so = (
   flat_map yes_line so.done,
   so.written,
   record {
@@ -135,26 +154,63 @@ front_so_far (Some input) (Some before) reader left got count so = (
   },
 )
 
+-- memory was wanting
+pub says_yes_lines : (left0 got0 : Option (List ℕ)) (reader : Reader) (left got : Option (List ℕ)) (count : ℕ)
+    → HasSaidOf left0 got0 reader left got count → OfBytes left0 got0 got SaysYesLines
+says_yes_lines None got0 reader left got count so = tt
+says_yes_lines (Some input) got0 reader left got count so = (
+  flat_map yes_line so.done,
+  so.written,
+  record { dossiers = so.done; rest = so.between.rest; read = so.between.read; yes_lines = refl; each = so.each },
+)
+
+-- what is held, and what the source has left
+unseen_of : (reader : Reader) (left : Option (List ℕ)) (rest : List ℕ) → rest_of reader left ≡ Some rest → (unseen : List ℕ) × (left ≡ Some unseen) × (rest ≡ reader.held ++ unseen)
+unseen_of reader None rest e = absurd (cc)
+unseen_of reader (Some unseen) rest e = (unseen, refl, cc)
+
+-- a read has failed
+pub says_read_fault : (left0 got0 : Option (List ℕ)) (old new : Reader) (left later got : Option (List ℕ)) (count : ℕ)
+    → ((input : List ℕ) (done : List Dossier) → IsBetween input done old left count → IsInterrupted input done new later)
+    → HasSaidOf left0 got0 old left got count → OfBytes left0 got0 got (SaysReadFault later)
+says_read_fault None got0 old new left later got count stopped so = tt
+says_read_fault (Some input) got0 old new left later got count stopped so =
+    let i = stopped input so.done so.between in
+    let u = unseen_of new later i.rest i.is in (
+      flat_map yes_line so.done,
+      so.written,
+      record {
+        dossiers = so.done;
+        lines = i.lines;
+        due = i.due;
+        part = new.held;
+        rest = u.0;
+        left = u.1;
+        read = subst (λ rest. HasRead input so.done i.lines rest i.due) u.2 i.read;
+        front = i.front;
+        yes_lines = refl;
+        each = so.each;
+      },
+    )
+
 -- the front of one more yes line was written
 pub front_yes : (left0 got0 : Option (List ℕ)) (old new : Reader) (left later got added : Option (List ℕ)) (count more : ℕ) (d : Dossier) → GoodBounds
     → ((input : List ℕ) (done : List Dossier) → IsBetween input done old left count → IsBetween input (done ++ d ∷ []) new later more)
     → AppendedPart got added (yes_line d) → HasSaidOf left0 got0 old left got count → OfBytes left0 got0 added SaysFront
 front_yes None got0 old new left later got added count more d bounds next wrote so = tt
-front_yes (Some input) None old new left later got added count more d bounds next wrote so = tt
-front_yes (Some input) (Some before) old new left later got added count more d bounds next wrote so =
-    let w = subst (λ g. AppendedPart g added (yes_line d)) so.written wrote in
+front_yes (Some input) got0 old new left later got added count more d bounds next wrote so =
+    let w = appended_front got0 got added (flat_map yes_line so.done) (yes_line d) so.written wrote in
     let b = next input so.done so.between in
     let good : IsGood d = All-contains IsGood (so.done ++ d ∷ []) d b.read.good (Contains-push so.done d) in
-    let text : input ≡ flat_map text_of (so.done ++ d ∷ []) ++ b.rest = b.read.text ∙ ap (λ x. x ++ b.rest) (append-nil (flat_map text_of (so.done ++ d ∷ []))) in
-    let part = take w.0 (yes_line d) in (
-      flat_map yes_line so.done ++ part,
-      w.2 ∙ ap Some (append_assoc before (flat_map yes_line so.done) part),
+    let text : input ≡ flat_map text_of (so.done ++ d ∷ []) ++ b.rest = b.read.text ∙ ap (λ x. x ++ b.rest) (append-nil (flat_map text_of (so.done ++ d ∷ []))) in (
+      flat_map yes_line so.done ++ take w.0 (yes_line d),
+      w.1,
       record {
         dossiers = so.done;
         rest = so.between.rest;
         text = so.between.read.text ∙ ap (λ x. x ++ so.between.rest) (append-nil (flat_map text_of so.done));
         each = so.each;
-        part = part;
+        part = take w.0 (yes_line d);
         lines = refl;
         next = YesFront d b.rest text (record { good = good; legal = good.plan; bound = λ p legal. bounds d p good legal }) w.0 refl;
       },
@@ -165,18 +221,16 @@ pub front_no : (left0 got0 : Option (List ℕ)) (reader : Reader) (left got adde
     → ((input : List ℕ) (done : List Dossier) → IsBetween input done reader left count → IsRefusal input done number reason)
     → AppendedPart got added (no_line number reason) → HasSaidOf left0 got0 reader left got count → OfBytes left0 got0 added SaysFront
 front_no None got0 reader left got added count number reason refused wrote so = tt
-front_no (Some input) None reader left got added count number reason refused wrote so = tt
-front_no (Some input) (Some before) reader left got added count number reason refused wrote so =
-    let w = subst (λ g. AppendedPart g added (no_line number reason)) so.written wrote in
-    let part = take w.0 (no_line number reason) in (
-      flat_map yes_line so.done ++ part,
-      w.2 ∙ ap Some (append_assoc before (flat_map yes_line so.done) part),
+front_no (Some input) got0 reader left got added count number reason refused wrote so =
+    let w = appended_front got0 got added (flat_map yes_line so.done) (no_line number reason) so.written wrote in (
+      flat_map yes_line so.done ++ take w.0 (no_line number reason),
+      w.1,
       record {
         dossiers = so.done;
         rest = so.between.rest;
         text = so.between.read.text ∙ ap (λ x. x ++ so.between.rest) (append-nil (flat_map text_of so.done));
         each = so.each;
-        part = part;
+        part = take w.0 (no_line number reason);
         lines = refl;
         next = NoFront number reason (refused input so.done so.between) w.0 refl;
       },

@@ -80,6 +80,15 @@ pub record IsBetween (input : List ℕ) (done : List Dossier) (reader : Reader) 
   pub handed : reader.handed ≡ length (flat_map text_of done)
   pub number : count ≡ length (flat_map lines_of done)
 
+-- a read failed: no line that was read before is refused, and what is held is the front of one more
+pub record IsInterrupted (input : List ℕ) (done : List Dossier) (reader : Reader) (left : Option (List ℕ)) : Type 0 where
+  pub lines : List (List ℕ)
+  pub rest : List ℕ
+  pub due : Reading
+  pub is : rest_of reader left ≡ Some rest
+  pub read : HasRead input done lines rest due
+  pub front : IsPartial (room_after done lines) reader.held (length reader.held)
+
 -- the outcome where no line comes whole
 abbrev pub outcome_at_stop_of : Progress → Bool → ℕ → Outcome
 outcome_at_stop_of (progress.End zero) true number = End
@@ -95,7 +104,7 @@ abbrev pub IsOutcome : List ℕ → List Dossier → Reader → Option (List ℕ
 IsOutcome input done reader left (Yes draft count) = IsBetween input (done ++ dossier_of draft ∷ []) reader left count
 IsOutcome input done reader left End = IsSimpleInput input done
 IsOutcome input done reader left (No line reason) = IsRefusal input done line reason
-IsOutcome input done reader left ReadFault = Unit {0}
+IsOutcome input done reader left ReadFault = IsInterrupted input done reader left
 
 -- after a dossier the reader can go on, and has handed out more
 abbrev pub OpensNext : Reader → Reader → Outcome → Type 0

@@ -1,13 +1,16 @@
 -- what the program writes for what it reads
-use Rattle.std.specs.Prelude.{◌≡◌, ◌≤◌, ◌++◌, ℕ, Bool, true, false, List, [], ◌∷◌, take, Option, Some, IfSome, All}
+use Rattle.std.specs.Prelude.{◌≡◌, ◌≤◌, ◌++◌, ℕ, Bool, true, false, List, [], ◌∷◌, length, take, Option, Some, IfSome, All}
 use Rattle.std.specs.List.{flat_map}
 use Rattle.crew_terms.specs.Plan.{Plan, IsLegal, unassigned_count}
+use Rattle.crew_io.specs.Io.{Appended}
+use Rattle.crew_io.specs.Lines.{IsPartial}
 use Rattle.dossier_terms.specs.declared.Reason.{Reason}
 use Rattle.dossier_terms.specs.Dossier.{Dossier, IsGood}
 use Rattle.dossier_terms.specs.Lines.{text_of}
 use Rattle.dossier_terms.specs.Texts.{yes_line, no_line}
+use Rattle.dossier_terms.specs.Reading.{Reading, Form}
 use Rattle.dossier_terms.specs.Today.{IsSimpleInput}
-use Rattle.crew_cli.specs.Input.{IsRefusal}
+use Rattle.crew_cli.specs.Input.{IsRefusal, HasRead, room_after}
 use Rattle.crew_cli.specs.declared.run.Status.{Status}
 use Rattle.crew_cli.specs.declared.run.Status.TheVariants.{Done, No, Words, ReadFault, WriteFault, Memory}
 
@@ -20,9 +23,10 @@ number_of ReadFault = 4
 number_of WriteFault = 5
 number_of Memory = 6
 
--- where the source tells its bytes and the sink what it got: the fact of the input and of what was written
+-- where the source tells its bytes: the fact of the input and of what was written, which is what the sink got, if it
+-- tells that
 abbrev pub OfBytes : Option (List ℕ) → Option (List ℕ) → Option (List ℕ) → (List ℕ → List ℕ → Type 0) → Type 0
-OfBytes left got later Fact = IfSome left (λ input. IfSome got (λ before. (written : List ℕ) × (later ≡ Some (before ++ written)) × Fact input written))
+OfBytes left got later Fact = IfSome left (λ input. (written : List ℕ) × Appended got later written × Fact input written)
 
 -- a good dossier is what it says: its plan is legal, and every legal plan of its instance leaves at least its bound
 -- unassigned
@@ -66,6 +70,28 @@ pub record SaysFront (input written : List ℕ) : Type 0 where
   pub part : List ℕ
   pub lines : written ≡ flat_map yes_line dossiers ++ part
   pub next : IsLineFront input dossiers part
+
+-- the input is what was read and what was not seen: good dossiers, whose yes lines were written and nothing else, lines
+-- of the next one of which none is refused, and the front of one more line
+pub record SaysReadFault (unseen : Option (List ℕ)) (input written : List ℕ) : Type 0 where
+  pub dossiers : List Dossier
+  pub lines : List (List ℕ)
+  pub due : Reading
+  pub part : List ℕ
+  pub rest : List ℕ
+  pub left : unseen ≡ Some rest
+  pub read : HasRead input dossiers lines (part ++ rest) due
+  pub front : IsPartial (room_after dossiers lines) part (length part)
+  pub yes_lines : written ≡ flat_map yes_line dossiers
+  pub each : All IsTrueYes dossiers
+
+-- the input begins with good dossiers, whose yes lines were written and nothing else
+pub record SaysYesLines (input written : List ℕ) : Type 0 where
+  pub dossiers : List Dossier
+  pub rest : List ℕ
+  pub read : HasRead input dossiers [] rest Form
+  pub yes_lines : written ≡ flat_map yes_line dossiers
+  pub each : All IsTrueYes dossiers
 
 -- the answers to a line that is refused
 abbrev pub is_no_or_write_fault : Status → Bool

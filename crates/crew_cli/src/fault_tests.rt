@@ -1,15 +1,22 @@
-// What the program answers, and what it has written, where a read, a write or the flush fails.
+// What the program answers, and what it has written, where a read, a write or the flush fails, or memory is wanting.
 ghost use Rattle.std.specs.Prelude.{◌≤◌};
 
 use crate::run::{Status, run};
-use crate::tests::{GOOD, WITH_POOL, joined};
-use crew_io::sink::MemSink;
-use crew_io::source::MemSource;
-use std::alloc::Global;
+use crate::steady::{run_in_memory, run_steady};
+use crate::tests::{GOOD, WITH_POOL, YES, joined};
+use crew_io::sink::{MemSink, SteadySink};
+use crew_io::source::{MemSource, SteadySource};
+use std::alloc::{AllocError, Global};
 use std::test::Fail;
 
+/// More bytes than any output here has.
+const ROOM: usize = 400;
+
+/// More calls than any run here makes.
+const CALLS: u64 = 1000;
+
 /// What `crew check` answers and writes, over a source that gives pieces of so many bytes and a sink with this
-/// room, where these reads and writes fail, from 1. The flush counts as a write.
+/// room, where these reads and writes fail, from 1. A flush is counted with the writes.
 fn check_over(
     alloc: Global,
     input: &[u8],
@@ -17,7 +24,7 @@ fn check_over(
     reads: &[u64],
     room: usize,
     writes: &[u64],
-) -> Result<(Status, Vec<u8>), Fail>
+) -> Result<(Status, Vec<u8>), AllocError>
     requires { 1 ≤ piece }
 {
     let mut words = Vec::new(alloc);
@@ -28,68 +35,159 @@ fn check_over(
     Ok((status, out.got().to_vec(alloc)?))
 }
 
-/// Whether what was written is a front of the whole output, and all of it where the call ended without this fault.
-fn is_front(fault: Status, whole: &(Status, Vec<u8>), now: &(Status, Vec<u8>)) -> bool {
-    whole.1.starts_with(&now.1) && (now.0 == fault || now.0 == whole.0 && now.1 == whole.1)
-}
-
-/// Whether, with each of the first reads failing in turn, the fault is told and a front of the output is written.
-fn withstands_read_faults(alloc: Global, input: &[u8], piece: usize) -> Result<bool, Fail>
+/// How many reads there are, each of which was told where it failed, with a front of the output; none where one
+/// was not.
+fn told_reads(alloc: Global, input: &[u8], piece: usize) -> Result<Option<u64>, Fail>
     requires { 1 ≤ piece }
 {
-    let whole = check_over(alloc, input, piece, &[], 400, &[])?;
-    let mut withstands = true;
-    for call in 1..=24 {
-        let now = check_over(alloc, input, piece, &[call], 400, &[])?;
-        withstands &= is_front(Status::ReadFault, &whole, &now);
+    let whole = check_over(alloc, input, piece, &[], ROOM, &[])?;
+    for call in 1..CALLS {
+        let (status, written) = check_over(alloc, input, piece, &[call], ROOM, &[])?;
+        if status != Status::ReadFault {
+            return Ok((status == whole.0 && written == whole.1).then_some(call - 1));
+        }
+        if !whole.1.starts_with(&written) {
+            return Ok(None);
+        }
     }
-    Ok(withstands)
+    Ok(None)
 }
 
-/// The same of each write and the flush.
-fn withstands_write_faults(alloc: Global, input: &[u8]) -> Result<bool, Fail> {
-    let whole = check_over(alloc, input, 16, &[], 400, &[])?;
-    let mut withstands = true;
-    for call in 1..=60 {
-        let now = check_over(alloc, input, 16, &[], 400, &[call])?;
-        withstands &= is_front(Status::WriteFault, &whole, &now);
+/// Whether each write and the flush is told where it fails, with a front of the output. The last of these is the
+/// flush, behind the whole output.
+fn tells_writes(alloc: Global, input: &[u8], piece: usize) -> Result<bool, Fail>
+    requires { 1 ≤ piece }
+{
+    let whole = check_over(alloc, input, piece, &[], ROOM, &[])?;
+    let mut last = 0;
+    for call in 1..CALLS {
+        let (status, written) = check_over(alloc, input, piece, &[], ROOM, &[call])?;
+        if status != Status::WriteFault {
+            return Ok(status == whole.0 && written == whole.1 && last == whole.1.len());
+        }
+        if !whole.1.starts_with(&written) {
+            return Ok(false);
+        }
+        last = written.len();
     }
-    Ok(withstands)
+    Ok(false)
 }
 
-/// Whether a sink whose room is too small is filled, and its fault told.
-fn withstands_small_rooms(alloc: Global, input: &[u8]) -> Result<bool, Fail> {
-    let (_, whole) = check_over(alloc, input, 16, &[], 400, &[])?;
-    let mut withstands = true;
+/// Whether each sink whose room is too small is filled, and its fault told; and one with just the room is no fault.
+fn tells_small_rooms(alloc: Global, input: &[u8], piece: usize) -> Result<bool, Fail>
+    requires { 1 ≤ piece }
+{
+    let (answer, whole) = check_over(alloc, input, piece, &[], ROOM, &[])?;
+    let mut tells = true;
     for room in 0..whole.len() {
-        let (status, written) = check_over(alloc, input, 16, &[], room, &[])?;
-        withstands &= status == Status::WriteFault
+        let (status, written) = check_over(alloc, input, piece, &[], room, &[])?;
+        tells &= status == Status::WriteFault
             && written.len() == room
             && whole.starts_with(&written);
     }
-    Ok(withstands)
+    let (status, _) = check_over(alloc, input, piece, &[], whole.len(), &[])?;
+    Ok(tells && status == answer)
+}
+
+/// How many reads hand out so many bytes in pieces.
+fn reads_of(bytes: usize, piece: usize) -> u64
+    requires { 1 ≤ piece }
+{
+    bytes.div_ceil(piece) as u64
+}
+
+/// How many bytes the lines before the first route of the second dossier have.
+fn until_the_pool() -> usize {
+    let pool =
+        b"crew dossier 1\nsize 1 2 2 1\nplace BASE\nplace G1\ntravel 0 10\ntravel 10 0\nteam T1 0 360 840\ntask A 1 420 420 30 1\ntask B 1 420 420 30 1\npool 0 2\n";
+    GOOD.len().saturating_add(pool.len())
 }
 
 #[test]
-fn each_fault_leaves_a_front_of_the_output(rt: HostRuntime) -> Result<(), Fail> {
+fn two_dossiers_in_pieces_of_sixteen(rt: HostRuntime) -> Result<(), Fail> {
     let twice = joined(rt.alloc(), &[GOOD, GOOD])?;
-    let with_no = joined(rt.alloc(), &[GOOD, WITH_POOL])?;
-    for input in [&twice, &with_no] {
-        assert!(rt; withstands_read_faults(rt.alloc(), input, 16)?);
-        assert!(rt; withstands_read_faults(rt.alloc(), input, 1)?);
-        assert!(rt; withstands_write_faults(rt.alloc(), input)?);
-    }
-    assert!(rt; withstands_small_rooms(rt.alloc(), &with_no)?);
+    let reads = reads_of(twice.len(), 16).saturating_add(1);
+    assert_eq!(rt; told_reads(rt.alloc(), &twice, 16)?, Some(reads));
+    assert!(rt; tells_writes(rt.alloc(), &twice, 16)?);
+    assert!(rt; tells_small_rooms(rt.alloc(), &twice, 16)?);
+    Ok(())
+}
+
+#[test]
+fn two_dossiers_byte_by_byte(rt: HostRuntime) -> Result<(), Fail> {
+    let twice = joined(rt.alloc(), &[GOOD, GOOD])?;
+    let reads = reads_of(twice.len(), 1).saturating_add(1);
+    assert_eq!(rt; told_reads(rt.alloc(), &twice, 1)?, Some(reads));
+    assert!(rt; tells_writes(rt.alloc(), &twice, 1)?);
+    assert!(rt; tells_small_rooms(rt.alloc(), &twice, 1)?);
+    Ok(())
+}
+
+#[test]
+fn a_refusal_in_pieces_of_sixteen(rt: HostRuntime) -> Result<(), Fail> {
+    let refused = joined(rt.alloc(), &[GOOD, WITH_POOL])?;
+    let reads = reads_of(until_the_pool(), 16);
+    assert_eq!(rt; told_reads(rt.alloc(), &refused, 16)?, Some(reads));
+    assert!(rt; tells_writes(rt.alloc(), &refused, 16)?);
+    assert!(rt; tells_small_rooms(rt.alloc(), &refused, 16)?);
+    Ok(())
+}
+
+#[test]
+fn a_refusal_byte_by_byte(rt: HostRuntime) -> Result<(), Fail> {
+    let refused = joined(rt.alloc(), &[GOOD, WITH_POOL])?;
+    let reads = reads_of(until_the_pool(), 1);
+    assert_eq!(rt; told_reads(rt.alloc(), &refused, 1)?, Some(reads));
+    assert!(rt; tells_writes(rt.alloc(), &refused, 1)?);
+    assert!(rt; tells_small_rooms(rt.alloc(), &refused, 1)?);
+    Ok(())
+}
+
+#[test]
+fn what_does_not_fail_is_no_fault(rt: HostRuntime) -> Result<(), Fail> {
+    let alloc = rt.alloc();
+    let mut words = Vec::new(alloc);
+    words.push(String::from_str(alloc, "check")?)?;
+    let mut src = SteadySource::new(GOOD.to_vec(alloc)?, 10);
+    assert_eq!(rt;
+        run_steady(alloc, &words, &mut src, &mut SteadySink::new()),
+        Status::Done
+    );
+    let mut src = MemSource::new(GOOD.to_vec(alloc)?, 10, Vec::new(alloc));
+    let mut out = MemSink::new(alloc, YES.len(), 7, Vec::new(alloc))?;
+    assert_eq!(rt;
+        run_in_memory(alloc, &words, &mut src, &mut out),
+        Status::Done
+    );
+    assert_eq!(rt; out.got(), YES);
     Ok(())
 }
 
 #[test]
 fn the_first_calls_fail(rt: HostRuntime) -> Result<(), Fail> {
-    let (read, nothing) = check_over(rt.alloc(), GOOD, 10, &[3], 400, &[])?;
+    let (read, nothing) = check_over(rt.alloc(), GOOD, 10, &[3], ROOM, &[])?;
     assert_eq!(rt; read, Status::ReadFault);
     assert!(rt; nothing.is_empty());
-    let (write, none) = check_over(rt.alloc(), GOOD, 10, &[], 400, &[1])?;
+    let (write, none) = check_over(rt.alloc(), GOOD, 10, &[], ROOM, &[1])?;
     assert_eq!(rt; write, Status::WriteFault);
     assert!(rt; none.is_empty());
+    Ok(())
+}
+
+/// The words and the room of the test itself may want memory, too.
+#[test]
+fn memory_is_wanting_or_the_answer_is_right(rt: HostRuntime) -> Result<(), Fail> {
+    let alloc = rt.alloc();
+    let Ok(twice) = joined(alloc, &[GOOD, GOOD]) else {
+        return Ok(());
+    };
+    let Ok((status, written)) = check_over(alloc, &twice, 100, &[], ROOM, &[]) else {
+        return Ok(());
+    };
+    let Ok(yes) = joined(alloc, &[YES, YES]) else {
+        return Ok(());
+    };
+    assert!(rt; status == Status::Memory || status == Status::Done && written == yes);
+    assert!(rt; yes.starts_with(&written));
     Ok(())
 }

@@ -1,5 +1,5 @@
 // An input, dossier by dossier and line by line.
-ghost use Rattle.std.specs.Prelude.{◌≡◌, ◌≤◌, ◌<◌, ◌↔◌, ℕ, List, IfOk, IsTrue};
+ghost use Rattle.std.specs.Prelude.{◌≡◌, ◌≢◌, ◌≤◌, ◌<◌, ◌↔◌, ℕ, List, IfOk, IsTrue};
 ghost use Rattle.crew_io.specs.Io.{Rose};
 ghost use Rattle.dossier_terms.specs.Dossier.{Dossier};
 ghost use Rattle.crew_cli.specs.Input.{IsBetween, IsOpen, IsOutcome, OpensNext, outcome_at_stop_of};
@@ -65,6 +65,7 @@ pub fn next_dossier<S: Source>(
     ensures next { IfOk result (OpensNext reader.old reader.new) }
     ensures fault { IfOk result (λ outcome. outcome ≡ Outcome.ReadFault → Rose (S.faults src.old) (S.faults src.new)) }
     ensures later { S.faults src.old ≤ S.faults src.new }
+    ensures steady { S.steady src.old → S.steady src.new × IfOk result (λ outcome. outcome ≢ Outcome.ReadFault) }
 {
     let mut due = Due::Form;
     let mut line = from;

@@ -13,6 +13,7 @@ pub mod laws;
 mod line_tests;
 pub mod numbers;
 pub mod run;
+pub mod steady;
 #[cfg(test)]
 mod tests;
 pub mod texts;

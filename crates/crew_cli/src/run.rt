@@ -1,8 +1,10 @@
 // The top call.
-ghost use Rattle.std.specs.Prelude.{◌≡◌, ◌≢◌, ◌≤◌, ◌↔◌, [], ◌∷◌, map, codes, string_bytes, IfOk, IsTrue};
+ghost use Rattle.std.specs.Prelude.{◌≡◌, ◌≢◌, ◌≤◌, ◌↔◌, ◌⊎◌, List, [], ◌∷◌, map, codes, string_bytes, IfOk, IfSome, OnErr, IsTrue};
 ghost use Rattle.crew_io.specs.Io.{Appended, AppendedPart, Rose};
+ghost use Rattle.dossier_terms.specs.Dossier.{Dossier};
 ghost use Rattle.dossier_terms.specs.Texts.{no_line};
-ghost use Rattle.crew_cli.specs.Run.{OfBytes, SaysYes, SaysNo, SaysFront, is_no_or_write_fault, number_of};
+ghost use Rattle.dossier_terms.specs.Today.{IsSimpleInput};
+ghost use Rattle.crew_cli.specs.Run.{OfBytes, SaysYes, SaysNo, SaysFront, SaysReadFault, SaysYesLines, is_no_or_write_fault, number_of};
 
 use crate::input::{INPUT, Outcome, next_dossier};
 use crate::laws::refused_is_not_accepted;
@@ -61,11 +63,16 @@ fn check<S: Source, K: Sink>(alloc: Global, src: &mut S, out: &mut K) -> Result<
     ensures done { IfOk result (λ status. status ≡ Status.Done → OfBytes (S.left src.old) (K.got out.old) (K.got out.new) SaysYes) }
     ensures no { IfOk result (λ status. status ≡ Status.No → OfBytes (S.left src.old) (K.got out.old) (K.got out.new) SaysNo) }
     ensures front { OfBytes (S.left src.old) (K.got out.old) (K.got out.new) SaysFront }
-    ensures words { IfOk result (λ status. status ≢ Status.Words) }
+    ensures interrupted { IfOk result (λ status. status ≡ Status.ReadFault
+        → OfBytes (S.left src.old) (K.got out.old) (K.got out.new) (SaysReadFault (S.left src.new))) }
+    ensures memory { OnErr result (OfBytes (S.left src.old) (K.got out.old) (K.got out.new) SaysYesLines) }
+    ensures others { IfOk result (λ status. (status ≢ Status.Words) × (status ≢ Status.Memory)) }
     ensures read_fault { IfOk result (λ status. status ≡ Status.ReadFault → Rose (S.faults src.old) (S.faults src.new)) }
     ensures write_fault { IfOk result (λ status. status ≡ Status.WriteFault → Rose (K.faults out.old) (K.faults out.new)) }
     ensures source_later { S.faults src.old ≤ S.faults src.new }
     ensures sink_later { K.faults out.old ≤ K.faults out.new }
+    ensures steady_source { S.steady src.old → IfOk result (λ status. status ≢ Status.ReadFault) }
+    ensures steady_sink { K.steady out.old → K.steady out.new × IfOk result (λ status. status ≡ Status.WriteFault → K.full out.new) }
 {
     let mut reader = LineReader::open(alloc, INPUT)?;
     let mut cuts = Cuts::new(alloc)?;
@@ -94,6 +101,7 @@ fn refuse<K: Sink>(out: &mut K, line: u64, reason: Reason) -> Status
     ensures others { IsTrue (is_no_or_write_fault result) }
     ensures write_fault { result ≡ Status.WriteFault → Rose (K.faults out.old) (K.faults out.new) }
     ensures later { K.faults out.old ≤ K.faults out.new }
+    ensures steady { K.steady out.old → K.steady out.new × (result ≡ Status.WriteFault → K.full out.new) }
 {
     match put_no(out, line, reason) {
         Ok(()) => Status::No,
@@ -110,17 +118,31 @@ pub fn run<S: Source, K: Sink>(alloc: Global, words: &[String], src: &mut S, out
     ensures done { result ≡ Status.Done → OfBytes (S.left src.old) (K.got out.old) (K.got out.new) SaysYes }
     ensures no { result ≡ Status.No → OfBytes (S.left src.old) (K.got out.old) (K.got out.new) SaysNo }
 
-    // Also at a fault, what was written is whole lines that are true, and the front of one more.
+    // The first event decides: before a read fault or want of memory no line was refused, and whole yes lines were written.
+    ensures interrupted { result ≡ Status.ReadFault → OfBytes (S.left src.old) (K.got out.old) (K.got out.new) (SaysReadFault (S.left src.new)) }
+    ensures memory { result ≡ Status.Memory → OfBytes (S.left src.old) (K.got out.old) (K.got out.new) SaysYesLines }
+
+    // Also at a write fault, what was written is whole lines that are true, and the front of one more.
     ensures front { OfBytes (S.left src.old) (K.got out.old) (K.got out.new) SaysFront }
+
+    // Without a write fault, all that was written is passed on.
+    ensures flushed { result ≢ Status.Words → result ≢ Status.WriteFault → K.held out.new ≡ [] }
 
     ensures words { (result ≡ Status.Words) ↔ (map (λ w. string_bytes w) words.now ≢ codes "check" ∷ []) }
     ensures untouched { result ≡ Status.Words → (src.new ≡ src.old) × (out.new ≡ out.old) }
 
-    // A fault is answered only where its count rose in this call.
+    // A fault is answered only where its count rose in this call, and never of what does not fail.
     ensures read_fault { result ≡ Status.ReadFault → Rose (S.faults src.old) (S.faults src.new) }
     ensures write_fault { result ≡ Status.WriteFault → Rose (K.faults out.old) (K.faults out.new) }
     ensures source_later { S.faults src.old ≤ S.faults src.new }
     ensures sink_later { K.faults out.old ≤ K.faults out.new }
+    ensures steady_source { S.steady src.old → result ≢ Status.ReadFault }
+    ensures steady_sink { K.steady out.old → result ≡ Status.WriteFault → K.full out.new }
+
+    // Where no count of faults rises, each input that is accepted is done, or memory was wanting.
+    ensures complete { IfSome (S.left src.old) (λ input. (dossiers : List Dossier) → IsSimpleInput input dossiers → result ≢ Status.Words
+        → (Rose (S.faults src.old) (S.faults src.new) → ⊥) → (Rose (K.faults out.old) (K.faults out.new) → ⊥)
+        → (result ≡ Status.Done) ⊎ (result ≡ Status.Memory)) }
 {
     if !is_check(words) {
         return Status::Words;

@@ -2,7 +2,7 @@
 use crate::run::{Status, run};
 use crew_io::sink::MemSink;
 use crew_io::source::MemSource;
-use std::alloc::Global;
+use std::alloc::{AllocError, Global};
 use std::test::Fail;
 
 /// A good dossier: one team, and one task that it does.
@@ -13,17 +13,17 @@ pub const GOOD: &[u8] =
 const TOGETHER: &[u8] =
     b"crew dossier 1\nsize 2 1 2 1\nplace BASE\nplace G1\ntravel 0 10\ntravel 10 0\nteam T1 0 360 840 3\nteam T2 0 360 840 3\ntask J 1 420 420 30 2 3\npool 0 0\nplan 0 0\ndo 0 420 0 1\ntree 0 0 1 0\nleaf bare\nend\n";
 
-/// The front of a dossier whose pool has two routes.
+/// A good dossier whose pool has two routes, and whose tree is one closed leaf with its prices.
 pub const WITH_POOL: &[u8] =
-    b"crew dossier 1\nsize 1 2 2 1\nplace BASE\nplace G1\ntravel 0 10\ntravel 10 0\nteam T1 0 360 840\ntask A 1 420 420 30 1\ntask B 1 420 420 30 1\npool 0 2\nroute 0 0 420\nroute 0 1 420\nplan 1 1\ndo 0 420 0\n";
+    b"crew dossier 1\nsize 1 2 2 1\nplace BASE\nplace G1\ntravel 0 10\ntravel 10 0\nteam T1 0 360 840\ntask A 1 420 420 30 1\ntask B 1 420 420 30 1\npool 0 2\nroute 0 0 420\nroute 0 1 420\nplan 1 1\ndo 0 420 0\ntree 0 1 0 0\nleaf closed\nprice 840000000 840000000\nworth 840000000\nphi 0 840000000\nphi 1 840000000\nend\n";
 
-/// The front of a dossier whose tree is one open leaf with its prices.
+/// A good dossier whose tree is one open leaf with its prices.
 const WITH_OPEN_LEAF: &[u8] =
-    b"crew dossier 1\nsize 2 1 2 0\nplace BASE\nplace G1\ntravel 0 10\ntravel 10 0\nteam T1 0 410 460\nteam T2 0 440 490\ntask J 1 420 480 30 2\npool 0 0\nplan 1 0\ntree 0 0 1 0\nleaf open\nprice 0\n";
+    b"crew dossier 1\nsize 2 1 2 0\nplace BASE\nplace G1\ntravel 0 10\ntravel 10 0\nteam T1 0 410 460\nteam T2 0 440 490\ntask J 1 420 480 30 2\npool 0 0\nplan 1 0\ntree 0 0 1 0\nleaf open\nprice 0\nworth 0\nphi 0 0\nworth 0\nphi 0 0\nend\n";
 
-/// The front of a dossier whose second team lacks the skill of its task.
+/// A good dossier whose second team lacks the skill of its task.
 const LACKS_SKILL: &[u8] =
-    b"crew dossier 1\nsize 2 1 2 1\nplace BASE\nplace G1\ntravel 0 10\ntravel 10 0\nteam T1 0 360 840 3\nteam T2 0 360 840\ntask J 1 420 420 30 2 3\npool 0 0\nplan 1 1\n";
+    b"crew dossier 1\nsize 2 1 2 1\nplace BASE\nplace G1\ntravel 0 10\ntravel 10 0\nteam T1 0 360 840 3\nteam T2 0 360 840\ntask J 1 420 420 30 2 3\npool 0 0\nplan 1 1\ntree 0 1 0 0\nleaf closed\nprice 420000000\nworth 420000000\nphi 0 420000000\nworth 0\nend\n";
 
 /// The line of a good dossier that leaves no task unassigned.
 pub const YES: &[u8] = b"yes unassigned 0 bound 0 splits 0 closed 0 open 1\n";
@@ -47,7 +47,7 @@ pub fn with_line(alloc: Global, text: &[u8], number: u64, line: &[u8]) -> Result
 }
 
 /// These pieces, one after another.
-pub fn joined(alloc: Global, pieces: &[&[u8]]) -> Result<Vec<u8>, Fail> {
+pub fn joined(alloc: Global, pieces: &[&[u8]]) -> Result<Vec<u8>, AllocError> {
     let mut bytes = Vec::new(alloc);
     for piece in pieces {
         bytes.extend_from_slice(piece)?;

@@ -19,6 +19,7 @@ pub fn put_yes<K: Sink>(out: &mut K, draft: &Draft) -> Result<(), WriteFault>
     ensures part { OnErr result (AppendedPart (K.got out.old) (K.got out.new) (yes_line (dossier_of draft.now))) }
     ensures later { K.faults out.old ≤ K.faults out.new }
     ensures cause { IsErr result → Rose (K.faults out.old) (K.faults out.new) }
+    ensures steady { K.steady out.old → K.steady out.new × (IsErr result → K.full out.new) }
 {
     let parts = [
         Part::Word(b"yes"),
@@ -42,6 +43,7 @@ fn put_word<K: Sink>(out: &mut K, line: u64, reason: &[u8]) -> Result<(), WriteF
     ensures part { OnErr result (AppendedPart (K.got out.old) (K.got out.new) (line_text (codes "no" ∷ decimal line ∷ reason.now ∷ []))) }
     ensures later { K.faults out.old ≤ K.faults out.new }
     ensures cause { IsErr result → Rose (K.faults out.old) (K.faults out.new) }
+    ensures steady { K.steady out.old → K.steady out.new × (IsErr result → K.full out.new) }
 {
     put_line(
         out,
@@ -62,6 +64,7 @@ fn put_plan<K: Sink>(out: &mut K, line: u64, verdict: PlanVerdict) -> Result<(),
     ensures part { OnErr result (AppendedPart (K.got out.old) (K.got out.new) (no_line line (Reason.Plan verdict))) }
     ensures later { K.faults out.old ≤ K.faults out.new }
     ensures cause { IsErr result → Rose (K.faults out.old) (K.faults out.new) }
+    ensures steady { K.steady out.old → K.steady out.new × (IsErr result → K.full out.new) }
 {
     let no = Part::Word(b"no");
     let at = Part::Number(line);
@@ -103,6 +106,7 @@ pub fn put_no<K: Sink>(out: &mut K, line: u64, reason: Reason) -> Result<(), Wri
     ensures part { OnErr result (AppendedPart (K.got out.old) (K.got out.new) (no_line line reason)) }
     ensures later { K.faults out.old ≤ K.faults out.new }
     ensures cause { IsErr result → Rose (K.faults out.old) (K.faults out.new) }
+    ensures steady { K.steady out.old → K.steady out.new × (IsErr result → K.full out.new) }
 {
     let no = Part::Word(b"no");
     let at = Part::Number(line);

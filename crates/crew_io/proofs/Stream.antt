@@ -8,7 +8,7 @@ use Rattle.std.proofs.Math.Seq.{drop-cons, take-length}
 use Rattle.crew_terms.specs.Words.{LONGEST, IsLine, with_feed}
 use Rattle.crew_io.proofs.Ranges.{plain_front}
 use Rattle.crew_io.specs.Io.{MOST, HasEnded}
-use Rattle.crew_io.specs.Lines.{Reader, rest_of, allowance, took_line, IsFront, Answers, AnswersTold, Advances, stop_of, handed_out, KeepsLine}
+use Rattle.crew_io.specs.Lines.{Reader, rest_of, allowance, took_line, IsFront, IsPartial, Answers, AnswersTold, Advances, stop_of, handed_out, KeepsLine}
 use Rattle.crew_io.specs.declared.lines.Progress.{Progress}
 use Rattle.crew_io.specs.declared.lines.Progress.TheVariants.{Line, TooLong, TooMuch, End, ReadFault}
 
@@ -72,11 +72,13 @@ line_advances old mid new left later n s w m f h l r e =
       line = line_plain mid.held n f l;
       stopped = s.stopped;
       rest = subst (λ o. AnswersTold (allowance old) o Line (take n mid.held) (rest_of (took_line mid n) later)) s.rest (told_line (allowance old) mid later n f h l (let p = s.handed in let q = s.limit in omega arith));
+      fault = λ is. absurd (cc);
     }
 
 stop_advances : (old mid new : Reader) (left later latest : Option (List ℕ)) (answer : Progress) → IsSame old left mid later → mid.handed ≤ mid.limit → mid.limit ≤ MOST → IsStopped mid later answer new latest
-    → stop_of answer ≡ Some answer → handed_out answer [] ≡ [] → KeepsLine answer [] → AnswersTold (allowance mid) (rest_of mid later) answer [] (rest_of mid later) → Advances old left answer new latest
-stop_advances old mid new left later latest answer s w m t a b k told = record {
+    → stop_of answer ≡ Some answer → handed_out answer [] ≡ [] → KeepsLine answer [] → AnswersTold (allowance mid) (rest_of mid later) answer [] (rest_of mid later)
+    → (answer ≡ ReadFault → IsPartial (allowance mid) new.held (length new.held)) → Advances old left answer new latest
+stop_advances old mid new left later latest answer s w m t a b k told fault = record {
   limit = t.limit ∙ s.limit;
   handed =
       let e : handed_out answer new.line ≡ [] = ap (handed_out answer) t.line ∙ b in
@@ -93,6 +95,9 @@ stop_advances old mid new left later latest answer s w m t a b k told = record {
       (subst (λ o. AnswersTold (allowance mid) o answer new.line (rest_of new latest)) s.rest
       (subst (λ l. AnswersTold (allowance mid) (rest_of mid later) answer l (rest_of new latest)) (sym t.line)
       (subst (λ o. AnswersTold (allowance mid) (rest_of mid later) answer [] o) (sym t.rest) told)));
+  fault = λ is.
+      let e : allowance mid ≡ allowance old = let p = s.handed in let q = s.limit in omega arith in
+      subst (λ k. IsPartial k new.held (length new.held)) e (fault is);
 }
 
 -- more bytes were found without an LF than the longest line has
@@ -106,7 +111,7 @@ long_advances old mid new left later n s w m f l h t =
         whole = plain_front mid.held more n 131073 f h;
       },
       refl,
-    )))
+    ))) (λ is. absurd (cc))
 
 -- more bytes were found than may be handed out, with no line among them
 pub much_advances : (old mid new : Reader) (left later : Option (List ℕ)) (n : ℕ) → IsSame old left mid later → mid.handed ≤ mid.limit → mid.limit ≤ MOST
@@ -119,18 +124,21 @@ much_advances old mid new left later n s w m f l h r t =
         whole = plain_front mid.held more n (allowance mid) f h;
       },
       refl,
-    )))
+    ))) (λ is. absurd (cc))
 
 -- the source has ended
 pub end_advances : (old mid new : Reader) (left later latest : Option (List ℕ)) (n k : ℕ) → IsSame old left mid later → mid.handed ≤ mid.limit → mid.limit ≤ MOST
     → IsFront mid.held n → n ≡ length mid.held → k ≡ length mid.held → length mid.held ≤ LONGEST → length mid.held ≤ allowance mid → HasEnded later → IsStopped mid later (End k) new latest → Advances old left (End k) new latest
 end_advances old mid new left later latest n k s w m f e q l r z t =
-    stop_advances old mid new left later latest (End k) s w m t refl refl refl (told_end (allowance mid) mid later k z record { short = l; whole = All-same (λ b. b ≢ 10) mid.held (take n mid.held) (sym (ap (λ j. take j mid.held) e ∙ take-length mid.held)) f.plain } r q)
+    stop_advances old mid new left later latest (End k) s w m t refl refl refl (told_end (allowance mid) mid later k z record { short = l; whole = All-same (λ b. b ≢ 10) mid.held (take n mid.held) (sym (ap (λ j. take j mid.held) e ∙ take-length mid.held)) f.plain } r q) (λ is. absurd (cc))
 
 -- a read has failed
-pub fault_advances : (old mid new : Reader) (left later latest : Option (List ℕ)) → IsSame old left mid later → mid.handed ≤ mid.limit → mid.limit ≤ MOST → IsStopped mid later ReadFault new latest → Advances old left ReadFault new latest
-fault_advances old mid new left later latest s w m t =
+pub fault_advances : (old mid new : Reader) (left later latest : Option (List ℕ)) (n : ℕ) → IsSame old left mid later → mid.handed ≤ mid.limit → mid.limit ≤ MOST
+    → IsFront mid.held n → n ≡ length mid.held → length mid.held ≤ LONGEST → length mid.held ≤ allowance mid → new.held ≡ mid.held → IsStopped mid later ReadFault new latest → Advances old left ReadFault new latest
+fault_advances old mid new left later latest n s w m f e q l h t =
     stop_advances old mid new left later latest ReadFault s w m t refl refl refl (told_stop (allowance mid) mid later ReadFault [] (λ more. refl))
+    (λ is. subst (λ held. IsPartial (allowance mid) held (length held)) (sym h)
+    (record { plain = record { short = q; whole = All-same (λ b. b ≢ 10) mid.held (take n mid.held) (sym (ap (λ j. take j mid.held) e ∙ take-length mid.held)) f.plain }; fits = l; count = refl }))
 
 -- what `stop` leaves, where the reader before it had handed out nothing
 pub stopped_after : (mid x new : Reader) (later latest : Option (List ℕ)) (answer : Progress) → x.limit ≡ mid.limit → x.handed ≡ mid.handed → rest_of x latest ≡ rest_of mid later

@@ -96,7 +96,8 @@ abbrev pub AnswersTold : ℕ → Option (List ℕ) → Progress → List ℕ →
 AnswersTold allowed None answer line later = later ≡ None
 AnswersTold allowed (Some rest) answer line later = (after : List ℕ) × (later ≡ Some after) × Answers allowed rest answer line after
 
--- one call of a reader that has not stopped: the reader and what its source has left, before and after
+-- one call of a reader that has not stopped: the reader and what its source has left, before and after; where a read
+-- failed, what is held is the front of a line
 pub record Advances (old : Reader) (left : Option (List ℕ)) (answer : Progress) (new : Reader) (later : Option (List ℕ)) : Type 0 where
   pub limit : new.limit ≡ old.limit
   pub handed : new.handed ≡ old.handed + length (handed_out answer new.line)
@@ -105,6 +106,7 @@ pub record Advances (old : Reader) (left : Option (List ℕ)) (answer : Progress
   pub line : KeepsLine answer new.line
   pub stopped : new.stopped ≡ stop_of answer
   pub rest : AnswersTold (allowance old) (rest_of old left) answer new.line (rest_of new later)
+  pub fault : answer ≡ ReadFault → IsPartial (allowance old) new.held (length new.held)
 
 -- one call: a reader that has stopped gives its answer again, and looks at no source
 pub record Steps (old : Reader) (left : Option (List ℕ)) (answer : Progress) (new : Reader) (later : Option (List ℕ)) : Type 0 where

@@ -1,5 +1,5 @@
 // The lines of a source.
-ghost use Rattle.std.specs.Prelude.{◌≡◌, ◌≤◌, ◌<◌, ◌+◌, ◌-◌, ◌↔◌, ⊤, [], List, ℕ, Option, Some, None, Ok, length, slice_range, IfOk, OnErr, IsErr, IsSome, IsTrue};
+ghost use Rattle.std.specs.Prelude.{◌≡◌, ◌≤◌, ◌<◌, ◌+◌, ◌-◌, ◌↔◌, ◌≢◌, ⊤, [], List, ℕ, Option, Some, None, Ok, length, slice_range, IfOk, OnErr, IsOk, IsErr, IsSome, IsTrue};
 ghost use Rattle.std.specs.Borrow.{sem, follows_so};
 ghost use mathlib.Core.Option.{none};
 ghost use Rattle.crew_terms.specs.Words.{LONGEST};
@@ -105,6 +105,7 @@ fn read_on<S: Source>(src: &mut S, room: &mut [u8], at: usize, end: usize) -> Re
     ensures end { result ≡ Ok 0 → HasEnded (S.left src.old) }
     ensures later { S.faults src.old ≤ S.faults src.new }
     ensures cause { IsErr result → Rose (S.faults src.old) (S.faults src.new) }
+    ensures steady { S.steady src.old → IsOk result × S.steady src.new }
 {
     src.read(&mut room[end..])
 }
@@ -121,6 +122,7 @@ fn refill<S: Source>(src: &mut S, room: &mut [u8], at: usize, end: usize) -> Res
     ensures end { result ≡ Ok 0 → HasEnded (S.left src.old) }
     ensures later { S.faults src.old ≤ S.faults src.new }
     ensures cause { IsErr result → Rose (S.faults src.old) (S.faults src.new) }
+    ensures steady { S.steady src.old → IsOk result × S.steady src.new }
 {
     move_to_front(room, at, end);
     read_on(src, room, 0, end - at)
@@ -209,9 +211,11 @@ impl LineReader {
         ensures rest { rest_of self.new (S.left src.new) ≡ rest_of self.old (S.left src.old) }
         ensures same { self.new ≡ record self.old { held = self.new.held; line = [] } }
         ensures count { IfOk result (λ n. length self.new.held ≡ length self.old.held + n) }
+        ensures nothing { OnErr result (self.new.held ≡ self.old.held) }
         ensures end { result ≡ Ok 0 → HasEnded (S.left src.old) × (self.new.held ≡ self.old.held) }
         ensures later { S.faults src.old ≤ S.faults src.new }
         ensures cause { IsErr result → Rose (S.faults src.old) (S.faults src.new) }
+        ensures steady { S.steady src.old → IsOk result × S.steady src.new }
     {
         let read = refill(src, &mut self.buf, self.at, self.end);
         self.line_from = 0;
@@ -241,6 +245,7 @@ impl LineReader {
         ensures advances { Advances self.old (S.left src.old) result self.new (S.left src.new) }
         ensures fault { result ≡ Progress.ReadFault → Rose (S.faults src.old) (S.faults src.new) }
         ensures later { S.faults src.old ≤ S.faults src.new }
+        ensures steady { S.steady src.old → S.steady src.new × (result ≢ Progress.ReadFault) }
     {
         let allowed = self.allowance();
         loop {
@@ -271,6 +276,7 @@ impl LineReader {
         ensures fault { self.old.stopped ≡ None → result ≡ Progress.ReadFault → Rose (S.faults src.old) (S.faults src.new) }
         ensures again { IsSome self.old.stopped → S.faults src.new ≡ S.faults src.old }
         ensures later { S.faults src.old ≤ S.faults src.new }
+        ensures steady { self.old.stopped ≡ None → S.steady src.old → S.steady src.new × (result ≢ Progress.ReadFault) }
     {
         match self.stopped {
             Some(answer) => answer,
@@ -286,6 +292,7 @@ impl LineReader {
         ensures fault { self.old.stopped ≡ None → result ≡ Got.ReadFault → Rose (S.faults src.old) (S.faults src.new) }
         ensures again { IsSome self.old.stopped → S.faults src.new ≡ S.faults src.old }
         ensures later { S.faults src.old ≤ S.faults src.new }
+        ensures steady { self.old.stopped ≡ None → S.steady src.old → S.steady src.new × (result ≢ Got.ReadFault) }
     {
         match self.advance(src) {
             Progress::Line => Got::Line(self.line()),

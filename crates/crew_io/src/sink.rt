@@ -1,6 +1,7 @@
 // Where bytes go.
-ghost use Rattle.std.specs.Prelude.{◌≡◌, ◌≤◌, ◌<◌, ◌+◌, ◌-◌, ◌↔◌, ◌++◌, [], List, ℕ, Option, Some, None, Ok, length, take, min, IfOk, OnOk, OnErr, IsErr};
+ghost use Rattle.std.specs.Prelude.{◌≡◌, ◌≤◌, ◌<◌, ◌+◌, ◌-◌, ◌↔◌, ◌++◌, ⊤, [], List, ℕ, Option, Some, None, Ok, length, take, min, IfOk, OnOk, OnErr, IsOk, IsErr};
 ghost use Rattle.std.specs.Io.KnownBytes.{WriteAppends, Keeps};
+ghost use Rattle.std.specs.Io.Buffered.{writer_buffer, writer_contents};
 ghost use Rattle.crew_io.specs.Io.{Rose, Took, Appended, AppendedPart, one_more};
 ghost use Rattle.crew_io.specs.Memory.{IsDue, IsRefused, store_failed, store_took};
 ghost use Rattle.crew_io.specs.Std.{writer_of, write_faults};
@@ -8,7 +9,7 @@ ghost use Rattle.crew_io.specs.Std.{writer_of, write_faults};
 use crate::script::Script;
 use crate::source::Failed;
 use std::alloc::{AllocError, Global};
-use std::io::Write;
+use std::io::{BufWriter, Write};
 use std::marker::Model;
 
 /// A write has failed, and was counted.
@@ -23,6 +24,15 @@ pub trait Sink {
     /// How often a write or a flush has failed.
     ghost faults: { Self → ℕ };
 
+    /// The bytes that were taken and are not passed on yet.
+    ghost held: { Self → List ℕ };
+
+    /// Its calls fail only where its room is used up.
+    ghost steady: { Self → Type 0 };
+
+    /// Its room is used up, and stays so.
+    ghost full: { Self → Type 0 };
+
     /// Takes the front of the piece, and says how many bytes: at least one, if the piece is not
     /// empty. A write that fails takes nothing, and is counted.
     fn write(&mut self, piece: &[u8]) -> Result<usize, Failed>
@@ -31,13 +41,17 @@ pub trait Sink {
         ensures took { IfOk result (λ n. Took (got self.old) (got self.new) n piece.now) }
         ensures nothing { OnErr result (got self.new ≡ got self.old) }
         ensures later { faults self.old ≤ faults self.new }
-        ensures cause { IsErr result → Rose (faults self.old) (faults self.new) };
+        ensures cause { IsErr result → Rose (faults self.old) (faults self.new) }
+        ensures steady { steady self.old → steady self.new × (IsErr result → full self.new) };
 
     /// Passes on what the sink holds back. A flush that fails is counted.
     fn flush(&mut self) -> Result<(), Failed>
+        ensures passed { OnOk result (held self.new ≡ []) }
         ensures same { got self.new ≡ got self.old }
         ensures later { faults self.old ≤ faults self.new }
-        ensures cause { IsErr result → Rose (faults self.old) (faults self.new) };
+        ensures cause { IsErr result → Rose (faults self.old) (faults self.new) }
+        ensures steady { steady self.old → IsOk result × steady self.new }
+        ensures full { full self.old → full self.new };
 }
 
 /// A sink in memory, which takes at most a piece in a write. Exactly the calls whose numbers, from
@@ -111,6 +125,12 @@ impl Sink for MemSink {
 
     ghost faults = { λ s. s.faults };
 
+    ghost held = { λ _. [] };
+
+    ghost steady = { λ s. s.fails ≡ [] };
+
+    ghost full = { λ s. length s.got ≡ s.room };
+
     fn write(&mut self, piece: &[u8]) -> Result<usize, Failed>
         ensures fits { IfOk result (λ n. n ≤ length piece.now) }
         ensures some { IfOk result (λ n. 0 < length piece.now → 0 < n) }
@@ -118,6 +138,7 @@ impl Sink for MemSink {
         ensures nothing { OnErr result (Some self.new.got ≡ Some self.old.got) }
         ensures later { self.old.faults ≤ self.new.faults }
         ensures cause { IsErr result → Rose self.old.faults self.new.faults }
+        ensures steady { self.old.fails ≡ [] → (self.new.fails ≡ []) × (IsErr result → length self.new.got ≡ self.new.room) }
 
         // It fails exactly where the call is due to fail or the room is full, and takes as much as it may.
         ensures due { IsErr result ↔ IsRefused self.old piece.now }
@@ -139,6 +160,8 @@ impl Sink for MemSink {
         ensures same { Some self.new.got ≡ Some self.old.got }
         ensures later { self.old.faults ≤ self.new.faults }
         ensures cause { IsErr result → Rose self.old.faults self.new.faults }
+        ensures steady { self.old.fails ≡ [] → IsOk result × (self.new.fails ≡ []) }
+        ensures full { length self.old.got ≡ self.old.room → length self.new.got ≡ self.new.room }
 
         // It fails exactly where the call is due to fail.
         ensures due { IsErr result ↔ IsDue self.old.fails self.old.calls }
@@ -172,6 +195,12 @@ impl Sink for SteadySink {
 
     ghost faults = { λ _. 0 };
 
+    ghost held = { λ _. [] };
+
+    ghost steady = { λ _. ⊤ };
+
+    ghost full = { λ _. ⊥ };
+
     fn write(&mut self, piece: &[u8]) -> Result<usize, Failed>
         ensures { result ≡ Ok (length piece.now) }
     {
@@ -185,17 +214,18 @@ impl Sink for SteadySink {
     }
 }
 
-/// A sink over one of std's writers, which tells nothing of its bytes. Each of the writer's errors
-/// is counted, and each write that takes nothing of a piece that is not empty.
+/// A sink over one of std's writers behind a buffer, which tells nothing of its bytes but those that it
+/// holds back. Each of the writer's errors is counted, and each write that takes nothing of a piece that is
+/// not empty.
 #[derive(Drop)]
-pub struct StdSink<W> {
-    inner: W,
+pub struct StdSink<W: Write + Drop> {
+    inner: BufWriter<W>,
     failed: u64,
 }
 
-impl<W: Write> StdSink<W> {
+impl<W: Write + Drop> StdSink<W> {
     /// A sink over this writer, with no faults so far.
-    pub fn new(inner: W) -> StdSink<W>
+    pub fn new(inner: BufWriter<W>) -> StdSink<W>
         ensures writer { writer_of result ≡ inner }
         ensures got { ⟦<StdSink<W> as Sink>⟧.got result ≡ None }
         ensures faults { ⟦<StdSink<W> as Sink>⟧.faults result ≡ 0 }
@@ -214,10 +244,16 @@ impl<W: Write> StdSink<W> {
     }
 }
 
-impl<W: Write> Sink for StdSink<W> {
+impl<W: Write + Drop> Sink for StdSink<W> {
     ghost got = { λ _. None };
 
     ghost faults = { λ s. write_faults s };
+
+    ghost held = { λ s. writer_buffer (writer_of s) };
+
+    ghost steady = { λ _. ⊥ };
+
+    ghost full = { λ _. ⊥ };
 
     fn write(&mut self, piece: &[u8]) -> Result<usize, Failed>
         ensures fits { IfOk result (λ n. n ≤ length piece.now) }
@@ -227,9 +263,9 @@ impl<W: Write> Sink for StdSink<W> {
         ensures cause { IsErr result → Rose (write_faults self.old) (write_faults self.new) }
 
         // It counts exactly the writes that fail, and passes on what it takes.
-        ensures steady { OnOk result (write_faults self.new ≡ write_faults self.old) }
+        ensures uncounted { OnOk result (write_faults self.new ≡ write_faults self.old) }
         ensures counted { OnErr result (write_faults self.new ≡ one_more (write_faults self.old)) }
-        ensures bytes { WriteAppends (W.contents (writer_of self.old)) (W.contents (writer_of self.new)) result piece.now }
+        ensures bytes { WriteAppends (writer_contents W.contents (writer_of self.old)) (writer_contents W.contents (writer_of self.new)) result piece.now }
     {
         match self.inner.write(piece) {
             Ok(0) if !piece.is_empty() => Err(self.fail()),
@@ -239,13 +275,14 @@ impl<W: Write> Sink for StdSink<W> {
     }
 
     fn flush(&mut self) -> Result<(), Failed>
+        ensures passed { OnOk result (writer_buffer (writer_of self.new) ≡ []) }
         ensures later { write_faults self.old ≤ write_faults self.new }
         ensures cause { IsErr result → Rose (write_faults self.old) (write_faults self.new) }
 
         // It counts exactly the flushes that fail.
-        ensures steady { OnOk result (write_faults self.new ≡ write_faults self.old) }
+        ensures uncounted { OnOk result (write_faults self.new ≡ write_faults self.old) }
         ensures counted { OnErr result (write_faults self.new ≡ one_more (write_faults self.old)) }
-        ensures bytes { Keeps (W.contents (writer_of self.old)) (W.contents (writer_of self.new)) }
+        ensures bytes { Keeps (writer_contents W.contents (writer_of self.old)) (writer_contents W.contents (writer_of self.new)) }
     {
         match self.inner.flush() {
             Ok(()) => Ok(()),
@@ -260,6 +297,7 @@ pub fn put_all<K: Sink>(sink: &mut K, bytes: &[u8]) -> Result<(), WriteFault>
     ensures part { OnErr result (AppendedPart (K.got sink.old) (K.got sink.new) bytes.now) }
     ensures later { K.faults sink.old ≤ K.faults sink.new }
     ensures cause { IsErr result → Rose (K.faults sink.old) (K.faults sink.new) }
+    ensures steady { K.steady sink.old → K.steady sink.new × (IsErr result → K.full sink.new) }
 {
     let mut at = 0;
     while at < bytes.len() {

@@ -1,5 +1,5 @@
 // Where bytes come from.
-ghost use Rattle.std.specs.Prelude.{◌≡◌, ◌≤◌, ◌<◌, ◌↔◌, ◌++◌, [], List, ℕ, Option, Some, None, Ok, length, take, drop, min, IfOk, OnOk, OnErr, IsErr};
+ghost use Rattle.std.specs.Prelude.{◌≡◌, ◌≤◌, ◌<◌, ◌↔◌, ◌++◌, ⊤, [], List, ℕ, Option, Some, None, Ok, length, take, drop, min, IfOk, OnOk, OnErr, IsOk, IsErr};
 ghost use Rattle.std.specs.Io.KnownBytes.{ReadConsumes};
 ghost use Rattle.crew_io.specs.Io.{Rose, Gave, HasEnded, one_more};
 ghost use Rattle.crew_io.specs.Memory.{IsDue, feed_failed, feed_gave};
@@ -21,6 +21,9 @@ pub trait Source {
     /// How often a read has failed.
     ghost faults: { Self → ℕ };
 
+    /// None of its reads is going to fail.
+    ghost steady: { Self → Type 0 };
+
     /// Puts the next bytes at the front of the buffer, and says how many: none only at the end, or
     /// where the buffer is empty. A read that fails takes nothing, and is counted.
     fn read(&mut self, buf: &mut [u8]) -> Result<usize, Failed>
@@ -29,7 +32,8 @@ pub trait Source {
         ensures end { result ≡ Ok 0 → 0 < length buf.old → HasEnded (left self.old) }
         ensures nothing { OnErr result (left self.new ≡ left self.old) }
         ensures later { faults self.old ≤ faults self.new }
-        ensures cause { IsErr result → Rose (faults self.old) (faults self.new) };
+        ensures cause { IsErr result → Rose (faults self.old) (faults self.new) }
+        ensures steady { steady self.old → IsOk result × steady self.new };
 }
 
 /// Copies the front of the bytes, at most a piece of them, to the front of the buffer.
@@ -86,6 +90,8 @@ impl Source for MemSource {
 
     ghost faults = { λ s. s.faults };
 
+    ghost steady = { λ s. s.fails ≡ [] };
+
     fn read(&mut self, buf: &mut [u8]) -> Result<usize, Failed>
         ensures fits { IfOk result (λ n. n ≤ length buf.old) }
         ensures gave { IfOk result (λ n. Gave (Some self.old.left) (Some self.new.left) n buf.old buf.new) }
@@ -93,6 +99,7 @@ impl Source for MemSource {
         ensures nothing { OnErr result (Some self.new.left ≡ Some self.old.left) }
         ensures later { self.old.faults ≤ self.new.faults }
         ensures cause { IsErr result → Rose self.old.faults self.new.faults }
+        ensures steady { self.old.fails ≡ [] → IsOk result × (self.new.fails ≡ []) }
 
         // It fails exactly where the call is due to fail, and gives as much as it may.
         ensures due { IsErr result ↔ IsDue self.old.fails self.old.calls }
@@ -151,6 +158,8 @@ impl Source for SteadySource {
 
     ghost faults = { λ _. 0 };
 
+    ghost steady = { λ _. ⊤ };
+
     fn read(&mut self, buf: &mut [u8]) -> Result<usize, Failed>
         ensures value { result ≡ Ok (min (min (length self.old.left) (length buf.old)) self.old.piece) }
         ensures gave { IfOk result (λ n. Gave (Some self.old.left) (Some self.new.left) n buf.old buf.new) }
@@ -187,6 +196,8 @@ impl<R: Read> Source for StdSource<R> {
 
     ghost faults = { λ s. read_faults s };
 
+    ghost steady = { λ _. ⊥ };
+
     fn read(&mut self, buf: &mut [u8]) -> Result<usize, Failed>
         ensures fits { IfOk result (λ n. n ≤ length buf.old) }
         ensures gave { IfOk result (λ n. Gave None None n buf.old buf.new) }
@@ -195,7 +206,7 @@ impl<R: Read> Source for StdSource<R> {
         ensures cause { IsErr result → Rose (read_faults self.old) (read_faults self.new) }
 
         // It counts exactly the reads that fail, and gives what the reader gives.
-        ensures steady { OnOk result (read_faults self.new ≡ read_faults self.old) }
+        ensures uncounted { OnOk result (read_faults self.new ≡ read_faults self.old) }
         ensures counted { OnErr result (read_faults self.new ≡ one_more (read_faults self.old)) }
         ensures bytes { ReadConsumes (R.remaining (reader_of self.old)) (R.remaining (reader_of self.new)) result buf.new }
     {

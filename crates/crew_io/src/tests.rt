@@ -2,6 +2,7 @@
 use crate::lines::{Got, LineReader, Progress};
 use crate::sink::{MemSink, Sink, StdSink, SteadySink, WriteFault, put_all};
 use crate::source::{Failed, MemSource, Source, StdSource, SteadySource};
+use std::io::BufWriter;
 use std::test::Fail;
 
 #[test]
@@ -71,7 +72,7 @@ fn sinks_in_memory_fill_and_fail(rt: HostRuntime) -> Result<(), Fail> {
 #[test]
 fn writes_through_to_std(rt: HostRuntime) -> Result<(), Fail> {
     let mut bytes = Vec::new(rt.alloc());
-    let mut sink = StdSink::new(&mut bytes);
+    let mut sink = StdSink::new(BufWriter::new(rt.alloc(), &mut bytes)?);
     assert_eq!(rt; put_all(&mut sink, b"abc"), Ok(()));
     assert_eq!(rt; sink.flush(), Ok(()));
     assert_eq!(rt; bytes.as_slice(), b"abc".as_slice());

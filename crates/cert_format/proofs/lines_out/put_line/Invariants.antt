@@ -10,4 +10,5 @@ invariant-loop-part g l = record {
   so_far : Appended (g.K.Sink.got l.fn.out) (g.K.Sink.got l.out) (join_with_byte 32 (map text_of (take l.part-index l.parts)));
   gap : l.before ≡ gap_after (map text_of (take l.part-index l.parts));
   later : g.K.Sink.faults l.fn.out ≤ g.K.Sink.faults l.out;
+  steady : g.K.Sink.steady l.fn.out → g.K.Sink.steady l.out;
 }

@@ -16,6 +16,7 @@ lines-preserved g c =
       so_far = goes_on c.args.reader.now (g.S.Source.left c.args.src.now) c.args.from c.lines.reader c.advance-progress.new.self (g.S.Source.left c.lines.src) (g.S.Source.left c.advance-progress.new.src)
           c.lines.due c.in-More.next c.lines.line s a (subst (IsStep c.lines.due (words_of c.advance-progress.new.self.line)) c.in-More.is step);
       later = let x = c.lines.invariant.later in let y = c.advance-progress.ensures.later in omega (arith, x, y);
+      steady = λ h. (c.advance-progress.ensures.steady s.going.going (c.lines.invariant.steady h)).0;
     }
 
 pub returns-in-No-clause-outcome : goal.returns-in-No-clause-outcome

@@ -6,6 +6,7 @@ abbrev pub invariant-lines : goal.invariant-lines
 invariant-lines g l = record {
   so_far : IsSoFar l.fn.reader (g.S.Source.left l.fn.src) l.from l.reader (g.S.Source.left l.src) l.due l.line;
   later : g.S.Source.faults l.fn.src ≤ g.S.Source.faults l.src;
+  steady : g.S.Source.steady l.fn.src → g.S.Source.steady l.src;
 }
 
 abbrev pub decreases-lines : goal.decreases-lines

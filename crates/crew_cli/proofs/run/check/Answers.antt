@@ -1,7 +1,7 @@
 use Rattle.std.proofs.Common.{subst, arith}
 use Rattle.crew_cli.specs.Due.{dossier_of}
 use Rattle.crew_cli.specs.Input.{IsOutcome, OpensNext}
-use Rattle.crew_cli.proofs.Said.{opens, begins, says_one_more, says_yes, says_no, front_so_far, front_yes, front_no}
+use Rattle.crew_cli.proofs.Said.{opens, begins, says_one_more, says_yes, says_no, front_so_far, front_yes, front_no, on_err, yes_lines_none, says_yes_lines, says_read_fault}
 use Rattle.crew_cli.proofs.run.check.Goals as goal
 
 pub dossiers-init : goal.dossiers-init
@@ -10,6 +10,8 @@ dossiers-init g c = record {
   so_far = begins (g.S.Source.left c.args.src.now) (g.K.Sink.got c.args.out.now) c.in_ok-reader.reader c.in_ok-reader.ensures;
   source_later = omega arith;
   sink_later = omega arith;
+  steady_source = λ h. h;
+  steady_sink = λ h. h;
 }
 
 pub dossiers-preserved : goal.dossiers-preserved
@@ -24,6 +26,8 @@ dossiers-preserved g c =
           c.in_default.ensures.all c.dossiers.invariant.so_far;
       source_later = let x = c.dossiers.invariant.source_later in let y = c.in_ok-draft.ensures.later in omega (arith, x, y);
       sink_later = let x = c.dossiers.invariant.sink_later in let y = c.put_yes.ensures.later in omega (arith, x, y);
+      steady_source = λ h. (c.in_ok-draft.ensures.steady (c.dossiers.invariant.steady_source h)).0;
+      steady_sink = λ h. (c.put_yes.ensures.steady (c.dossiers.invariant.steady_sink h)).0;
     }
 
 pub returns-in-End-clause-done : goal.returns-in-End-clause-done
@@ -65,3 +69,17 @@ returns-in-No-clause-front g c =
     c.dossiers.from c.in-No.line c.in-No.reason
     (λ input done b. subst (IsOutcome input done c.next_dossier.new.reader (g.S.Source.left c.next_dossier.new.src)) c.in-No.is (c.in_ok-draft.ensures.outcome input done b))
     c.refuse.ensures.part c.dossiers.invariant.so_far
+
+pub returns-in_err-cuts-clause-memory : goal.returns-in_err-cuts-clause-memory
+returns-in_err-cuts-clause-memory g c = on_err c.from_residual-in_err-cuts.result _ (yes_lines_none (g.S.Source.left c.args.src.now) (g.K.Sink.got c.args.out.now))
+
+pub returns-in_err-draft-clause-memory : goal.returns-in_err-draft-clause-memory
+returns-in_err-draft-clause-memory g c = on_err c.from_residual-in_err-draft.result _
+    (says_yes_lines (g.S.Source.left c.args.src.now) (g.K.Sink.got c.args.out.now) c.dossiers.reader (g.S.Source.left c.dossiers.src) (g.K.Sink.got c.dossiers.out) c.dossiers.from c.dossiers.invariant.so_far)
+
+pub returns-in-ReadFault-clause-interrupted : goal.returns-in-ReadFault-clause-interrupted
+returns-in-ReadFault-clause-interrupted g c = λ _.
+    says_read_fault (g.S.Source.left c.args.src.now) (g.K.Sink.got c.args.out.now) c.dossiers.reader c.next_dossier.new.reader
+    (g.S.Source.left c.dossiers.src) (g.S.Source.left c.next_dossier.new.src) (g.K.Sink.got c.dossiers.out) c.dossiers.from
+    (λ input done b. subst (IsOutcome input done c.next_dossier.new.reader (g.S.Source.left c.next_dossier.new.src)) c.in-ReadFault.is (c.in_ok-draft.ensures.outcome input done b))
+    c.dossiers.invariant.so_far

@@ -9,6 +9,8 @@ invariant-dossiers g l = record {
   so_far : HasSaidOf (g.S.Source.left l.fn.src) (g.K.Sink.got l.fn.out) l.reader (g.S.Source.left l.src) (g.K.Sink.got l.out) l.from;
   source_later : g.S.Source.faults l.fn.src ≤ g.S.Source.faults l.src;
   sink_later : g.K.Sink.faults l.fn.out ≤ g.K.Sink.faults l.out;
+  steady_source : g.S.Source.steady l.fn.src → g.S.Source.steady l.src;
+  steady_sink : g.K.Sink.steady l.fn.out → g.K.Sink.steady l.out;
 }
 
 abbrev pub decreases-dossiers : goal.decreases-dossiers

@@ -6,6 +6,7 @@ abbrev pub invariant-loop-self : goal.invariant-loop-self
 invariant-loop-self g l = record {
   same : IsSame l.fn.self (g.S.Source.left l.fn.src) l.self (g.S.Source.left l.src);
   later : g.S.Source.faults l.fn.src ≤ g.S.Source.faults l.src;
+  steady : g.S.Source.steady l.fn.src → g.S.Source.steady l.src;
 }
 
 abbrev pub decreases-loop-self : goal.decreases-loop-self
