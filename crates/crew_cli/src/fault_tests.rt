@@ -1,4 +1,4 @@
-// What the program answers, and what it has written, where a read, a write or the flush fails, or memory is wanting.
+// What the program answers, and what it has written, where a read, a write or the flush fails.
 ghost use Rattle.std.specs.Prelude.{◌≤◌};
 
 use crate::run::{Status, run};
@@ -171,23 +171,5 @@ fn the_first_calls_fail(rt: HostRuntime) -> Result<(), Fail> {
     let (write, none) = check_over(rt.alloc(), GOOD, 10, &[], ROOM, &[1])?;
     assert_eq!(rt; write, Status::WriteFault);
     assert!(rt; none.is_empty());
-    Ok(())
-}
-
-/// The words and the room of the test itself may want memory, too.
-#[test]
-fn memory_is_wanting_or_the_answer_is_right(rt: HostRuntime) -> Result<(), Fail> {
-    let alloc = rt.alloc();
-    let Ok(twice) = joined(alloc, &[GOOD, GOOD]) else {
-        return Ok(());
-    };
-    let Ok((status, written)) = check_over(alloc, &twice, 100, &[], ROOM, &[]) else {
-        return Ok(());
-    };
-    let Ok(yes) = joined(alloc, &[YES, YES]) else {
-        return Ok(());
-    };
-    assert!(rt; status == Status::Memory || status == Status::Done && written == yes);
-    assert!(rt; yes.starts_with(&written));
     Ok(())
 }
