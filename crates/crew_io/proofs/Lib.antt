@@ -2,3 +2,4 @@ pub mod Pieces
 pub mod Ranges
 pub mod Room
 pub mod Stream
+mod Texts

@@ -7,3 +7,4 @@ pub mod Lines
 pub mod Got
 pub mod KeptReader
 pub mod Std
+pub mod Text

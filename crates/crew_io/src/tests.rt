@@ -2,6 +2,7 @@
 use crate::lines::{Got, LineReader, Progress};
 use crate::sink::{MemSink, Sink, StdSink, SteadySink, WriteFault, put_all};
 use crate::source::{Failed, MemSource, Source, StdSource, SteadySource};
+use crate::text::{Text, read_text};
 use std::io::BufWriter;
 use std::test::Fail;
 
@@ -76,5 +77,55 @@ fn writes_through_to_std(rt: HostRuntime) -> Result<(), Fail> {
     assert_eq!(rt; put_all(&mut sink, b"abc"), Ok(()));
     assert_eq!(rt; sink.flush(), Ok(()));
     assert_eq!(rt; bytes.as_slice(), b"abc".as_slice());
+    Ok(())
+}
+
+/// Whether the text is whole and has these bytes.
+fn is_whole(text: &Text, bytes: &[u8]) -> bool {
+    match text {
+        Text::Whole(read) => read.as_slice() == bytes,
+        _ => false,
+    }
+}
+
+#[test]
+fn reads_a_text_to_its_end(rt: HostRuntime) -> Result<(), Fail> {
+    let alloc = rt.alloc();
+    for len in [0, 1, 65_536, 65_537, 8_388_608] {
+        let bytes = vec![in alloc; b'a'; len]?;
+        for piece in [65_000, usize::MAX] {
+            let mut src = SteadySource::new(bytes.clone()?, piece);
+            let text = read_text(alloc, &mut src, len)?;
+            assert!(rt; is_whole(&text, &bytes), "{len} bytes are a text");
+        }
+    }
+    Ok(())
+}
+
+#[test]
+fn tells_a_text_that_is_too_long(rt: HostRuntime) -> Result<(), Fail> {
+    let alloc = rt.alloc();
+    for most in [0, 1, 65_536, 8_388_608] {
+        let mut src = SteadySource::new(vec![in alloc; b'a'; most + 1]?, 65_000);
+        assert!(rt; matches!(read_text(alloc, &mut src, most)?, Text::TooLong));
+        let mut src = StdSource::new(b"more than seven".as_slice());
+        assert!(rt; matches!(read_text(alloc, &mut src, 7)?, Text::TooLong));
+    }
+    Ok(())
+}
+
+#[test]
+fn a_read_of_a_text_fails(rt: HostRuntime) -> Result<(), Fail> {
+    let alloc = rt.alloc();
+    for call in 1..=5 {
+        let fails = [call].to_vec(alloc)?;
+        let mut src = MemSource::new(b"thirty bytes in three portions".to_vec(alloc)?, 10, fails);
+        let text = read_text(alloc, &mut src, 30)?;
+        if call < 5 {
+            assert!(rt; matches!(text, Text::ReadFault));
+        } else {
+            assert!(rt; is_whole(&text, b"thirty bytes in three portions"));
+        }
+    }
     Ok(())
 }
