@@ -3,4 +3,5 @@ pub mod Fields
 pub mod Fronts
 pub mod Rests
 pub mod Exits
+pub mod Heads
 pub mod Rows

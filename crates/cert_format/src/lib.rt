@@ -5,6 +5,7 @@ ghost use Rattle.cert_format.specs.Lines.{ReadsLine};
 
 mod body;
 mod head;
+pub mod head_out;
 pub mod kinds;
 pub mod lines_out;
 pub mod numbers;
@@ -13,6 +14,7 @@ mod shape;
 mod tests;
 
 use field_table::LineWords;
+pub use head_out::write_head;
 pub use kinds::{Expect, LineFault, LineKind};
 pub use lines_out::{Part, put_line};
 pub use numbers::Rest;

@@ -14,6 +14,13 @@ pub enum Part<'a> {
     Number(u64),
 }
 
+impl Default for Part<'_> {
+    /// An empty word.
+    fn default() -> Self {
+        Part::Word(b"")
+    }
+}
+
 fn put_part<K: Sink>(out: &mut K, part: &Part<'_>) -> Result<(), WriteFault>
     ensures all { OnOk result (Appended (K.got out.old) (K.got out.new) (text_of part.now)) }
     ensures part { OnErr result (AppendedPart (K.got out.old) (K.got out.new) (text_of part.now)) }

@@ -1,7 +1,10 @@
 // Tests of lines in and out.
-use crate::{Expect, LineFault, LineKind, Part, put_line, read_line};
+use crate::{Expect, LineFault, LineKind, Part, put_line, read_line, write_head};
+use crew_instance::{Builder, Instance};
 use crew_io::sink::{MemSink, WriteFault};
+use crew_terms::{Name, Task, Team};
 use field_table::Cuts;
+use std::alloc::Global;
 use std::test::Fail;
 
 #[test]
@@ -117,4 +120,47 @@ fn tells_a_fault_in_midline(rt: HostRuntime) -> Result<(), Fail> {
     assert_eq!(rt; put_line(&mut out, &parts), Err(WriteFault));
     assert!(rt; out.got() == b"size 1".as_slice());
     Ok(())
+}
+
+#[test]
+fn writes_an_instance(rt: HostRuntime) -> Result<(), Fail> {
+    let alloc = rt.alloc();
+    let instance = small_instance(alloc)?;
+    let text =
+        b"size 1 1 2 5\nplace BASE\nplace G1\ntravel 0 10\ntravel 15 0\nteam T1 0 360 840 0 63\ntask A 1 420 450 30 2 7\n".as_slice();
+    let mut out = MemSink::new(alloc, 200, 3, Vec::new(alloc))?;
+    assert_eq!(rt; write_head(&mut out, &instance, 5), Ok(()));
+    assert!(rt; out.got() == text);
+    for room in 0..text.len() {
+        let mut out = MemSink::new(alloc, room, 3, Vec::new(alloc))?;
+        assert_eq!(rt; write_head(&mut out, &instance, 5), Err(WriteFault));
+        assert!(rt; out.got().len() == room && text.starts_with(out.got()));
+    }
+    Ok(())
+}
+
+/// An instance of two places, a team and a task.
+fn small_instance(alloc: Global) -> Result<Instance, Fail> {
+    let mut builder = Builder::new(alloc);
+    builder.place(Name::read(b"BASE").ok_or("name")?)?;
+    builder.place(Name::read(b"G1").ok_or("name")?)?;
+    builder.travel(0, 1, 10)?;
+    builder.travel(1, 0, 15)?;
+    builder.team(Team {
+        name: Name::read(b"T1").ok_or("name")?,
+        home: 0,
+        from: 360,
+        until: 840,
+        skills: 1 << 63 | 1,
+    })?;
+    builder.task(Task {
+        name: Name::read(b"A").ok_or("name")?,
+        place: 1,
+        earliest: 420,
+        latest: 450,
+        minutes: 30,
+        teams: 2,
+        skills: 1 << 7,
+    })?;
+    Ok(builder.finish()?)
 }

@@ -1,0 +1,20 @@
+use Rattle.std.proofs.Common.{◌<◌, ◌≤◌, length, ap, refl, ◌∙◌, arith}
+use Rattle.dossier_terms.specs.Lines.{travel_line}
+use Rattle.cert_format.proofs.Fronts.{on_err}
+use Rattle.cert_format.proofs.Heads.{line_written, line_part, lines_written, appended_none}
+use Rattle.cert_format.proofs.head_out.put_travels.Goals as goal
+
+pub returns-in_err-put_travel-clause-part : goal.returns-in_err-put_travel-clause-part
+returns-in_err-put_travel-clause-part g c =
+    let below : c.loop-a.a < length c.args.instance.now.travel = (let t = c.loop-a-test.true in let e = c.places-a-end.ensures.count in let r = c.places-a-end.ensures.limits.rows in omega arith) in
+    on_err c.from_residual.result _
+    (line_part travel_line c.args.instance.now.travel c.loop-a.a _ below _ _ _ _ refl c.loop-a.invariant.so_far c.in_err-put_travel.ensures.part)
+
+pub loop-a-preserved : goal.loop-a-preserved
+loop-a-preserved g c =
+    let below : c.loop-a.a < length c.args.instance.now.travel = (let t = c.loop-a-test.true in let e = c.places-a-end.ensures.count in let r = c.places-a-end.ensures.limits.rows in omega arith) in
+    record {
+      so_far = line_written travel_line c.args.instance.now.travel c.loop-a.a _ below _ _ _ _ refl c.loop-a.invariant.so_far c.in_ok-put_travel.ensures.all;
+      later = (let a = c.loop-a.invariant.later in let b = c.in_ok-put_travel.ensures.later in omega (arith, a, b));
+      steady = λ h. (c.in_ok-put_travel.ensures.steady (c.loop-a.invariant.steady h)).0;
+    }

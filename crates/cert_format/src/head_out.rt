@@ -1,0 +1,176 @@
+// The lines of an instance, written.
+ghost use Rattle.std.specs.Prelude.{◌≡◌, ◌≤◌, ◌<◌, ◌+◌, ◌++◌, [], map, length, slice_index_or, OnOk, OnErr, IsErr};
+ghost use Rattle.std.specs.List.{flat_map};
+ghost use Rattle.std.specs.Fmt.{decimal};
+ghost use Rattle.arrayvec.specs.ArrayVec.{array_vec_len};
+ghost use Rattle.crew_terms.specs.Words.{line_text};
+ghost use Rattle.crew_io.specs.Io.{Rose, Appended, AppendedPart};
+ghost use Rattle.dossier_terms.specs.Dossier.{skills_of};
+ghost use Rattle.dossier_terms.specs.Lines.{instance_text, size_line, size_of, place_line, travel_line, team_line, task_line};
+ghost use Rattle.cert_format.specs.Parts.{text_of};
+
+use crate::lines_out::{Part, put_line};
+use arrayvec::ArrayVec;
+use crew_instance::Instance;
+use crew_io::sink::{Sink, WriteFault};
+use crew_terms::{Task, Team};
+
+/// The parts of a line of an instance: at most a word and a travel time to each place.
+type Line<'a> = ArrayVec<Part<'a>, 201>;
+
+/// A number as a part of a line.
+fn number(n: u32) -> Part<'static>
+    ensures { result ≡ Part.Number n }
+{
+    Part::Number(n as u64)
+}
+
+fn put_size<K: Sink>(out: &mut K, instance: &Instance, nodes: u32) -> Result<(), WriteFault>
+    ensures all { OnOk result (Appended (K.got out.old) (K.got out.new) (line_text (size_line (size_of instance.now nodes)))) }
+    ensures part { OnErr result (AppendedPart (K.got out.old) (K.got out.new) (line_text (size_line (size_of instance.now nodes)))) }
+    ensures later { K.faults out.old ≤ K.faults out.new }
+    ensures cause { IsErr result → Rose (K.faults out.old) (K.faults out.new) }
+    ensures steady { K.steady out.old → K.steady out.new × (IsErr result → K.full out.new) }
+{
+    let teams = number(instance.teams() as u32);
+    let tasks = number(instance.tasks() as u32);
+    let places = number(instance.places() as u32);
+    put_line(
+        out,
+        &[Part::Word(b"size"), teams, tasks, places, number(nodes)],
+    )
+}
+
+fn put_places<K: Sink>(out: &mut K, instance: &Instance) -> Result<(), WriteFault>
+    ensures all { OnOk result (Appended (K.got out.old) (K.got out.new) (flat_map line_text (map place_line instance.now.places))) }
+    ensures part { OnErr result (AppendedPart (K.got out.old) (K.got out.new) (flat_map line_text (map place_line instance.now.places))) }
+    ensures later { K.faults out.old ≤ K.faults out.new }
+    ensures cause { IsErr result → Rose (K.faults out.old) (K.faults out.new) }
+    ensures steady { K.steady out.old → K.steady out.new × (IsErr result → K.full out.new) }
+{
+    for p in 0..instance.places() as u32 {
+        let name = instance.place(p).bytes();
+        put_line(out, &[Part::Word(b"place"), Part::Word(name)])?;
+    }
+    Ok(())
+}
+
+/// The line of the travel times from a place.
+fn put_travel<K: Sink>(out: &mut K, instance: &Instance, a: u32) -> Result<(), WriteFault>
+    requires { a < length instance.now.places }
+    ensures all { OnOk result (Appended (K.got out.old) (K.got out.new) (line_text (travel_line (slice_index_or instance.now.travel a [])))) }
+    ensures part { OnErr result (AppendedPart (K.got out.old) (K.got out.new) (line_text (travel_line (slice_index_or instance.now.travel a [])))) }
+    ensures later { K.faults out.old ≤ K.faults out.new }
+    ensures cause { IsErr result → Rose (K.faults out.old) (K.faults out.new) }
+    ensures steady { K.steady out.old → K.steady out.new × (IsErr result → K.full out.new) }
+{
+    let mut line = Line::new();
+    line.push(Part::Word(b"travel"));
+    for b in 0..instance.places() as u32 {
+        line.push(number(instance.travel(a, b)));
+    }
+    put_line(out, &line)
+}
+
+fn put_travels<K: Sink>(out: &mut K, instance: &Instance) -> Result<(), WriteFault>
+    ensures all { OnOk result (Appended (K.got out.old) (K.got out.new) (flat_map line_text (map travel_line instance.now.travel))) }
+    ensures part { OnErr result (AppendedPart (K.got out.old) (K.got out.new) (flat_map line_text (map travel_line instance.now.travel))) }
+    ensures later { K.faults out.old ≤ K.faults out.new }
+    ensures cause { IsErr result → Rose (K.faults out.old) (K.faults out.new) }
+    ensures steady { K.steady out.old → K.steady out.new × (IsErr result → K.full out.new) }
+{
+    for a in 0..instance.places() as u32 {
+        put_travel(out, instance, a)?;
+    }
+    Ok(())
+}
+
+/// Adds the numbers of the skills of a set, rising.
+fn push_skills(line: &mut Line<'_>, skills: u64)
+    requires { array_vec_len line.old + 64 ≤ 201 }
+    ensures { map text_of line.new.items ≡ map text_of line.old.items ++ map decimal (skills_of skills) }
+{
+    for s in 0..64u32 {
+        if skills >> s & 1 == 1 {
+            line.push(number(s));
+        }
+    }
+}
+
+fn put_team<K: Sink>(out: &mut K, team: &Team) -> Result<(), WriteFault>
+    ensures all { OnOk result (Appended (K.got out.old) (K.got out.new) (line_text (team_line team.now))) }
+    ensures part { OnErr result (AppendedPart (K.got out.old) (K.got out.new) (line_text (team_line team.now))) }
+    ensures later { K.faults out.old ≤ K.faults out.new }
+    ensures cause { IsErr result → Rose (K.faults out.old) (K.faults out.new) }
+    ensures steady { K.steady out.old → K.steady out.new × (IsErr result → K.full out.new) }
+{
+    let mut line = Line::new();
+    line.push(Part::Word(b"team"));
+    line.push(Part::Word(team.name.bytes()));
+    line.push(number(team.home));
+    line.push(number(team.from));
+    line.push(number(team.until));
+    push_skills(&mut line, team.skills);
+    put_line(out, &line)
+}
+
+fn put_teams<K: Sink>(out: &mut K, instance: &Instance) -> Result<(), WriteFault>
+    ensures all { OnOk result (Appended (K.got out.old) (K.got out.new) (flat_map line_text (map team_line instance.now.teams))) }
+    ensures part { OnErr result (AppendedPart (K.got out.old) (K.got out.new) (flat_map line_text (map team_line instance.now.teams))) }
+    ensures later { K.faults out.old ≤ K.faults out.new }
+    ensures cause { IsErr result → Rose (K.faults out.old) (K.faults out.new) }
+    ensures steady { K.steady out.old → K.steady out.new × (IsErr result → K.full out.new) }
+{
+    for k in 0..instance.teams() as u32 {
+        put_team(out, instance.team(k))?;
+    }
+    Ok(())
+}
+
+fn put_task<K: Sink>(out: &mut K, task: &Task) -> Result<(), WriteFault>
+    ensures all { OnOk result (Appended (K.got out.old) (K.got out.new) (line_text (task_line task.now))) }
+    ensures part { OnErr result (AppendedPart (K.got out.old) (K.got out.new) (line_text (task_line task.now))) }
+    ensures later { K.faults out.old ≤ K.faults out.new }
+    ensures cause { IsErr result → Rose (K.faults out.old) (K.faults out.new) }
+    ensures steady { K.steady out.old → K.steady out.new × (IsErr result → K.full out.new) }
+{
+    let mut line = Line::new();
+    line.push(Part::Word(b"task"));
+    line.push(Part::Word(task.name.bytes()));
+    line.push(number(task.place));
+    line.push(number(task.earliest));
+    line.push(number(task.latest));
+    line.push(number(task.minutes));
+    line.push(number(task.teams));
+    push_skills(&mut line, task.skills);
+    put_line(out, &line)
+}
+
+fn put_tasks<K: Sink>(out: &mut K, instance: &Instance) -> Result<(), WriteFault>
+    ensures all { OnOk result (Appended (K.got out.old) (K.got out.new) (flat_map line_text (map task_line instance.now.tasks))) }
+    ensures part { OnErr result (AppendedPart (K.got out.old) (K.got out.new) (flat_map line_text (map task_line instance.now.tasks))) }
+    ensures later { K.faults out.old ≤ K.faults out.new }
+    ensures cause { IsErr result → Rose (K.faults out.old) (K.faults out.new) }
+    ensures steady { K.steady out.old → K.steady out.new × (IsErr result → K.full out.new) }
+{
+    for j in 0..instance.tasks() as u32 {
+        put_task(out, instance.task(j))?;
+    }
+    Ok(())
+}
+
+/// Writes the lines of an instance, from `size` with its node budget to the last `task`; it takes no memory.
+/// After a fault, a front of them was written.
+pub fn write_head<K: Sink>(out: &mut K, instance: &Instance, nodes: u32) -> Result<(), WriteFault>
+    ensures all { OnOk result (Appended (K.got out.old) (K.got out.new) (instance_text instance.now nodes)) }
+    ensures part { OnErr result (AppendedPart (K.got out.old) (K.got out.new) (instance_text instance.now nodes)) }
+    ensures later { K.faults out.old ≤ K.faults out.new }
+    ensures cause { IsErr result → Rose (K.faults out.old) (K.faults out.new) }
+    ensures steady { K.steady out.old → K.steady out.new × (IsErr result → K.full out.new) }
+{
+    put_size(out, instance, nodes)?;
+    put_places(out, instance)?;
+    put_travels(out, instance)?;
+    put_teams(out, instance)?;
+    put_tasks(out, instance)
+}
