@@ -360,3 +360,16 @@ fn replaces_tasks(rt: HostRuntime) -> Result<(), Fail> {
     assert_eq!(rt; *built.task(0), wide);
     Ok(())
 }
+
+#[test]
+fn takes_parts(rt: HostRuntime) -> Result<(), Fail> {
+    let alloc = rt.alloc();
+    let empty = Instance::of_parts(
+        Vec::new(alloc),
+        Vec::new(alloc),
+        Vec::new(alloc),
+        Vec::new(alloc),
+    );
+    assert_eq!(rt; (empty.places(), empty.teams(), empty.tasks()), (0, 0, 0));
+    Ok(())
+}
