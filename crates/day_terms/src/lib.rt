@@ -1,0 +1,92 @@
+// What a day's records are: the entries that they stand for, and why a record is refused.
+#![tactic(auto)]
+
+use crew_terms::Name;
+
+/// What one record of a day says. Times are minutes of the day, 0 to 2880, as are travel times;
+/// durations are 1 to 2880 minutes; skills are a bit for each of the numbers 0 to 63.
+#[derive(Clone, Copy, Debug, PartialEq, Eq)]
+pub enum Entry {
+    /// There is one more place.
+    Place {
+        name: Name,
+    },
+    /// The travel time between two places, both ways.
+    Travel {
+        from: Name,
+        to: Name,
+        minutes: u32,
+    },
+    /// The travel time from one place to another, one way.
+    RouteTime {
+        from: Name,
+        to: Name,
+        minutes: u32,
+    },
+    /// The travel time between different places that have none of their own.
+    DefaultTravel {
+        minutes: u32,
+    },
+    /// There is one more team.
+    Team {
+        name: Name,
+        home: Name,
+        from: u32,
+        until: u32,
+        skills: u64,
+    },
+    /// There is one more task; `earliest` and `latest` are its window of start minutes.
+    Task {
+        name: Name,
+        place: Name,
+        earliest: u32,
+        latest: u32,
+        minutes: u32,
+        teams: u32,
+        skills: u64,
+    },
+    /// The task is no more.
+    Cancel {
+        task: Name,
+    },
+    /// The task has another window.
+    Move {
+        task: Name,
+        earliest: u32,
+        latest: u32,
+    },
+    /// The task has another duration.
+    Longer {
+        task: Name,
+        minutes: u32,
+    },
+    /// The task needs another number of teams.
+    Needs {
+        task: Name,
+        teams: u32,
+    },
+    /// The team is no more.
+    Sick {
+        team: Name,
+    },
+    /// The team has another shift.
+    Shift {
+        team: Name,
+        from: u32,
+        until: u32,
+    },
+    /// The team has the skill from now on.
+    Skill {
+        team: Name,
+        skill: u32,
+    },
+    /// The team lacks the skill from now on.
+    Unskill {
+        team: Name,
+        skill: u32,
+    },
+    /// A plan is due, with at most so many nodes of the search.
+    Plan {
+        nodes: u32,
+    },
+}
