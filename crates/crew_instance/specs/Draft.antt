@@ -3,7 +3,7 @@ use Rattle.std.specs.Prelude.{◌≡◌, ◌≢◌, ◌≤◌, ◌<◌, ◌+◌,
 use Rattle.std.specs.List.{range_with_len}
 use Rattle.std.specs.Global.{Vec}
 use Rattle.crew_terms.specs.Name.{IsName}
-use Rattle.crew_terms.specs.Instance.{Instance, IsTeam, IsTask}
+use Rattle.crew_terms.specs.Instance.{Instance, IsTeam, IsTask, no_team, no_task}
 use Rattle.crew_terms.specs.declared.Team.{Team}
 use Rattle.crew_terms.specs.declared.Task.{Task}
 
@@ -19,6 +19,14 @@ pub record Draft : Type 0 where
 -- the time that was given from a to b
 abbrev pub time_of : Draft → ℕ → ℕ → Option ℕ
 time_of d a b = slice_index_or (slice_index_or d.times a []) b None
+
+-- the team that has the number
+abbrev pub team_at : Draft → ℕ → Team
+team_at d k = slice_index_or d.teams k no_team
+
+-- the task that has the number
+abbrev pub task_at : Draft → ℕ → Task
+task_at d j = slice_index_or d.tasks j no_task
 
 -- with a place more, to and from which no time is given
 abbrev pub with_place : Draft → List ℕ → Draft

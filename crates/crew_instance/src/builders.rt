@@ -21,9 +21,9 @@ const MOST_TASKS: usize = 400;
 #[derive(Drop)]
 pub struct Builder {
     alloc: Global,
-    places: Vec<Name>,
-    teams: Vec<Team>,
-    tasks: Vec<Task>,
+    pub(crate) places: Vec<Name>,
+    pub(crate) teams: Vec<Team>,
+    pub(crate) tasks: Vec<Task>,
     // A row for each place, as long as the times that were given need.
     times: Vec<Vec<Option<u32>>>,
     default_minutes: Option<u32>,

@@ -247,3 +247,129 @@ fn tells_the_first_missing_time(rt: HostRuntime) -> Result<(), Fail> {
     );
     Ok(())
 }
+
+#[test]
+fn changes_teams(rt: HostRuntime) -> Result<(), Fail> {
+    let mut day = small_day(rt.alloc())?;
+    let first = team(Name::read(b"T1").ok_or("name")?);
+    let second = team(numbered(2).ok_or("name")?);
+    let third = team(numbered(3).ok_or("name")?);
+    day.team(second)?;
+    day.team(third)?;
+    assert!(rt; day.teams() == 3);
+    day.drop_team(1);
+    let built = day.finish()?;
+    assert!(rt; built.teams() == 2);
+    assert_eq!(rt; *built.team(0), first);
+    assert_eq!(rt; *built.team(1), third);
+    Ok(())
+}
+
+#[test]
+fn replaces_teams(rt: HostRuntime) -> Result<(), Fail> {
+    let mut day = Builder::new(rt.alloc());
+    let only = team(numbered(1).ok_or("name")?);
+    day.place(numbered(0).ok_or("name")?)?;
+    day.team(only)?;
+    assert_eq!(rt;
+        day.set_team(
+            0,
+            Team {
+                home: 1,
+                from: 840,
+                ..only
+            }
+        ),
+        Err(BuildFault::NoPlace)
+    );
+    assert_eq!(rt;
+        day.set_team(0, Team { from: 840, ..only }),
+        Err(BuildFault::BadShift)
+    );
+    let late = Team {
+        until: 2880,
+        ..only
+    };
+    assert_eq!(rt; day.set_team(0, late), Ok(()));
+    let built = day.finish()?;
+    assert!(rt; built.teams() == 1);
+    assert_eq!(rt; *built.team(0), late);
+    Ok(())
+}
+
+#[test]
+fn changes_tasks(rt: HostRuntime) -> Result<(), Fail> {
+    let mut day = small_day(rt.alloc())?;
+    let first = task(Name::read(b"A").ok_or("name")?);
+    let second = task(numbered(2).ok_or("name")?);
+    let third = task(numbered(3).ok_or("name")?);
+    day.task(second)?;
+    day.task(third)?;
+    assert!(rt; day.tasks() == 3);
+    day.drop_task(1);
+    let built = day.finish()?;
+    assert!(rt; built.tasks() == 2);
+    assert_eq!(rt; *built.task(0), first);
+    assert_eq!(rt; *built.task(1), third);
+    Ok(())
+}
+
+#[test]
+fn replaces_tasks(rt: HostRuntime) -> Result<(), Fail> {
+    let mut day = Builder::new(rt.alloc());
+    let only = Task {
+        place: 0,
+        ..task(numbered(1).ok_or("name")?)
+    };
+    day.place(numbered(0).ok_or("name")?)?;
+    day.task(only)?;
+    assert_eq!(rt;
+        day.set_task(
+            0,
+            Task {
+                place: 1,
+                minutes: 0,
+                ..only
+            }
+        ),
+        Err(BuildFault::NoPlace)
+    );
+    assert_eq!(rt;
+        day.set_task(
+            0,
+            Task {
+                latest: 1141,
+                teams: 9,
+                ..only
+            }
+        ),
+        Err(BuildFault::BadWindow)
+    );
+    assert_eq!(rt;
+        day.set_task(0, Task { teams: 9, ..only }),
+        Err(BuildFault::BadTeams)
+    );
+    let wide = Task {
+        latest: 1140,
+        teams: 8,
+        ..only
+    };
+    assert_eq!(rt; day.set_task(0, wide), Ok(()));
+    let built = day.finish()?;
+    assert!(rt; built.tasks() == 1);
+    assert_eq!(rt; *built.task(0), wide);
+    Ok(())
+}
+
+#[test]
+fn takes_parts(rt: HostRuntime) -> Result<(), Fail> {
+    let alloc = rt.alloc();
+    let empty = Instance::of_parts(
+        Vec::new(alloc),
+        Vec::new(alloc),
+        Vec::new(alloc),
+        Vec::new(alloc),
+    );
+    assert_eq!(rt; (empty.places(), empty.teams(), empty.tasks()), (0, 0, 0));
+    Ok(())
+}
