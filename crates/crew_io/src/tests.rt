@@ -76,6 +76,7 @@ fn writes_through_to_std(rt: HostRuntime) -> Result<(), Fail> {
     let mut sink = StdSink::new(BufWriter::new(rt.alloc(), &mut bytes)?);
     assert_eq!(rt; put_all(&mut sink, b"abc"), Ok(()));
     assert_eq!(rt; sink.flush(), Ok(()));
+    drop(sink);
     assert_eq!(rt; bytes.as_slice(), b"abc".as_slice());
     Ok(())
 }

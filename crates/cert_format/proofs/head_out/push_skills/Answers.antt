@@ -1,9 +1,9 @@
-use Rattle.std.proofs.Common.{◌≡◌, ◌+◌, ◌++◌, ◌∷◌, [], ℕ, map, ap, sym, subst, ◌∙◌, arith}
+use Rattle.std.proofs.Common.{◌≡◌, ◌++◌, map, ap, sym, subst, ◌∙◌, arith}
 use Rattle.std.specs.Fmt.{decimal}
 use Rattle.std.proofs.lemmas.Nat.Bits.{shr_and_one}
 use Rattle.arrayvec.specs.ArrayVec.{array_vec_len}
 use Rattle.cert_format.specs.Parts.{text_of}
-use Rattle.cert_format.proofs.Heads.{skills_below, skill_more, skill_not, skill_pushed}
+use Rattle.cert_format.proofs.Heads.{skills_below, skill_not, skill_pushed}
 use Rattle.cert_format.proofs.head_out.push_skills.Goals as goal
 use Rattle.cert_format.proofs.head_out.push_skills.Goals.{then-skills-s-eq1, else-skills-s-eq1}
 
