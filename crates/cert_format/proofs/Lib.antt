@@ -4,3 +4,5 @@ pub mod Fronts
 pub mod Rests
 pub mod Exits
 pub mod Rows
+pub mod Accepted
+pub mod Wrong

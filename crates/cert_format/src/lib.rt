@@ -8,6 +8,7 @@ mod head;
 pub mod kinds;
 pub mod lines_out;
 pub mod numbers;
+mod ranges;
 mod shape;
 #[cfg(test)]
 mod tests;
