@@ -5,3 +5,5 @@ pub mod Rests
 pub mod Exits
 pub mod Heads
 pub mod Rows
+pub mod Accepted
+pub mod Wrong

@@ -4,9 +4,10 @@ ghost use Rattle.dossier_terms.specs.Rules.{Begins};
 ghost use Rattle.cert_format.specs.Lines.{ReadsLine};
 
 use crate::kinds::{Expect, LineFault, LineKind};
-use crate::numbers::{read_fields, read_natural, read_rest};
+use crate::numbers::read_rest;
+use crate::ranges::MINUTE;
 use crate::shape::{begins, has_shape, has_shape_from, is_word};
-use field_table::LineWords;
+use field_table::{LineWords, fields};
 
 pub(crate) fn read_pool<'a>(words: LineWords<'a>) -> Result<LineKind<'a>, LineFault>
     ensures { ReadsLine Expect.Pool words.entry result }
@@ -14,12 +15,10 @@ pub(crate) fn read_pool<'a>(words: LineWords<'a>) -> Result<LineKind<'a>, LineFa
     if !has_shape(&words, b"pool", 2) {
         return Err(LineFault::Shape);
     }
-    let Some(kept) = read_natural(&words, 1) else {
-        return Err(LineFault::Number);
-    };
-    let Some(columns) = read_natural(&words, 2) else {
-        return Err(LineFault::Number);
-    };
+    fields!(
+        &words, "pool" => kept: Number(0, i64::MAX), columns: Number(0, i64::MAX);
+        else fault => LineFault::Number
+    );
     Ok(LineKind::Pool { kept, columns })
 }
 
@@ -29,9 +28,12 @@ pub(crate) fn read_plan<'a>(words: LineWords<'a>, tasks: u32) -> Result<LineKind
     if !has_shape(&words, b"plan", 2) {
         return Err(LineFault::Shape);
     }
-    let past = tasks as u64 + 1;
-    let [unassigned, bound] = read_fields(&words, 1, &[(0, past), (0, past)])?;
-    Ok(LineKind::Plan { unassigned, bound })
+    let most = tasks as i64;
+    fields!(&words, "plan" => unassigned: Number(0, most), bound: Number(0, most); else fault => LineFault::Number);
+    Ok(LineKind::Plan {
+        unassigned: unassigned as u32,
+        bound: bound as u32,
+    })
 }
 
 pub(crate) fn read_job<'a>(
@@ -44,9 +46,14 @@ pub(crate) fn read_job<'a>(
     if !has_shape_from(&words, b"do", 2) {
         return Err(LineFault::Shape);
     }
-    let [task, start] = read_fields(&words, 1, &[(0, tasks as u64), (0, 2881)])?;
+    let last = tasks as i64 - 1;
+    fields!(&words, "do" => task: Number(0, last), start: MINUTE; else fault => LineFault::Number);
     let teams = read_rest(words, 3, teams)?;
-    Ok(LineKind::Job { task, start, teams })
+    Ok(LineKind::Job {
+        task: task as u32,
+        start: start as u32,
+        teams,
+    })
 }
 
 pub(crate) fn read_tree<'a>(words: LineWords<'a>) -> Result<LineKind<'a>, LineFault>
@@ -55,13 +62,15 @@ pub(crate) fn read_tree<'a>(words: LineWords<'a>) -> Result<LineKind<'a>, LineFa
     if !has_shape(&words, b"tree", 4) {
         return Err(LineFault::Shape);
     }
-    let bounds = [(0, 100_001), (0, 100_001), (0, 100_002), (0, 100_001)];
-    let [splits, closed, left_open, depth] = read_fields(&words, 1, &bounds)?;
+    fields!(
+        &words, "tree" => splits: Number(0, 100_000), closed: Number(0, 100_000), left_open: Number(0, 100_001), depth: Number(0, 100_000);
+        else fault => LineFault::Number
+    );
     Ok(LineKind::Tree {
-        splits,
-        closed,
-        left_open,
-        depth,
+        splits: splits as u32,
+        closed: closed as u32,
+        left_open: left_open as u32,
+        depth: depth as u32,
     })
 }
 
@@ -72,8 +81,12 @@ fn read_window<'a>(words: LineWords<'a>, tasks: u32) -> Result<LineKind<'a>, Lin
     if !has_shape(&words, b"window", 2) {
         return Err(LineFault::Shape);
     }
-    let [task, cut] = read_fields(&words, 1, &[(0, tasks as u64), (0, 2881)])?;
-    Ok(LineKind::Window { task, cut })
+    let last = tasks as i64 - 1;
+    fields!(&words, "window" => task: Number(0, last), cut: MINUTE; else fault => LineFault::Number);
+    Ok(LineKind::Window {
+        task: task as u32,
+        cut: cut as u32,
+    })
 }
 
 fn read_pair<'a>(words: LineWords<'a>, teams: u32, tasks: u32) -> Result<LineKind<'a>, LineFault>
@@ -83,8 +96,16 @@ fn read_pair<'a>(words: LineWords<'a>, teams: u32, tasks: u32) -> Result<LineKin
     if !has_shape(&words, b"pair", 2) {
         return Err(LineFault::Shape);
     }
-    let [team, task] = read_fields(&words, 1, &[(0, teams as u64), (0, tasks as u64)])?;
-    Ok(LineKind::Pair { team, task })
+    let last_team = teams as i64 - 1;
+    let last_task = tasks as i64 - 1;
+    fields!(
+        &words, "pair" => team: Number(0, last_team), task: Number(0, last_task);
+        else fault => LineFault::Number
+    );
+    Ok(LineKind::Pair {
+        team: team as u32,
+        task: task as u32,
+    })
 }
 
 fn read_leaf<'a>(words: LineWords<'a>) -> Result<LineKind<'a>, LineFault>

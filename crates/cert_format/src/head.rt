@@ -2,10 +2,10 @@
 ghost use Rattle.cert_format.specs.Lines.{ReadsLine};
 
 use crate::kinds::{Expect, LineFault, LineKind};
-use crate::numbers::{read_fields, read_rest};
+use crate::numbers::read_rest;
+use crate::ranges::{MINUTE, NAME, name_of, named};
 use crate::shape::{has_shape, has_shape_from, is_word};
-use crew_terms::Name;
-use field_table::{LineWords, Words};
+use field_table::{LineWords, fields};
 
 pub(crate) fn read_form<'a>(words: LineWords<'a>) -> Result<LineKind<'a>, LineFault>
     ensures { ReadsLine Expect.Form words.entry result }
@@ -25,16 +25,15 @@ pub(crate) fn read_size<'a>(words: LineWords<'a>) -> Result<LineKind<'a>, LineFa
     if !has_shape(&words, b"size", 4) {
         return Err(LineFault::Shape);
     }
-    let [teams, tasks, places, nodes] = read_fields(
-        &words,
-        1,
-        &[(0, 65), (0, 401), (0, 201), (0, 100_001)],
-    )?;
+    fields!(
+        &words, "size" => teams: Number(0, 64), tasks: Number(0, 400), places: Number(0, 200), nodes: Number(0, 100_000);
+        else fault => LineFault::Number
+    );
     Ok(LineKind::Size {
-        teams,
-        tasks,
-        places,
-        nodes,
+        teams: teams as u32,
+        tasks: tasks as u32,
+        places: places as u32,
+        nodes: nodes as u32,
     })
 }
 
@@ -44,9 +43,8 @@ pub(crate) fn read_place<'a>(words: LineWords<'a>) -> Result<LineKind<'a>, LineF
     if !has_shape(&words, b"place", 1) {
         return Err(LineFault::Shape);
     }
-    let Some(name) = Name::read(words.word(1)) else {
-        return Err(LineFault::Name);
-    };
+    fields!(&words, "place" => _length: NAME; else fault => LineFault::Name);
+    let name = name_of(&words);
     Ok(LineKind::Place { name })
 }
 
@@ -66,16 +64,18 @@ pub(crate) fn read_team<'a>(words: LineWords<'a>, places: u32) -> Result<LineKin
     if !has_shape_from(&words, b"team", 4) {
         return Err(LineFault::Shape);
     }
-    let Some(name) = Name::read(words.word(1)) else {
-        return Err(LineFault::Name);
-    };
-    let [home, from, until] = read_fields(&words, 2, &[(0, places as u64), (0, 2881), (0, 2881)])?;
+    let last = places as i64 - 1;
+    fields!(
+        &words, "team" => _length: NAME, home: Number(0, last), from: MINUTE, until: MINUTE;
+        else fault => named(fault)
+    );
+    let name = name_of(&words);
     let skills = read_rest(words, 5, 64)?;
     Ok(LineKind::Team {
         name,
-        home,
-        from,
-        until,
+        home: home as u32,
+        from: from as u32,
+        until: until as u32,
         skills,
     })
 }
@@ -86,19 +86,21 @@ pub(crate) fn read_task<'a>(words: LineWords<'a>, places: u32) -> Result<LineKin
     if !has_shape_from(&words, b"task", 6) {
         return Err(LineFault::Shape);
     }
-    let Some(name) = Name::read(words.word(1)) else {
-        return Err(LineFault::Name);
-    };
-    let bounds = [(0, places as u64), (0, 2881), (0, 2881), (1, 2881), (1, 9)];
-    let [place, earliest, latest, minutes, teams] = read_fields(&words, 2, &bounds)?;
+    let last = places as i64 - 1;
+    fields!(
+        &words, "task" => _length: NAME, place: Number(0, last), earliest: MINUTE, latest: MINUTE,
+            minutes: Number(1, 2880), teams: Number(1, 8);
+        else fault => named(fault)
+    );
+    let name = name_of(&words);
     let skills = read_rest(words, 7, 64)?;
     Ok(LineKind::Task {
         name,
-        place,
-        earliest,
-        latest,
-        minutes,
-        teams,
+        place: place as u32,
+        earliest: earliest as u32,
+        latest: latest as u32,
+        minutes: minutes as u32,
+        teams: teams as u32,
         skills,
     })
 }

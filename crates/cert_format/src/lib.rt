@@ -9,6 +9,7 @@ pub mod head_out;
 pub mod kinds;
 pub mod lines_out;
 pub mod numbers;
+mod ranges;
 mod shape;
 #[cfg(test)]
 mod tests;

@@ -1,13 +1,24 @@
-use Rattle.std.proofs.Common.{◌∙◌, arith}
-use Rattle.std.proofs.lemmas.Result.{err_from_is_err_and}
-use Rattle.cert_format.specs.declared.kinds.Expect.TheVariants.{Node}
+use Rattle.std.proofs.Common.{refl, arith, ◌∷◌, []}
+use Rattle.std.proofs.lemmas.Int.{ints}
+use Rattle.std.specs.Prelude.{codes}
 use Rattle.cert_format.specs.Lines.{PairShape}
-use Rattle.cert_format.proofs.Exits.{number_told}
-use Rattle.cert_format.proofs.Rows.{pair_wrong}
+use Rattle.cert_format.proofs.Accepted.{number_field, none_read, line_of_row, last_below}
+use Rattle.cert_format.proofs.Wrong.{pair_wrong}
 use Rattle.cert_format.proofs.body.read_pair.Goals as goal
 
-pub returns-in_err-team : goal.returns-in_err-team
-returns-in_err-team c =
-    let p = err_from_is_err_and c.from_residual.result c.from_residual.ensures.1 in
-    let h = c.in_err-team.ensures in
-    number_told (Node c.args.teams c.args.tasks) c.args.words c.from_residual.result p.0 p.1 (p.2 ∙ h.0) (PairShape c.if-not-has_shape.ensures) tt (pair_wrong c.args.teams c.args.tasks c.args.words (omega arith) (omega arith) c.if-not-has_shape.ensures h.1)
+pub returns : goal.returns
+returns c = (
+  PairShape c.if-not-has_shape.ensures,
+  tt,
+  pair_wrong c.args.teams c.args.tasks c.args.words _ _ (last_below c.args.teams (omega arith)) (last_below c.args.tasks (omega arith)) (omega arith) (omega arith) c.if-not-has_shape.ensures
+      (none_read _ c.args.words c.in-Err-fields.fault c.in-Err-fields.ensures.back),
+)
+
+pub returns-2 : goal.returns-2
+returns-2 c =
+    let row = line_of_row (number_field 0 _ ∷ number_field 0 _ ∷ []) (codes "pair") c.args.words c.in-Ok-fields.field-0 (refl, omega (arith, ints), (refl, omega (arith, ints), tt)) c.if-not-has_shape.ensures c.in-Ok-fields.ensures.exact in
+    let team = row.0.2 in
+    let task = row.0.4.2 in
+    let teams = last_below c.args.teams (omega arith) in
+    let tasks = last_below c.args.tasks (omega arith) in
+    (omega (arith, ints), omega (arith, ints), row.1)

@@ -1,17 +1,18 @@
-use Rattle.std.proofs.Common.{◌∙◌}
-use Rattle.std.proofs.lemmas.Result.{err_from_is_err_and}
-use Rattle.cert_format.specs.declared.kinds.Expect.TheVariants.{Size}
-use Rattle.cert_format.proofs.Exits.{number_told}
-use Rattle.cert_format.proofs.Rows.{size_ok, size_wrong, four_is, length_within, size_bounds}
+use Rattle.std.proofs.Common.{refl, arith}
+use Rattle.std.proofs.lemmas.Int.{ints}
+use Rattle.std.specs.Prelude.{codes}
+use Rattle.cert_format.proofs.Accepted.{none_read, line_of_row}
+use Rattle.cert_format.proofs.Wrong.{size_fields, size_wrong}
 use Rattle.cert_format.proofs.head.read_size.Goals as goal
 
-pub returns-in_err-teams : goal.returns-in_err-teams
-returns-in_err-teams c =
-    let p = err_from_is_err_and c.from_residual.result c.from_residual.ensures.1 in
-    let h = c.in_err-teams.ensures in
-    number_told Size c.args.words c.from_residual.result p.0 p.1 (p.2 ∙ h.0) c.if-not-has_shape.ensures tt (size_wrong c.args.words h.1)
-
 pub returns : goal.returns
-returns c =
-    let h = c.in_ok-teams.ensures in
-    size_ok c.args.words c.in_ok-teams.field-0 _ _ _ _ (four_is c.in_ok-teams.field-0 (length_within size_bounds c.in_ok-teams.field-0 h.0)) c.if-not-has_shape.ensures h.0 h.1
+returns c = (c.if-not-has_shape.ensures, tt, size_wrong c.args.words (none_read size_fields c.args.words c.in-Err-fields.fault c.in-Err-fields.ensures.back))
+
+pub returns-2 : goal.returns-2
+returns-2 c =
+    let row = line_of_row size_fields (codes "size") c.args.words c.in-Ok-fields.field-0 (refl, omega (arith, ints), (refl, omega (arith, ints), (refl, omega (arith, ints), (refl, omega (arith, ints), tt)))) c.if-not-has_shape.ensures c.in-Ok-fields.ensures.exact in
+    let teams = row.0.2 in
+    let tasks = row.0.4.2 in
+    let places = row.0.4.4.2 in
+    let nodes = row.0.4.4.4.2 in
+    (record { teams = omega (arith, ints); tasks = omega (arith, ints); places = omega (arith, ints); nodes = omega (arith, ints) }, row.1)

@@ -1,25 +1,44 @@
-use Rattle.std.proofs.Common.{◌≡◌, [], get_or, sym, ◌∙◌, arith, subst}
-use Rattle.crew_terms.specs.Name.{IsName}
-use Rattle.cert_format.proofs.Numerals.{word_is}
-use Rattle.std.proofs.lemmas.Result.{err_from_is_err_and}
+use Rattle.std.proofs.Common.{refl, arith}
+use Rattle.std.proofs.lemmas.Int.{ints}
+use Rattle.std.specs.Prelude.{codes}
 use Rattle.cert_format.specs.declared.kinds.Expect.TheVariants.{Task}
-use Rattle.cert_format.proofs.Exits.{number_told}
-use Rattle.cert_format.proofs.Rows.{task_wrong, task_ok, five_is, length_within, task_bounds}
+use Rattle.cert_format.proofs.Exits.{named_told}
+use Rattle.cert_format.proofs.Rows.{longer}
+use Rattle.cert_format.proofs.Accepted.{none_read, named_line_of_row, last_below}
+use Rattle.cert_format.proofs.Wrong.{task_fields, task_wrong}
 use Rattle.cert_format.proofs.head.read_task.Goals as goal
-
-pub returns-in_err-place : goal.returns-in_err-place
-returns-in_err-place c =
-    let p = err_from_is_err_and c.from_residual.result c.from_residual.ensures.1 in
-    let h = c.in_err-place.ensures in
-    number_told (Task c.args.places) c.args.words c.from_residual.result p.0 p.1 (p.2 ∙ h.0) c.if-not-has_shape_from.ensures (subst IsName (sym (word_is c.args.words 1 c.word.result.now c.word.ensures)) (c.in-Some.ensures).0) (task_wrong c.args.places c.args.words (omega arith) h.1)
 
 pub returns : goal.returns
 returns c =
-    let ws = c.args.words in
-    let ns = c.in_ok-place.field-0 in
-    let fields = c.in_ok-place.ensures in
-    let name = c.in-Some.ensures in
-    let named : IsName c.in-Some.name = subst IsName (sym name.1) name.0 in
-    let at : c.in-Some.name ≡ get_or ws 1 [] = name.1 ∙ sym (word_is ws 1 c.word.result.now c.word.ensures) in
-    task_ok c.args.places ws c.in-Some.name ns _ _ _ _ _ c.in_ok-skills.skills (five_is ns (length_within (task_bounds c.args.places) ns fields.0))
-    c.if-not-has_shape_from.ensures named at fields.0 fields.1 c.in_ok-skills.ensures
+    named_told (Task c.args.places) c.args.words (task_fields _) c.in-Err-fields.fault c.named.result c.if-not-has_shape_from.ensures (λ n. n) (λ n. n)
+    (longer (codes "task") 6 c.args.words c.if-not-has_shape_from.ensures) c.in-Err-fields.ensures.exact c.named.ensures.name c.named.ensures.number
+    (task_wrong c.args.places c.args.words _ (last_below c.args.places (omega arith)) (omega arith) (none_read _ c.args.words c.in-Err-fields.fault c.in-Err-fields.ensures.back))
+
+pub returns-2 : goal.returns-2
+returns-2 c =
+    let rest = c.in_ok-skills.ensures in
+    let row = named_line_of_row (task_fields _) (codes "task") c.name_of-name.result c.args.words c.in-Ok-fields.field-0 rest.0 (refl, omega (arith, ints), (refl, omega (arith, ints), (refl, omega (arith, ints), (refl, omega (arith, ints), (refl, omega (arith, ints), tt))))) c.if-not-has_shape_from.ensures c.name_of-name.ensures c.in-Ok-fields.ensures.exact rest.2.spelled in
+    let place = row.1.2 in
+    let earliest = row.1.4.2 in
+    let latest = row.1.4.4.2 in
+    let least = row.1.4.4.4.1 in
+    let minutes = row.1.4.4.4.2 in
+    let some = row.1.4.4.4.4.1 in
+    let teams = row.1.4.4.4.4.2 in
+    let places = last_below c.args.places (omega arith) in (
+      rest.0,
+      rest.1,
+      record {
+        name = row.0;
+        place = omega (arith, ints);
+        earliest = omega (arith, ints);
+        latest = omega (arith, ints);
+        some_minutes = omega (arith, ints);
+        minutes = omega (arith, ints);
+        some_teams = omega (arith, ints);
+        teams = omega (arith, ints);
+        none = refl;
+        skills = rest.2.below;
+      },
+      row.2,
+    )

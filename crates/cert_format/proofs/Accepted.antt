@@ -1,0 +1,206 @@
+-- numbers and names that a row of fields accepts
+use Rattle.std.proofs.Common.{◌≡◌, ◌≢◌, ◌≤◌, ◌<◌, ◌+◌, ◌^◌, ◌++◌, ◌⊎◌, inl, inr, [], ◌∷◌, ℕ, zero, suc, ℤ, pos, negsuc, ◌≤ℤ◌, ◌+ℤ◌, ◌-ℤ◌, List, Ok, Err, length, map, take, drop, drop-cons, get_or, ap, sym, refl, ◌∙◌, subst, arith, to_z, of_z, w64, w32, Fits, nat_abs, T}
+use Rattle.std.specs.Prelude.{FitsSigned}
+use Rattle.std.specs.Int.Signed.{non_neg}
+use Rattle.std.proofs.lemmas.Int.{ints, to_z_pos, to_z-of_z}
+use Rattle.std.proofs.lemmas.List.{drop_all}
+use Rattle.std.specs.Fmt.{decimal}
+use Rattle.crew_terms.specs.Words.{Words}
+use Rattle.crew_terms.specs.Name.{IsName}
+use Rattle.dossier_terms.specs.Rules.{IsShape, IsShapeFrom}
+use Rattle.cert_format.proofs.Rows.{whole_line, longer_line, named_line}
+use Rattle.field_table.specs.Fields.{Spells, Accepts, Refuses, AllAccept, AreValues, IsFirstFault}
+use Rattle.field_table.specs.Fields.IsFirstFault.{TooFew, Refused}
+use Rattle.field_table.specs.declared.fields.Cause.{Cause}
+use Rattle.field_table.specs.declared.fields.Cause.TheVariants.{Count, Spelling, Range}
+use Rattle.field_table.specs.declared.fields.Kind.{Kind}
+use Rattle.field_table.specs.declared.fields.Kind.TheVariants.{Number, Name}
+use Rattle.field_table.specs.declared.fields.Field.{Field}
+use Rattle.field_table.specs.declared.fields.FieldFault.{FieldFault}
+
+-- each number lies in the range of its field, which is of numbers
+abbrev pub AreIn : List Field → List ℕ → Type 0
+AreIn [] [] = Unit {0}
+AreIn (f ∷ fs) (n ∷ ns) = (f.kind ≡ Number) × (f.low ≤ℤ pos n) × (pos n ≤ℤ f.high) × (n < 2 ^ 63) × AreIn fs ns
+AreIn _ _ = ⊥
+
+pub number_accepted : (f : Field) (n : ℕ) → f.kind ≡ Number → f.low ≤ℤ pos n → pos n ≤ℤ f.high → n < 2 ^ 63 → Accepts f (decimal n) (pos n)
+number_accepted f n kind low high small = record {
+  spelled = subst (λ (k : Kind). Spells k (decimal n) (pos n)) (sym kind) (record { sfits = small }, refl);
+  low = low;
+  high = high;
+}
+
+pub front_accepted : (fs : List Field) (ns : List ℕ) (rest : Words) → AreIn fs ns → AllAccept fs (take (length fs) (map decimal ns ++ rest)) (map pos ns)
+front_accepted [] [] rest a = tt
+front_accepted (f ∷ fs) (n ∷ ns) rest a = (number_accepted f n a.0 a.1 a.2 a.3, front_accepted fs ns rest a.4)
+front_accepted [] (n ∷ ns) rest a = absurd a
+front_accepted (f ∷ fs) [] rest a = absurd a
+
+long : (fs : List Field) (ns : List ℕ) (rest : Words) → AreIn fs ns → length fs ≤ length (map decimal ns ++ rest)
+long [] ns rest a = omega arith
+long (f ∷ fs) (n ∷ ns) rest a = let l = long fs ns rest a.4 in omega arith
+long (f ∷ fs) [] rest a = absurd a
+
+-- a line of one word, these numbers and more
+pub numbers_read : (fs : List Field) (w : List ℕ) (ns : List ℕ) (rest : Words) → AreIn fs ns → AreValues fs (w ∷ (map decimal ns ++ rest)) (map pos ns)
+numbers_read fs w ns rest a = record { enough = (let l = long fs ns rest a in omega arith); accepted = front_accepted fs ns rest a }
+
+-- where a fault is told, no values are read
+pub none_read : (fs : List Field) (ws : Words) (fault : FieldFault) → ((values : List ℤ) → AreValues fs ws values → Err fault ≡ Ok values)
+    → (values : List ℤ) → AreValues fs ws values → ⊥
+none_read fs ws fault back values a = let e : Err fault ≡ Ok values = back values a in cc
+
+-- a field of numbers, and a field of names
+abbrev pub number_field : ℕ → ℤ → Field
+number_field low high = record { low = pos low; high = high; kind = Number }
+
+abbrev pub name_field : Field
+name_field = record { low = pos 1; high = pos 32; kind = Name }
+
+-- the number that a value is when it is cast
+abbrev pub cast : ℤ → ℕ
+cast z = nat_abs (to_z w64 (of_z w64 z))
+
+-- the values from place k on
+abbrev pub firsts : ℕ → ℕ → List ℤ → List ℤ
+firsts zero k zs = []
+firsts (suc n) k zs = get_or zs k (pos 0) ∷ firsts n (suc k) zs
+
+cast_pos : (n : ℕ) → n < 2 ^ 63 → cast (pos n) ≡ n
+cast_pos n h = ap nat_abs (to_z_pos w64 n h)
+
+-- the fields are of numbers that are not below zero
+abbrev pub AreNatural : List Field → Type 0
+AreNatural [] = Unit {0}
+AreNatural (f ∷ fs) = (f.kind ≡ Number) × (pos 0 ≤ℤ f.low) × AreNatural fs
+
+pub number_read : (f : Field) (w : List ℕ) (z : ℤ) → f.kind ≡ Number → pos 0 ≤ℤ f.low → Accepts f w z
+    → (f.low ≤ℤ pos (cast z)) × (pos (cast z) ≤ℤ f.high) × (cast z < 2 ^ 63) × (w ≡ decimal (cast z))
+number_read f w (pos n) kind low a =
+    let s : Spells Number w (pos n) = subst (λ (k : Kind). Spells k w (pos n)) kind a.spelled in
+    let small : n < 2 ^ 63 = s.0.sfits in
+    let e : n ≡ cast (pos n) = sym (cast_pos n small) in (
+      subst (λ m. f.low ≤ℤ pos m) e a.low,
+      subst (λ m. pos m ≤ℤ f.high) e a.high,
+      subst (λ m. m < 2 ^ 63) e small,
+      s.1 ∙ ap decimal e,
+    )
+number_read f w (negsuc n) kind low a = let l = a.low in absurd (omega (arith, ints))
+
+pub numbers_of : (fs : List Field) (ws : Words) (zs : List ℤ) → AreNatural fs → AllAccept fs ws zs → AreIn fs (map cast zs) × (ws ≡ map decimal (map cast zs))
+numbers_of [] [] [] n a = (tt, refl)
+numbers_of (f ∷ fs) (w ∷ ws) (z ∷ zs) n a =
+    let one = number_read f w z n.0 n.1 a.0 in
+    let more = numbers_of fs ws zs n.2 a.1 in
+    ((n.0, one.0, one.1, one.2, more.0), ap (λ x. x ∷ ws) one.3 ∙ ap (λ xs. decimal (cast z) ∷ xs) more.1)
+numbers_of [] [] (z ∷ zs) n a = absurd a
+numbers_of [] (w ∷ ws) zs n a = absurd a
+numbers_of (f ∷ fs) [] zs n a = absurd a
+numbers_of (f ∷ fs) (w ∷ ws) [] n a = absurd a
+
+one_each : (fs : List Field) (ws : Words) (zs : List ℤ) → AllAccept fs ws zs → length zs ≡ length fs
+one_each [] [] [] a = refl
+one_each (f ∷ fs) (w ∷ ws) (z ∷ zs) a = let l = one_each fs ws zs a.1 in omega arith
+one_each [] [] (z ∷ zs) a = absurd a
+one_each [] (w ∷ ws) zs a = absurd a
+one_each (f ∷ fs) [] zs a = absurd a
+one_each (f ∷ fs) (w ∷ ws) [] a = absurd a
+
+firsts_from : (n k : ℕ) (zs : List ℤ) → length zs ≡ k + n → drop k zs ≡ firsts n k zs
+firsts_from zero k zs l = drop_all k zs (omega arith)
+firsts_from (suc n) k zs l =
+    let below : k < length zs = omega arith in
+    drop-cons zs k (pos 0) below ∙ ap (λ xs. get_or zs k (pos 0) ∷ xs) (firsts_from n (suc k) zs (omega arith))
+
+-- what a row of numbers that are not below zero reads
+pub row_of : (fs : List Field) (ws : Words) (zs : List ℤ) → AreNatural fs → AreValues fs ws zs
+    → AreIn fs (map cast (firsts (length fs) 0 zs)) × (take (length fs) (drop 1 ws) ≡ map decimal (map cast (firsts (length fs) 0 zs)))
+row_of fs ws zs n a =
+    let e : zs ≡ firsts (length fs) 0 zs = firsts_from (length fs) 0 zs (let l = one_each fs (take (length fs) (drop 1 ws)) zs a.accepted in omega arith) in
+    subst (λ (xs : List ℤ). AreIn fs (map cast xs) × (take (length fs) (drop 1 ws) ≡ map decimal (map cast xs))) e
+    (numbers_of fs (take (length fs) (drop 1 ws)) zs n a.accepted)
+
+-- and a row whose first field is a name
+named : (fs : List Field) (ws : Words) (zs : List ℤ) → AreNatural fs → AllAccept (name_field ∷ fs) (take (suc (length fs)) (drop 1 ws)) zs
+    → IsName (get_or ws 1 []) × AreIn fs (map cast (drop 1 zs)) × (take (length fs) (drop 2 ws) ≡ map decimal (map cast (drop 1 zs)))
+named fs [] zs n a = absurd a
+named fs (w ∷ []) zs n a = absurd a
+named fs (w ∷ x ∷ ws) [] n a = absurd a
+named fs (w ∷ x ∷ ws) (z ∷ zs) n a = let more = numbers_of fs (take (length fs) ws) zs n a.1 in (a.0.spelled.0, more.0, more.1)
+
+pub named_row_of : (fs : List Field) (ws : Words) (zs : List ℤ) → AreNatural fs → AreValues (name_field ∷ fs) ws zs
+    → IsName (get_or ws 1 []) × AreIn fs (map cast (firsts (length fs) 1 zs)) × (take (length fs) (drop 2 ws) ≡ map decimal (map cast (firsts (length fs) 1 zs)))
+named_row_of fs ws zs n a =
+    let l = one_each (name_field ∷ fs) (take (suc (length fs)) (drop 1 ws)) zs a.accepted in
+    let e : drop 1 zs ≡ firsts (length fs) 1 zs = firsts_from (length fs) 1 zs (omega arith) in
+    subst (λ (xs : List ℤ). IsName (get_or ws 1 []) × AreIn fs (map cast xs) × (take (length fs) (drop 2 ws) ≡ map decimal (map cast xs))) e (named fs ws zs n a.accepted)
+
+-- a cast value is a number that fits
+pub cast_fits : (z : ℤ) (n : ℕ) → FitsSigned w64 z → pos 0 ≤ℤ z → z ≤ℤ pos n → n < 2 ^ 32 → T (non_neg (to_z w64 (of_z w64 z))) × Fits w32 (cast z)
+cast_fits (pos m) n fit low high small =
+    let s = fit.sfits in
+    rw to_z-of_z (tt, record { fits = omega (arith, ints) })
+cast_fits (negsuc m) n fit low high small = absurd (omega (arith, ints))
+
+-- a line of one word, a name, these numbers and more
+pub named_read : (fs : List Field) (w name : List ℕ) (ns : List ℕ) (rest : Words) → IsName name → AreIn fs ns
+    → AreValues (name_field ∷ fs) (w ∷ name ∷ (map decimal ns ++ rest)) (pos (length name) ∷ map pos ns)
+named_read fs w name ns rest is a = record {
+  enough = (let l = long fs ns rest a in omega arith);
+  accepted = (record { spelled = (is, refl); low = (let s = is.some in omega (arith, ints)); high = (let s = is.short in omega (arith, ints)) }, front_accepted fs ns rest a);
+}
+
+name_accepted : (w : List ℕ) → IsName w → Accepts name_field w (pos (length w))
+name_accepted w is = record { spelled = (is, refl); low = (let s = is.some in omega (arith, ints)); high = (let s = is.short in omega (arith, ints)) }
+
+no_name : (w : List ℕ) (cause : Cause) → Refuses name_field w cause → IsName w → ⊥
+no_name w Count r is = r
+no_name w Spelling r is = r (pos (length w)) (is, refl)
+no_name w Range (y, s, out) is = out (subst (Accepts name_field w) (sym s.1) (name_accepted w is))
+
+first_named : (fs : List Field) (ws : Words) (k : ℕ) (zs : List ℤ) → AllAccept (take (suc k) (name_field ∷ fs)) (take (suc k) (drop 1 ws)) zs → IsName (get_or ws 1 [])
+first_named fs [] k zs a = absurd a
+first_named fs (w ∷ []) k zs a = absurd a
+first_named fs (w ∷ x ∷ ws) k [] a = absurd a
+first_named fs (w ∷ x ∷ ws) k (z ∷ zs) a = a.0.spelled.0
+
+-- a fault at the first field is that of the name, and else the name is one
+pub fault_of_name : (fs : List Field) (ws : Words) (fault : FieldFault) → suc (length fs) < length ws → IsFirstFault (name_field ∷ fs) ws fault
+    → ((fault.place ≡ 1) × (IsName (get_or ws 1 []) → ⊥)) ⊎ ((fault.place ≢ 1) × IsName (get_or ws 1 []))
+fault_of_name fs ws fault long (TooFew few is) = absurd (omega arith)
+fault_of_name fs ws fault long (Refused enough zero place field at refused values accepted) =
+    inl (place, no_name (get_or ws 1 []) fault.cause (subst (λ (f : Field). Refuses f (get_or ws 1 []) fault.cause) (let e : field ≡ name_field = cc in e) refused))
+fault_of_name fs ws fault long (Refused enough (suc k) place field at refused values accepted) =
+    inr ((λ e. absurd (omega arith)), first_named fs ws k values accepted)
+
+-- the last number below a count
+pub last_below : (n : ℕ) → n < 2 ^ 32 → to_z w64 (of_z w64 (to_z w64 n -ℤ pos 1)) +ℤ pos 1 ≡ pos n
+last_below n h = omega (arith, ints)
+
+-- the line of one word and the numbers that its row reads
+pub line_of_row : (fs : List Field) (w : List ℕ) (ws : Words) (zs : List ℤ) → AreNatural fs → IsShape w (length fs) ws → AreValues fs ws zs
+    → AreIn fs (map cast (firsts (length fs) 0 zs)) × (ws ≡ w ∷ map decimal (map cast (firsts (length fs) 0 zs)))
+line_of_row fs w ws zs n shape a =
+    let row = row_of fs ws zs n a in
+    (row.0, whole_line w (length fs) ws (map cast (firsts (length fs) 0 zs)) shape row.1)
+
+-- the line of one word and the numbers that its row reads, and more of them
+pub longer_line_of_row : (fs : List Field) (w : List ℕ) (ws : Words) (zs : List ℤ) (ss : List ℕ) → AreNatural fs → IsShapeFrom w (length fs) ws → AreValues fs ws zs
+    → drop (suc (length fs)) ws ≡ map decimal ss
+    → AreIn fs (map cast (firsts (length fs) 0 zs)) × (ws ≡ w ∷ (map decimal (map cast (firsts (length fs) 0 zs)) ++ map decimal ss))
+longer_line_of_row fs w ws zs ss n shape a rest =
+    let row = row_of fs ws zs n a in
+    (row.0, longer_line w (length fs) ws (map cast (firsts (length fs) 0 zs)) ss shape row.1 rest)
+
+-- the line of one word, a name and the numbers that its row reads, and more of them
+pub named_line_of_row : (fs : List Field) (w name : List ℕ) (ws : Words) (zs : List ℤ) (ss : List ℕ) → AreNatural fs → IsShapeFrom w (suc (length fs)) ws
+    → name ≡ get_or ws 1 [] → AreValues (name_field ∷ fs) ws zs → drop (suc (suc (length fs))) ws ≡ map decimal ss
+    → IsName name × AreIn fs (map cast (firsts (length fs) 1 zs)) × (ws ≡ w ∷ name ∷ (map decimal (map cast (firsts (length fs) 1 zs)) ++ map decimal ss))
+named_line_of_row fs w name ws zs ss n shape is a rest =
+    let row = named_row_of fs ws zs n a in (
+      subst IsName (sym is) row.0,
+      row.1,
+      named_line w (length fs) ws (map cast (firsts (length fs) 1 zs)) ss shape row.2 rest
+          ∙ ap (λ (v : List ℕ). w ∷ v ∷ (map decimal (map cast (firsts (length fs) 1 zs)) ++ map decimal ss)) (sym is),
+    )
