@@ -1,3 +1,7 @@
 pub mod Fronts
 pub mod Digits
 pub mod Signed
+pub mod ClockTexts
+pub mod Keys
+pub mod Accepts
+pub mod Once

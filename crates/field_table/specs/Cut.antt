@@ -1,7 +1,7 @@
 -- what the fields of the words of a line stand for
 use Rattle.std.specs.Prelude.{ℕ, List, length, All}
 use Rattle.field_table.specs.Pieces.{pieces_of, LiesWithin}
-use Rattle.field_table.specs.declared.LineWords.TheInside.{Inside}
+use Rattle.field_table.specs.declared.cuts.LineWords.TheInside.{Inside}
 
 abbrev pub cut_words : Inside → List (List ℕ)
 cut_words a = pieces_of a.line.now a.cuts.now

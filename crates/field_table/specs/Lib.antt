@@ -1,2 +1,5 @@
 pub mod Pieces
 pub mod Cut
+pub mod Clocks
+pub mod Fields
+pub mod Schemas

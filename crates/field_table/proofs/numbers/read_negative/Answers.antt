@@ -2,7 +2,7 @@ use Rattle.std.proofs.Common.{◌≡◌, ◌-◌, suc, sym, ap, ◌∙◌, arith
 use Rattle.std.specs.Fmt.{decimal}
 use Rattle.std.proofs.lemmas.Int.{ints}
 use Rattle.std.proofs.lemmas.Fmt.{decimal_injective}
-use Rattle.field_table.proofs.read_negative.Goals as goal
+use Rattle.field_table.proofs.numbers.read_negative.Goals as goal
 
 pub returns-then-n-eq0 : goal.returns-then-n-eq0
 returns-then-n-eq0 c = λ n h e.
@@ -16,4 +16,4 @@ returns c =
     let most = c.in_ok-n.ensures.0 in
     let some = c.if-n-eq0.false in
     let next : c.in_ok-n.n ≡ suc (c.in_ok-n.n - 1) = omega arith in
-    (c.in_ok-n.n - 1, omega (arith, ints), c.in_ok-n.ensures.1 ∙ ap decimal next)
+    (c.in_ok-n.n - 1, omega arith, omega (arith, ints), c.in_ok-n.ensures.1 ∙ ap decimal next)

@@ -4,7 +4,7 @@ use Rattle.std.proofs.lemmas.Bool.{ne_eqb}
 use Rattle.std.proofs.lemmas.List.Elements.{All-push, All-nil}
 use Rattle.field_table.specs.Pieces.{LiesWithin}
 use Rattle.field_table.proofs.Fronts.{word_more, word_ends, words_start}
-use Rattle.field_table.proofs.cut.Goals as goal
+use Rattle.field_table.proofs.cuts.cut.Goals as goal
 
 pub loop-i-init : goal.loop-i-init
 loop-i-init c = record {

@@ -4,7 +4,7 @@ use Rattle.std.specs.Option.{option_map}
 use Rattle.std.proofs.lemmas.List.{length-map}
 use Rattle.std.proofs.lemmas.Option.{slice_get-map, slice_get-get_or}
 use Rattle.field_table.specs.Pieces.{piece_of}
-use Rattle.field_table.proofs.LineWordsWords.word.Goals as goal
+use Rattle.field_table.proofs.cuts.LineWordsWords.word.Goals as goal
 
 pub returns : goal.returns
 returns c =

@@ -3,7 +3,7 @@ use Rattle.std.specs.Prelude.{All, slice_range}
 use Rattle.crew_terms.specs.Words.{words_of}
 use Rattle.field_table.specs.Pieces.{pieces_of, LiesWithin}
 use Rattle.field_table.proofs.Fronts.{with_front}
-use Rattle.field_table.proofs.cut.Given as goal
+use Rattle.field_table.proofs.cuts.cut.Given as goal
 
 abbrev pub invariant-loop-i : goal.invariant-loop-i
 invariant-loop-i l = record {

@@ -3,8 +3,8 @@ use Rattle.std.proofs.lemmas.List.{take_all}
 use Rattle.field_table.proofs.Digits.{not_empty, not_zero, not_digit, not_more, decimal_read, digits_more, value_more}
 use Rattle.std.specs.Str.{all_ascii_digits}
 use Rattle.field_table.proofs.Digits.{read_on}
-use Rattle.field_table.proofs.read_digits.Goals as goal
-use Rattle.field_table.proofs.read_digits.Goals.{else-bytes-eq48-via-then-bytes-eq48+else-bytes-gt1, else-bytes-eq48-via-else-bytes-eq48}
+use Rattle.field_table.proofs.numbers.read_digits.Goals as goal
+use Rattle.field_table.proofs.numbers.read_digits.Goals.{else-bytes-eq48-via-then-bytes-eq48+else-bytes-gt1, else-bytes-eq48-via-else-bytes-eq48}
 
 pub returns-then-is_empty : goal.returns-then-is_empty
 returns-then-is_empty c = λ m le. not_empty c.args.bytes.now m (grind arith) (omega arith)
