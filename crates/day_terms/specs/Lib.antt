@@ -1,0 +1,4 @@
+pub mod Records
+pub mod Forms
+pub mod Fields
+pub mod Days

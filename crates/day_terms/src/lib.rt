@@ -2,6 +2,7 @@
 #![tactic(auto)]
 
 use crew_terms::Name;
+use field_table::FieldFault;
 
 /// What one record of a day says. Times are minutes of the day, 0 to 2880, as are travel times;
 /// durations are 1 to 2880 minutes; skills are a bit for each of the numbers 0 to 63.
@@ -89,4 +90,21 @@ pub enum Entry {
     Plan {
         nodes: u32,
     },
+}
+
+/// Why a record is refused in itself: the first cause that it has.
+#[derive(Clone, Copy, Debug, PartialEq, Eq)]
+pub enum DayCause {
+    /// Its first field is not the name of a kind of record.
+    Kind,
+    /// It has another number of fields than its kind, told with that number as the place; or this is
+    /// its first bad field: one that is misspelled, or whose value is out of range.
+    Field(FieldFault),
+}
+
+/// The first record of a day that is refused in itself: its number, from 1, and why.
+#[derive(Clone, Copy, Debug, PartialEq, Eq)]
+pub struct Refused {
+    pub number: u64,
+    pub cause: DayCause,
 }

@@ -1,0 +1,13 @@
+// A day's records: what the text of a day says, up to its first bad record.
+#![tactic(auto)]
+
+mod day;
+mod rows;
+mod skills;
+#[cfg(test)]
+mod tests;
+mod words;
+
+pub use day::{Day, Entries, read_day};
+pub use day_terms::{DayCause, Entry, Refused};
+pub use words::RecordWords;

@@ -1,0 +1,262 @@
+// The fifteen kinds of records: their rows of fields, and the entries that they stand for.
+ghost use Rattle.std.specs.Prelude.{◌≡◌, ◌≤◌, ◌<◌, ◌+◌, length};
+ghost use Rattle.crew_terms.specs.Name.{IsName};
+ghost use Rattle.day_terms.specs.Records.{field_of};
+ghost use Rattle.day_terms.specs.Forms.{place_form, travel_form, route_time_form, default_travel_form, team_form, task_form, cancel_form, move_form, longer_form, needs_form, sick_form, shift_form, skill_form, unskill_form, plan_form};
+ghost use Rattle.day_records.specs.Rows.{ReadsFields, form_at};
+
+use crate::skills::read_skills;
+use crate::words::RecordWords;
+use crew_terms::Name;
+use day_terms::Entry;
+use field_table::{Field, FieldFault, Kind, Schema, Words, field, fields};
+
+const NAME: Field = Field {
+    low: 1,
+    high: 32,
+    kind: Kind::Name,
+};
+
+const MINUTES: Field = field!(Number(0, 2880));
+
+const DURATION: Field = field!(Number(1, 2880));
+
+const TIME: Field = field!(Clock(0, 2880));
+
+const COUNT: Field = field!(Number(0, 99));
+
+const SKILL: Field = field!(Number(0, 63));
+
+const NODES: Field = field!(Number(0, 100_000));
+
+/// The first fields of the records, one of each kind.
+pub(crate) const KINDS: Schema = Schema {
+    keys: &[
+        "place",
+        "travel",
+        "route_time",
+        "default_travel",
+        "team",
+        "task",
+        "cancel",
+        "move",
+        "longer",
+        "needs",
+        "sick",
+        "shift",
+        "skill",
+        "unskill",
+        "plan",
+    ],
+};
+
+/// How many fields the records of each kind have.
+pub(crate) const LENGTHS: [usize; 15] = [2, 4, 4, 2, 6, 8, 2, 4, 3, 3, 2, 4, 3, 3, 2];
+
+/// The name at a place where one stands.
+fn name_at(words: &RecordWords<'_>, place: usize) -> Name
+    requires within { place < length words.now }
+    requires name { IsName (field_of words.now place) }
+    ensures { result ≡ field_of words.now place }
+{
+    Name::read(words.word(place)).unwrap()
+}
+
+fn read_place(words: &RecordWords<'_>) -> Result<Entry, FieldFault>
+    requires { length words.now ≡ 2 }
+    ensures { ReadsFields place_form words.now result }
+{
+    fields!(words, "place" => _name: NAME; else fault => fault);
+    Ok(Entry::Place {
+        name: name_at(words, 1),
+    })
+}
+
+fn read_travel(words: &RecordWords<'_>) -> Result<Entry, FieldFault>
+    requires { length words.now ≡ 4 }
+    ensures { ReadsFields travel_form words.now result }
+{
+    fields!(words, "travel" => _from: NAME, _to: NAME, minutes: MINUTES; else fault => fault);
+    Ok(Entry::Travel {
+        from: name_at(words, 1),
+        to: name_at(words, 2),
+        minutes: minutes as u32,
+    })
+}
+
+fn read_route_time(words: &RecordWords<'_>) -> Result<Entry, FieldFault>
+    requires { length words.now ≡ 4 }
+    ensures { ReadsFields route_time_form words.now result }
+{
+    fields!(words, "route_time" => _from: NAME, _to: NAME, minutes: MINUTES; else fault => fault);
+    Ok(Entry::RouteTime {
+        from: name_at(words, 1),
+        to: name_at(words, 2),
+        minutes: minutes as u32,
+    })
+}
+
+fn read_default_travel(words: &RecordWords<'_>) -> Result<Entry, FieldFault>
+    requires { length words.now ≡ 2 }
+    ensures { ReadsFields default_travel_form words.now result }
+{
+    fields!(words, "default_travel" => minutes: MINUTES; else fault => fault);
+    Ok(Entry::DefaultTravel {
+        minutes: minutes as u32,
+    })
+}
+
+fn read_team(words: &RecordWords<'_>) -> Result<Entry, FieldFault>
+    requires { length words.now ≡ 6 }
+    ensures { ReadsFields team_form words.now result }
+{
+    fields!(words, "team" => _name: NAME, _home: NAME, from: TIME, until: TIME; else fault => fault);
+    let skills = read_skills(words, 5)?;
+    Ok(Entry::Team {
+        name: name_at(words, 1),
+        home: name_at(words, 2),
+        from: from as u32,
+        until: until as u32,
+        skills,
+    })
+}
+
+fn read_task(words: &RecordWords<'_>) -> Result<Entry, FieldFault>
+    requires { length words.now ≡ 8 }
+    ensures { ReadsFields task_form words.now result }
+{
+    fields!(words, "task" => _name: NAME, _place: NAME, earliest: TIME, latest: TIME, minutes: DURATION, teams: COUNT; else fault => fault);
+    let skills = read_skills(words, 7)?;
+    Ok(Entry::Task {
+        name: name_at(words, 1),
+        place: name_at(words, 2),
+        earliest: earliest as u32,
+        latest: latest as u32,
+        minutes: minutes as u32,
+        teams: teams as u32,
+        skills,
+    })
+}
+
+fn read_cancel(words: &RecordWords<'_>) -> Result<Entry, FieldFault>
+    requires { length words.now ≡ 2 }
+    ensures { ReadsFields cancel_form words.now result }
+{
+    fields!(words, "cancel" => _task: NAME; else fault => fault);
+    Ok(Entry::Cancel {
+        task: name_at(words, 1),
+    })
+}
+
+fn read_move(words: &RecordWords<'_>) -> Result<Entry, FieldFault>
+    requires { length words.now ≡ 4 }
+    ensures { ReadsFields move_form words.now result }
+{
+    fields!(words, "move" => _task: NAME, earliest: TIME, latest: TIME; else fault => fault);
+    Ok(Entry::Move {
+        task: name_at(words, 1),
+        earliest: earliest as u32,
+        latest: latest as u32,
+    })
+}
+
+fn read_longer(words: &RecordWords<'_>) -> Result<Entry, FieldFault>
+    requires { length words.now ≡ 3 }
+    ensures { ReadsFields longer_form words.now result }
+{
+    fields!(words, "longer" => _task: NAME, minutes: DURATION; else fault => fault);
+    Ok(Entry::Longer {
+        task: name_at(words, 1),
+        minutes: minutes as u32,
+    })
+}
+
+fn read_needs(words: &RecordWords<'_>) -> Result<Entry, FieldFault>
+    requires { length words.now ≡ 3 }
+    ensures { ReadsFields needs_form words.now result }
+{
+    fields!(words, "needs" => _task: NAME, teams: COUNT; else fault => fault);
+    Ok(Entry::Needs {
+        task: name_at(words, 1),
+        teams: teams as u32,
+    })
+}
+
+fn read_sick(words: &RecordWords<'_>) -> Result<Entry, FieldFault>
+    requires { length words.now ≡ 2 }
+    ensures { ReadsFields sick_form words.now result }
+{
+    fields!(words, "sick" => _team: NAME; else fault => fault);
+    Ok(Entry::Sick {
+        team: name_at(words, 1),
+    })
+}
+
+fn read_shift(words: &RecordWords<'_>) -> Result<Entry, FieldFault>
+    requires { length words.now ≡ 4 }
+    ensures { ReadsFields shift_form words.now result }
+{
+    fields!(words, "shift" => _team: NAME, from: TIME, until: TIME; else fault => fault);
+    Ok(Entry::Shift {
+        team: name_at(words, 1),
+        from: from as u32,
+        until: until as u32,
+    })
+}
+
+fn read_skill(words: &RecordWords<'_>) -> Result<Entry, FieldFault>
+    requires { length words.now ≡ 3 }
+    ensures { ReadsFields skill_form words.now result }
+{
+    fields!(words, "skill" => _team: NAME, skill: SKILL; else fault => fault);
+    Ok(Entry::Skill {
+        team: name_at(words, 1),
+        skill: skill as u32,
+    })
+}
+
+fn read_unskill(words: &RecordWords<'_>) -> Result<Entry, FieldFault>
+    requires { length words.now ≡ 3 }
+    ensures { ReadsFields unskill_form words.now result }
+{
+    fields!(words, "unskill" => _team: NAME, skill: SKILL; else fault => fault);
+    Ok(Entry::Unskill {
+        team: name_at(words, 1),
+        skill: skill as u32,
+    })
+}
+
+fn read_plan(words: &RecordWords<'_>) -> Result<Entry, FieldFault>
+    requires { length words.now ≡ 2 }
+    ensures { ReadsFields plan_form words.now result }
+{
+    fields!(words, "plan" => nodes: NODES; else fault => fault);
+    Ok(Entry::Plan {
+        nodes: nodes as u32,
+    })
+}
+
+/// The entry of a record of the kind with this number and with its number of fields, or the first bad field.
+pub(crate) fn read_row(kind: usize, words: &RecordWords<'_>) -> Result<Entry, FieldFault>
+    requires known { kind < 15 }
+    requires counted { length words.now ≡ length (form_at kind).slots + 1 }
+    ensures { ReadsFields (form_at kind) words.now result }
+{
+    match kind {
+        0 => read_place(words),
+        1 => read_travel(words),
+        2 => read_route_time(words),
+        3 => read_default_travel(words),
+        4 => read_team(words),
+        5 => read_task(words),
+        6 => read_cancel(words),
+        7 => read_move(words),
+        8 => read_longer(words),
+        9 => read_needs(words),
+        10 => read_sick(words),
+        11 => read_shift(words),
+        12 => read_skill(words),
+        13 => read_unskill(words),
+        _ => read_plan(words),
+    }
+}

@@ -1,0 +1,44 @@
+-- what a day's text says
+use Rattle.std.specs.Prelude.{◌≡◌, ◌≢◌, ◌+◌, ◌++◌, ℕ, List, [], ◌∷◌, length, Option, None, Some, Result, Ok, Err, Contains}
+use Rattle.crew_terms.specs.Words.{Words}
+use Rattle.field_table.specs.declared.fields.Cause.TheVariants.{Count}
+use Rattle.field_table.specs.declared.fields.FieldFault.{FieldFault}
+use Rattle.day_terms.specs.Records.{records_of_text, field_of}
+use Rattle.day_terms.specs.Forms.{Form, forms}
+use Rattle.day_terms.specs.Fields.{AllGive, IsFirstBad}
+use Rattle.day_terms.specs.declared.Entry.{Entry}
+use Rattle.day_terms.specs.declared.Refused.{Refused}
+use Rattle.day_terms.specs.declared.DayCause.{DayCause}
+use Rattle.day_terms.specs.declared.DayCause.TheVariants.{Kind, Field}
+
+-- the record is of this kind
+pub record IsOfForm (fields : Words) (form : Form) : Type 0 where
+  pub known : Contains forms form
+  pub key : field_of fields 0 ≡ form.key
+
+-- what a record says in itself: an entry, or why it is refused; its kind is looked at first, then the number of its fields, then each field in turn
+pub data ReadsRecord (fields : Words) (told : Result Entry DayCause) : Type 0 where
+  OfNoKind : (unknown : (form : Form) → IsOfForm fields form → ⊥) (is : told ≡ Err Kind) → ReadsRecord fields told
+  Miscounted : (form : Form) (kind : IsOfForm fields form) (miscounted : length fields ≢ length form.slots + 1)
+      (is : told ≡ Err (Field (record { place = length fields; cause = Count }))) → ReadsRecord fields told
+  BadField : (form : Form) (kind : IsOfForm fields form) (counted : length fields ≡ length form.slots + 1)
+      (fault : FieldFault) (first : IsFirstBad form.slots fields 1 fault) (is : told ≡ Err (Field fault)) → ReadsRecord fields told
+  Good : (form : Form) (kind : IsOfForm fields form) (counted : length fields ≡ length form.slots + 1)
+      (entry : Entry) (gives : AllGive form.slots form.entry fields 1 entry) (is : told ≡ Ok entry) → ReadsRecord fields told
+
+-- each record says the entry at its place
+abbrev pub SayEntries : List Words → List Entry → Type 0
+SayEntries [] [] = Unit {0}
+SayEntries (r ∷ rs) (e ∷ es) = ReadsRecord r (Ok e) × SayEntries rs es
+SayEntries _ _ = ⊥
+
+-- the entries of the records before the first bad one, and the refusal of that one, with its number from 1
+pub data ReadsRecords (records : List Words) (entries : List Entry) (stop : Option Refused) : Type 0 where
+  AllGood : (entries_of : SayEntries records entries) (is : stop ≡ None) → ReadsRecords records entries stop
+  StopsAt : (front : List Words) (bad : Words) (back : List Words) (parts : records ≡ front ++ bad ∷ back) (entries_of : SayEntries front entries)
+      (cause : DayCause) (refused : ReadsRecord bad (Err cause)) (is : stop ≡ Some (record { number = length front + 1; cause = cause }))
+      → ReadsRecords records entries stop
+
+-- what a day's text says: the entries before its first bad record, and why that one is refused
+abbrev pub IsDayOf : List ℕ → List Entry → Option Refused → Type 0
+IsDayOf text entries stop = ReadsRecords (records_of_text text) entries stop
