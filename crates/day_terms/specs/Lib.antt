@@ -1,0 +1,4 @@
+pub mod Ranges
+pub mod State
+pub mod Rounds
+pub mod Refusal
