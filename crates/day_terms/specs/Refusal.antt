@@ -1,0 +1,62 @@
+-- why an entry is refused in a state
+use Rattle.std.specs.Prelude.{◌-◌, ◌||◌, ℕ, Bool, List, [], ◌∷◌, Option, None, Some, length, not, nat_le, nat_lt, option_map, if◌then◌else◌}
+use Rattle.day_terms.specs.State.{State, has_place, has_team, has_task}
+use Rattle.day_terms.specs.Rounds.{first_missing}
+use Rattle.day_terms.specs.declared.Entry.{Entry}
+use Rattle.day_terms.specs.declared.Entry.TheVariants.{Place, Travel, RouteTime, DefaultTravel, Team, Task, Cancel, Move, Longer, Needs, Sick, Shift, Skill, Unskill, Plan}
+
+-- MissingTravel tells the names of two places
+pub data Refusal : Type 0 where
+  TooMany : Refusal
+  SameName : Refusal
+  NoPlace : Refusal
+  NoTask : Refusal
+  NoTeam : Refusal
+  BadWindow : Refusal
+  BadShift : Refusal
+  BadTeams : Refusal
+  MissingTravel : (from to : List ℕ) → Refusal
+
+-- of these conditions, the refusal of the first that holds
+abbrev pub first_of : List (Bool × Refusal) → Option Refusal
+first_of [] = None
+first_of (row ∷ rows) = if row.0 then Some row.1 else first_of rows
+
+-- a window that ends before it begins, or is wider than 720 minutes
+abbrev pub is_bad_window : ℕ → ℕ → Bool
+is_bad_window earliest latest = nat_lt latest earliest || nat_lt 720 (latest - earliest)
+
+-- no number of teams from 1 to 8
+abbrev pub is_bad_count : ℕ → Bool
+is_bad_count teams = nat_lt teams 1 || nat_lt 8 teams
+
+-- the refusal of the entry, if it is refused: of each kind's conditions, the first that holds
+abbrev pub refusal_of : State → Entry → Option Refusal
+refusal_of s (Place name) = first_of ((nat_le 200 (length s.places), TooMany) ∷ (has_place s name, SameName) ∷ [])
+refusal_of s (Travel from to minutes) = first_of ((not (has_place s from) || not (has_place s to), NoPlace) ∷ [])
+refusal_of s (RouteTime from to minutes) = first_of ((not (has_place s from) || not (has_place s to), NoPlace) ∷ [])
+refusal_of s (DefaultTravel minutes) = None
+refusal_of s (Team name home from until skills) = first_of (
+    (nat_le 64 (length s.teams), TooMany)
+    ∷ (has_team s name, SameName)
+    ∷ (not (has_place s home), NoPlace)
+    ∷ (nat_le until from, BadShift)
+    ∷ []
+    )
+refusal_of s (Task name place earliest latest minutes teams skills) = first_of (
+    (nat_le 400 (length s.tasks), TooMany)
+    ∷ (has_task s name, SameName)
+    ∷ (not (has_place s place), NoPlace)
+    ∷ (is_bad_window earliest latest, BadWindow)
+    ∷ (is_bad_count teams, BadTeams)
+    ∷ []
+    )
+refusal_of s (Cancel task) = first_of ((not (has_task s task), NoTask) ∷ [])
+refusal_of s (Move task earliest latest) = first_of ((not (has_task s task), NoTask) ∷ (is_bad_window earliest latest, BadWindow) ∷ [])
+refusal_of s (Longer task minutes) = first_of ((not (has_task s task), NoTask) ∷ [])
+refusal_of s (Needs task teams) = first_of ((not (has_task s task), NoTask) ∷ (is_bad_count teams, BadTeams) ∷ [])
+refusal_of s (Sick team) = first_of ((not (has_team s team), NoTeam) ∷ [])
+refusal_of s (Shift team from until) = first_of ((not (has_team s team), NoTeam) ∷ (nat_le until from, BadShift) ∷ [])
+refusal_of s (Skill team skill) = first_of ((not (has_team s team), NoTeam) ∷ [])
+refusal_of s (Unskill team skill) = first_of ((not (has_team s team), NoTeam) ∷ [])
+refusal_of s (Plan nodes) = option_map (λ p. MissingTravel p.0 p.1) (first_missing s)

@@ -1,0 +1,54 @@
+-- the instance of a state, and the rounds of a day
+use Rattle.std.specs.Prelude.{◌++◌, ◌&&◌, ℕ, Bool, List, [], ◌∷◌, Option, not, bytes_eq, is_none, find, flat_map, map, option_map, unwrap_or, if◌then◌else◌}
+use Rattle.crew_terms.specs.Instance.{Instance}
+use Rattle.day_terms.specs.State.{State, start, is_way, after_entry}
+use Rattle.day_terms.specs.declared.Entry.{Entry}
+use Rattle.day_terms.specs.declared.Entry.TheVariants.{Plan}
+
+-- the time that was given from the one place to the other
+abbrev pub minutes_given : State → List ℕ → List ℕ → Option ℕ
+minutes_given s from to = option_map (λ g. g.minutes) (find (is_way from to) s.times)
+
+-- the time that was given, else none for the same place, else the default
+abbrev pub minutes_from : State → List ℕ → List ℕ → ℕ
+minutes_from s from to = unwrap_or (minutes_given s from to) (if bytes_eq from to then 0 else unwrap_or s.default_minutes 0)
+
+-- the instance of a state that lacks no time
+abbrev pub instance_of : State → Instance
+instance_of s = record {
+  places = s.places;
+  teams = s.teams;
+  tasks = s.tasks;
+  travel = map (λ from. map (minutes_from s from) s.places) s.places;
+}
+
+-- the pairs of places, by the first and then by the second
+abbrev pub pairs_of : List (List ℕ) → List (List ℕ × List ℕ)
+pairs_of places = flat_map (λ from. map (λ to. (from, to)) places) places
+
+-- two different places, of which nothing says the time from the one to the other
+abbrev pub lacks_time : State → List ℕ × List ℕ → Bool
+lacks_time s p = not (bytes_eq p.0 p.1) && is_none (minutes_given s p.0 p.1) && is_none s.default_minutes
+
+-- the first such pair
+abbrev pub first_missing : State → Option (List ℕ × List ℕ)
+first_missing s = find (lacks_time s) (pairs_of s.places)
+
+-- what is to be planned, and the budget of nodes for it
+pub record Round : Type 0 where
+  pub instance : Instance
+  pub nodes : ℕ
+
+-- the round that begins with the entry, if it is one of a plan
+abbrev pub round_at : State → Entry → List Round
+round_at s (Plan nodes) = record { instance = instance_of s; nodes = nodes } ∷ []
+round_at s _ = []
+
+-- the rounds of these entries, from a state on
+abbrev pub rounds_from : State → List Entry → List Round
+rounds_from s [] = []
+rounds_from s (entry ∷ entries) = round_at s entry ++ rounds_from (after_entry s entry) entries
+
+-- for each entry of a plan, the instance after all earlier entries, and its budget
+abbrev pub rounds_of : List Entry → List Round
+rounds_of entries = rounds_from start entries
