@@ -8,3 +8,4 @@ pub mod SetRow
 pub mod HeadRows
 pub mod HeadSteps
 pub mod BodyRows
+pub mod Days

@@ -1,5 +1,5 @@
 -- what the program writes for what it reads
-use Rattle.std.specs.Prelude.{◌≡◌, ◌≤◌, ◌++◌, ℕ, Bool, true, false, List, [], ◌∷◌, length, take, Option, Some, IfSome, All}
+use Rattle.std.specs.Prelude.{◌≡◌, ◌≤◌, ◌++◌, ℕ, Bool, true, false, List, [], ◌∷◌, length, take, Option, None, Some, IfSome, All, codes, bytes_eq, if◌then◌else◌}
 use Rattle.std.specs.List.{flat_map}
 use Rattle.crew_terms.specs.Plan.{Plan, IsLegal, unassigned_count}
 use Rattle.crew_io.specs.Io.{Appended}
@@ -10,18 +10,13 @@ use Rattle.dossier_terms.specs.Lines.{text_of}
 use Rattle.dossier_terms.specs.Texts.{yes_line, no_line}
 use Rattle.dossier_terms.specs.Reading.{Reading, Form}
 use Rattle.dossier_terms.specs.Today.{IsSimpleInput}
+use Rattle.day_terms.specs.Rounds.{Round}
 use Rattle.crew_cli.specs.Input.{IsRefusal, HasRead, room_after}
-use Rattle.crew_cli.specs.declared.run.Status.{Status}
-use Rattle.crew_cli.specs.declared.run.Status.TheVariants.{Done, No, Words, ReadFault, WriteFault, Memory}
-
--- the exit status of the program
-abbrev pub number_of : Status → ℕ
-number_of Done = 0
-number_of No = 1
-number_of Words = 2
-number_of ReadFault = 4
-number_of WriteFault = 5
-number_of Memory = 6
+use Rattle.crew_cli.specs.Rounds.{DAY, ComesTo, SaysRounds, IsRefusedOutput, SaysOutputFront, SaysFirstRounds, SaysNothingRead}
+use Rattle.crew_cli.specs.declared.run.Command.{Command}
+use Rattle.crew_cli.specs.declared.run.Command.TheVariants.{Check, Apply}
+use Rattle.crew_cli.specs.declared.status.Status.{Status}
+use Rattle.crew_cli.specs.declared.status.Status.TheVariants.{Done, No, Words, Refused, ReadFault, WriteFault, Memory}
 
 -- where the source tells its bytes: the fact of the input and of what was written, which is what the sink got, if it
 -- tells that
@@ -93,11 +88,37 @@ pub record SaysYesLines (input written : List ℕ) : Type 0 where
   pub yes_lines : written ≡ flat_map yes_line dossiers
   pub each : All IsTrueYes dossiers
 
+-- what the words ask for
+abbrev pub command_of : List (List ℕ) → Option Command
+command_of (word ∷ []) = if bytes_eq word (codes "check") then Some Check else if bytes_eq word (codes "apply") then Some Apply else None
+command_of _ = None
+
+-- what a status of a command says of the input, of what its source has left, and of what was written; no other status
+-- comes
+abbrev pub Says : Command → Status → Option (List ℕ) → List ℕ → List ℕ → Type 0
+Says Check Done unseen input written = SaysYes input written
+Says Check No unseen input written = SaysNo input written
+Says Check ReadFault unseen input written = SaysReadFault unseen input written
+Says Check WriteFault unseen input written = SaysFront input written
+Says Check Memory unseen input written = SaysYesLines input written
+Says Apply Done unseen input written = SaysRounds input written
+Says Apply Refused unseen input written = IsRefusedOutput input written
+Says Apply ReadFault unseen input written = SaysNothingRead unseen input written
+Says Apply WriteFault unseen input written = SaysOutputFront input written
+Says Apply Memory unseen input written = SaysFirstRounds input written
+Says _ _ unseen input written = ⊥
+
+-- what a command takes to its end: bytes that are accepted as dossiers, or a day of which no record is refused
+abbrev pub IsFine : Command → List ℕ → Type 0
+IsFine Check input = (dossiers : List Dossier) × IsSimpleInput input dossiers
+IsFine Apply input = (length input ≤ DAY) × ((rounds : List Round) × ComesTo input rounds None)
+
 -- the answers to a line that is refused
 abbrev pub is_no_or_write_fault : Status → Bool
 is_no_or_write_fault Done = false
 is_no_or_write_fault No = true
 is_no_or_write_fault Words = false
+is_no_or_write_fault Refused = false
 is_no_or_write_fault ReadFault = false
 is_no_or_write_fault WriteFault = true
 is_no_or_write_fault Memory = false

@@ -1,7 +1,9 @@
 // The top call: the words of the command line, a source and a sink in, a status out.
 #![tactic(auto)]
 
+pub mod apply;
 pub mod body;
+mod check;
 pub mod checker;
 pub mod due;
 #[cfg(test)]
@@ -12,7 +14,9 @@ pub mod laws;
 #[cfg(test)]
 mod line_tests;
 pub mod numbers;
+pub mod refused;
 pub mod run;
+pub mod status;
 pub mod steady;
 #[cfg(test)]
 mod tests;

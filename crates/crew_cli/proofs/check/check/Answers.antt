@@ -2,7 +2,7 @@ use Rattle.std.proofs.Common.{subst, arith}
 use Rattle.crew_cli.specs.Due.{dossier_of}
 use Rattle.crew_cli.specs.Input.{IsOutcome, OpensNext}
 use Rattle.crew_cli.proofs.Said.{opens, begins, says_one_more, says_yes, says_no, front_so_far, front_yes, front_no, on_err, yes_lines_none, says_yes_lines, says_read_fault}
-use Rattle.crew_cli.proofs.run.check.Goals as goal
+use Rattle.crew_cli.proofs.check.check.Goals as goal
 
 pub dossiers-init : goal.dossiers-init
 dossiers-init g c = record {

@@ -1,0 +1,91 @@
+-- a day's entries, one after another
+use Rattle.std.proofs.Common.{◌≡◌, ◌≤◌, ◌<◌, ◌+◌, ◌++◌, ◌∷◌, [], ℕ, List, Option, None, Some, length, take, ap, subst, sym, refl, ◌∙◌, arith, append_assoc, append-nil, length-append}
+use Rattle.std.specs.List.{fold, flat_map}
+use Rattle.std.proofs.lemmas.List.Sums.{fold-append}
+use Rattle.std.proofs.lemmas.List.Concat.{flat_map-append}
+use Rattle.day_terms.specs.declared.Entry.{Entry}
+use Rattle.day_terms.specs.declared.Refused.{Refused}
+use Rattle.day_terms.specs.Days.{IsDayOf}
+use Rattle.day_terms.specs.State.{State, start, after_entry, state_after}
+use Rattle.day_terms.specs.Refusal.{Refusal, refusal_of}
+use Rattle.day_terms.specs.Rounds.{Round, round_at, rounds_from, rounds_of}
+use Rattle.flight_changes.specs.Faults.{fault_of}
+use Rattle.crew_cli.specs.declared.refused.DayFault.TheVariants.{InItself, Change}
+use Rattle.crew_cli.specs.Rounds.{AreTaken, DayStop, ComesTo, AllTaken, BadRecord, BadChange, rounds_text}
+
+-- the state after entries, from a state on
+abbrev pub after_all : State → List Entry → State
+after_all s entries = fold after_entry s entries
+
+pub state_more : (entries : List Entry) (entry : Entry) → state_after (entries ++ entry ∷ []) ≡ after_entry (state_after entries) entry
+state_more entries entry = fold-append after_entry start entries (entry ∷ [])
+
+taken_from : (s : State) (entries : List Entry) (entry : Entry) → AreTaken s entries → refusal_of (after_all s entries) entry ≡ None → AreTaken s (entries ++ entry ∷ [])
+taken_from s [] entry taken e = (e, tt)
+taken_from s (x ∷ xs) entry taken e = (taken.0, taken_from (after_entry s x) xs entry taken.1 e)
+
+pub taken_more : (entries : List Entry) (entry : Entry) → AreTaken start entries → refusal_of (state_after entries) entry ≡ None → AreTaken start (entries ++ entry ∷ [])
+taken_more entries entry taken e = taken_from start entries entry taken e
+
+taken_within : (s : State) (front back : List Entry) (entry : Entry) → AreTaken s (front ++ entry ∷ back) → refusal_of (after_all s front) entry ≡ None
+taken_within s [] back entry taken = taken.0
+taken_within s (x ∷ xs) back entry taken = taken_within (after_entry s x) xs back entry taken.1
+
+rounds_more_from : (s : State) (entries : List Entry) (entry : Entry) → rounds_from s (entries ++ entry ∷ []) ≡ rounds_from s entries ++ round_at (after_all s entries) entry
+rounds_more_from s [] entry = append-nil (round_at s entry)
+rounds_more_from s (x ∷ xs) entry =
+    ap (λ r. round_at s x ++ r) (rounds_more_from (after_entry s x) xs entry)
+    ∙ sym (append_assoc (round_at s x) (rounds_from (after_entry s x) xs) (round_at (after_all (after_entry s x) xs) entry))
+
+pub rounds_more : (entries : List Entry) (entry : Entry) → rounds_of (entries ++ entry ∷ []) ≡ rounds_of entries ++ round_at (state_after entries) entry
+rounds_more entries entry = rounds_more_from start entries entry
+
+pub text_more : (entries : List Entry) (entry : Entry) → rounds_text (rounds_of (entries ++ entry ∷ [])) ≡ rounds_text (rounds_of entries) ++ rounds_text (round_at (state_after entries) entry)
+text_more entries entry = ap rounds_text (rounds_more entries entry) ∙ flat_map-append _ (rounds_of entries) (round_at (state_after entries) entry)
+
+-- what a day comes to, whose first rounds are these
+pub record GoesOn (text : List ℕ) (first : List Round) : Type 0 where
+  pub rest : List Round
+  pub stop : Option DayStop
+  pub comes_to : ComesTo text (first ++ rest) stop
+
+-- behind entries that are taken, a day comes to something
+pub goes_on : (text : List ℕ) (front back : List Entry) (last : Option Refused) → IsDayOf text (front ++ back) last → AreTaken start front → GoesOn text (rounds_of front)
+goes_on text front [] None day taken = record {
+  rest = [];
+  stop = None;
+  comes_to = AllTaken front (subst (λ es. IsDayOf text es None) (append-nil front) day) taken (append-nil (rounds_of front)) refl;
+}
+goes_on text front [] (Some refused) day taken = record {
+  rest = [];
+  stop = Some (record { number = refused.number; cause = InItself refused.cause });
+  comes_to = BadRecord front refused (subst (λ es. IsDayOf text es (Some refused)) (append-nil front) day) taken (append-nil (rounds_of front)) refl;
+}
+goes_on text front (entry ∷ back) last day taken = by (refusal_of (state_after front) entry) refl
+  where
+    by : (told : Option Refusal) → refusal_of (state_after front) entry ≡ told → GoesOn text (rounds_of front)
+    by (Some refusal) e = record {
+      rest = [];
+      stop = Some (record { number = length front + 1; cause = Change (fault_of refusal) });
+      comes_to = BadChange front back entry last day taken refusal e (append-nil (rounds_of front)) refl;
+    }
+    by None e =
+        let g = goes_on text (front ++ entry ∷ []) back last (subst (λ es. IsDayOf text es last) (sym (append_assoc front (entry ∷ []) back)) day) (taken_more front entry taken e) in
+        record {
+          rest = round_at (state_after front) entry ++ g.rest;
+          stop = g.stop;
+          comes_to = subst (λ rs. ComesTo text rs g.stop) (ap (λ rs. rs ++ g.rest) (rounds_more front entry) ∙ append_assoc (rounds_of front) (round_at (state_after front) entry) g.rest) g.comes_to;
+        }
+
+-- a day with a refusal is none without one
+pub one_end : (text : List ℕ) (rounds others : List Round) (stop : DayStop)
+    → ((text : List ℕ) (entries others : List Entry) (stop last : Option Refused) → IsDayOf text entries stop → IsDayOf text others last → (entries ≡ others) × (stop ≡ last))
+    → ComesTo text rounds None → ComesTo text others (Some stop) → ⊥
+one_end text rounds others stop law (AllTaken entries day taken are is) (AllTaken entries2 day2 taken2 are2 is2) = absurd (cc)
+one_end text rounds others stop law (AllTaken entries day taken are is) (BadRecord entries2 refused day2 taken2 are2 is2) = let l = law text entries entries2 None (Some refused) day day2 in absurd (let e = l.1 in cc)
+one_end text rounds others stop law (AllTaken entries day taken are is) (BadChange front back entry later day2 taken2 refusal refused are2 is2) =
+    let l = law text entries (front ++ entry ∷ back) None later day day2 in
+    let t = taken_within start front back entry (subst (AreTaken start) l.0 taken) in
+    absurd (let e = sym refused ∙ t in cc)
+one_end text rounds others stop law (BadRecord entries refused day taken are is) second = absurd (cc)
+one_end text rounds others stop law (BadChange front back entry later day taken refusal refused are is) second = absurd (cc)

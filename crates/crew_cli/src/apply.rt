@@ -1,0 +1,155 @@
+// The instance of each round of a day.
+ghost use Rattle.std.specs.Prelude.{◌≡◌, ◌≢◌, ◌≤◌, List, ℕ, None, IfOk, IfSome, OnErr, IsTrue, All};
+ghost use Rattle.crew_io.specs.Io.{Appended, AppendedPart, Rose};
+ghost use Rattle.dossier_terms.specs.Lines.{instance_text};
+ghost use Rattle.day_terms.specs.Ranges.{IsInRange};
+ghost use Rattle.day_terms.specs.Rounds.{first_missing, instance_of};
+ghost use Rattle.crew_cli.specs.Applied.{IsApplied, IsDay, Wrote, is_taken_or_write_fault, is_refused_or_write_fault, is_of_day};
+ghost use Rattle.crew_cli.specs.Refused.{refused_line};
+ghost use Rattle.crew_cli.specs.Rounds.{SaysFirstRounds};
+ghost use Rattle.crew_cli.specs.Run.{OfBytes, Says, IsFine};
+ghost use Rattle.crew_cli.specs.declared.run.Command.TheVariants as command;
+
+use crate::refused::{DayFault, put_refused};
+use crate::status::Status;
+use cert_format::write_head;
+use crew_io::sink::{Sink, WriteFault};
+use crew_io::source::Source;
+use crew_io::text::{Text, read_text};
+use day_laws::{entries_in_range, one_day};
+use day_records::{Day, read_day};
+use day_terms::Entry;
+use flight_changes::{ChangeFault, Desk};
+use std::alloc::{AllocError, Global};
+
+/// The most bytes that a day's text may have.
+const DAY: usize = 8_388_608;
+
+/// What an entry comes to.
+enum Applied {
+    /// The state takes it; if it begins a round, its instance was written.
+    Taken,
+    /// The state refuses it.
+    Refused(ChangeFault),
+    /// A write failed.
+    WriteFault,
+}
+
+/// Writes the line of the refused record of a day.
+fn refuse<K: Sink>(out: &mut K, number: u64, cause: DayFault) -> Status
+    ensures refused { result ≡ Status.Refused → Appended (K.got out.old) (K.got out.new) (refused_line number cause) }
+    ensures part { AppendedPart (K.got out.old) (K.got out.new) (refused_line number cause) }
+    ensures others { IsTrue (is_refused_or_write_fault result) }
+    ensures write_fault { result ≡ Status.WriteFault → Rose (K.faults out.old) (K.faults out.new) }
+    ensures later { K.faults out.old ≤ K.faults out.new }
+    ensures steady { K.steady out.old → K.steady out.new × (result ≡ Status.WriteFault → K.full out.new) }
+{
+    match put_refused(out, number, cause) {
+        Ok(()) => Status::Refused,
+        Err(WriteFault) => Status::WriteFault,
+    }
+}
+
+/// Writes the instance of the desk's state.
+fn put_round<K: Sink>(desk: &Desk, nodes: u32, out: &mut K) -> Result<Applied, AllocError>
+    requires { first_missing desk.now ≡ None }
+    ensures taken { IfOk result (λ applied. applied ≡ Applied.Taken → Appended (K.got out.old) (K.got out.new) (instance_text (instance_of desk.now) nodes)) }
+    ensures part { IfOk result (λ applied. applied ≡ Applied.WriteFault → AppendedPart (K.got out.old) (K.got out.new) (instance_text (instance_of desk.now) nodes)) }
+    ensures others { IfOk result (λ applied. IsTrue (is_taken_or_write_fault applied)) }
+    ensures nothing { OnErr result (K.got out.new ≡ K.got out.old) }
+    ensures write_fault { IfOk result (λ applied. applied ≡ Applied.WriteFault → Rose (K.faults out.old) (K.faults out.new)) }
+    ensures later { K.faults out.old ≤ K.faults out.new }
+    ensures steady { K.steady out.old → K.steady out.new × IfOk result (λ applied. applied ≡ Applied.WriteFault → K.full out.new) }
+{
+    let Ok(instance) = desk.instance() else {
+        return Err(AllocError);
+    };
+    match write_head(out, &instance, nodes) {
+        Ok(()) => Ok(Applied::Taken),
+        Err(WriteFault) => Ok(Applied::WriteFault),
+    }
+}
+
+/// Applies an entry, and writes the instance of the round that it begins, if it begins one.
+fn apply_entry<K: Sink>(
+    desk: &mut Desk,
+    entry: &Entry,
+    out: &mut K,
+) -> Result<Applied, AllocError>
+    requires { IsInRange entry.now }
+    ensures applied { IfOk result (λ applied. IsApplied desk.old entry.now applied desk.new (K.got out.old) (K.got out.new)) }
+    ensures nothing { OnErr result (K.got out.new ≡ K.got out.old) }
+    ensures write_fault { IfOk result (λ applied. applied ≡ Applied.WriteFault → Rose (K.faults out.old) (K.faults out.new)) }
+    ensures later { K.faults out.old ≤ K.faults out.new }
+    ensures steady { K.steady out.old → K.steady out.new × IfOk result (λ applied. applied ≡ Applied.WriteFault → K.full out.new) }
+{
+    match desk.apply(entry) {
+        Ok(()) => {}
+        Err(ChangeFault::OutOfMemory) => return Err(AllocError),
+        Err(fault) => return Ok(Applied::Refused(fault)),
+    }
+    match *entry {
+        Entry::Plan { nodes } => put_round(desk, nodes, out),
+        _ => Ok(Applied::Taken),
+    }
+}
+
+/// Writes the instance of each round of a day, up to the first record that is refused, and the line of that one.
+fn apply_day<K: Sink>(alloc: Global, day: &Day, out: &mut K) -> Result<Status, AllocError>
+    requires { All IsInRange day.now.entries }
+    ensures says { (text : List ℕ) → IsDay text day.now.entries day.now.stop
+        → IfOk result (λ status. Wrote (K.got out.old) (K.got out.new) (Says command.Apply status None text)) }
+    ensures memory { (text : List ℕ) → IsDay text day.now.entries day.now.stop
+        → OnErr result (Wrote (K.got out.old) (K.got out.new) (SaysFirstRounds text)) }
+    ensures others { IfOk result (λ status. IsTrue (is_of_day status)) }
+    ensures write_fault { IfOk result (λ status. status ≡ Status.WriteFault → Rose (K.faults out.old) (K.faults out.new)) }
+    ensures later { K.faults out.old ≤ K.faults out.new }
+    ensures steady { K.steady out.old → K.steady out.new × IfOk result (λ status. status ≡ Status.WriteFault → K.full out.new) }
+{
+    let mut desk = Desk::new(alloc);
+    for (n, entry) in day.entries.as_slice().iter().enumerate() {
+        match apply_entry(&mut desk, entry, out)? {
+            Applied::Taken => {}
+            Applied::Refused(fault) => return Ok(refuse(
+                out,
+                n as u64 + 1,
+                DayFault::Change(fault),
+            )),
+            Applied::WriteFault => return Ok(Status::WriteFault),
+        }
+    }
+    Ok(match day.stop {
+        Some(stop) => refuse(out, stop.number, DayFault::InItself(stop.cause)),
+        None => Status::Done,
+    })
+}
+
+/// Reads a day, and writes the instance of each of its rounds, up to the first record that is refused, and the line
+/// of that one; the line alone where the text is too long.
+pub(crate) fn apply<S: Source, K: Sink>(
+    alloc: Global,
+    src: &mut S,
+    out: &mut K,
+) -> Result<Status, AllocError>
+    ensures says { IfOk result (λ status. OfBytes (S.left src.old) (K.got out.old) (K.got out.new) (Says command.Apply status (S.left src.new))) }
+    ensures memory { OnErr result (OfBytes (S.left src.old) (K.got out.old) (K.got out.new) SaysFirstRounds) }
+    ensures refused { IfOk result (λ status. status ≡ Status.Refused → IfSome (S.left src.old) (λ input. IsFine command.Apply input → ⊥)) }
+    ensures others { IfOk result (λ status. (status ≢ Status.Words) × (status ≢ Status.No) × (status ≢ Status.Memory)) }
+    ensures read_fault { IfOk result (λ status. status ≡ Status.ReadFault → Rose (S.faults src.old) (S.faults src.new)) }
+    ensures write_fault { IfOk result (λ status. status ≡ Status.WriteFault → Rose (K.faults out.old) (K.faults out.new)) }
+    ensures source_later { S.faults src.old ≤ S.faults src.new }
+    ensures sink_later { K.faults out.old ≤ K.faults out.new }
+    ensures steady_source { S.steady src.old → IfOk result (λ status. status ≢ Status.ReadFault) }
+    ensures steady_sink { K.steady out.old → K.steady out.new × IfOk result (λ status. status ≡ Status.WriteFault → K.full out.new) }
+{
+    one_day();
+    entries_in_range();
+    match read_text(alloc, src, DAY)? {
+        Text::Whole(text) => {
+            let day = read_day(alloc, text.as_slice())?;
+            apply_day(alloc, &day, out)
+        }
+        Text::TooLong => Ok(refuse(out, 0, DayFault::TooLong)),
+        Text::ReadFault => Ok(Status::ReadFault),
+    }
+}

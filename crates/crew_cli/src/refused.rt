@@ -1,0 +1,105 @@
+// The line of a day's refusal.
+ghost use Rattle.std.specs.Prelude.{◌≡◌, ◌≤◌, [], ◌∷◌, codes, OnOk, OnErr, IsErr};
+ghost use Rattle.std.specs.Fmt.{decimal};
+ghost use Rattle.crew_io.specs.Io.{Rose, Appended, AppendedPart};
+ghost use Rattle.crew_terms.specs.Words.{line_text};
+ghost use Rattle.crew_cli.specs.Refused.{refused_line};
+
+use cert_format::{Part, put_line};
+use crew_io::sink::{Sink, WriteFault};
+use day_records::DayCause;
+use field_table::{Cause, FieldFault};
+use flight_changes::ChangeFault;
+
+/// Why a day is refused.
+#[derive(Clone, Copy, Debug, PartialEq, Eq)]
+pub enum DayFault {
+    /// Its text is longer than a day's may be.
+    TooLong,
+    /// A record is refused in itself.
+    InItself(DayCause),
+    /// A record is refused by the state that those before it come to.
+    Change(ChangeFault),
+}
+
+fn put_field<K: Sink>(out: &mut K, number: u64, fault: FieldFault) -> Result<(), WriteFault>
+    ensures all { OnOk result (Appended (K.got out.old) (K.got out.new) (refused_line number (DayFault.InItself (DayCause.Field fault)))) }
+    ensures part { OnErr result (AppendedPart (K.got out.old) (K.got out.new) (refused_line number (DayFault.InItself (DayCause.Field fault)))) }
+    ensures later { K.faults out.old ≤ K.faults out.new }
+    ensures cause { IsErr result → Rose (K.faults out.old) (K.faults out.new) }
+    ensures steady { K.steady out.old → K.steady out.new × (IsErr result → K.full out.new) }
+{
+    let refused = Part::Word(b"refused");
+    let at = Part::Number(number);
+    let place = Part::Number(fault.place as u64);
+    match fault.cause {
+        Cause::Count => put_word(out, number, b"Count"),
+        Cause::Spelling => put_line(out, &[refused, at, Part::Word(b"Spelling"), place]),
+        Cause::Range => put_line(out, &[refused, at, Part::Word(b"Range"), place]),
+    }
+}
+
+/// Writes the line of a cause that is one word.
+fn put_word<K: Sink>(out: &mut K, number: u64, cause: &[u8]) -> Result<(), WriteFault>
+    ensures all { OnOk result (Appended (K.got out.old) (K.got out.new) (line_text (codes "refused" ∷ decimal number ∷ cause.now ∷ []))) }
+    ensures part { OnErr result (AppendedPart (K.got out.old) (K.got out.new) (line_text (codes "refused" ∷ decimal number ∷ cause.now ∷ []))) }
+    ensures later { K.faults out.old ≤ K.faults out.new }
+    ensures cause { IsErr result → Rose (K.faults out.old) (K.faults out.new) }
+    ensures steady { K.steady out.old → K.steady out.new × (IsErr result → K.full out.new) }
+{
+    put_line(
+        out,
+        &[
+            Part::Word(b"refused"),
+            Part::Number(number),
+            Part::Word(cause),
+        ],
+    )
+}
+
+fn put_change<K: Sink>(out: &mut K, number: u64, fault: ChangeFault) -> Result<(), WriteFault>
+    ensures all { OnOk result (Appended (K.got out.old) (K.got out.new) (refused_line number (DayFault.Change fault))) }
+    ensures part { OnErr result (AppendedPart (K.got out.old) (K.got out.new) (refused_line number (DayFault.Change fault))) }
+    ensures later { K.faults out.old ≤ K.faults out.new }
+    ensures cause { IsErr result → Rose (K.faults out.old) (K.faults out.new) }
+    ensures steady { K.steady out.old → K.steady out.new × (IsErr result → K.full out.new) }
+{
+    match fault {
+        ChangeFault::OutOfMemory => put_word(out, number, b"OutOfMemory"),
+        ChangeFault::NoTask => put_word(out, number, b"NoTask"),
+        ChangeFault::NoTeam => put_word(out, number, b"NoTeam"),
+        ChangeFault::NoPlace => put_word(out, number, b"NoPlace"),
+        ChangeFault::SameName => put_word(out, number, b"SameName"),
+        ChangeFault::TooMany => put_word(out, number, b"TooMany"),
+        ChangeFault::BadWindow => put_word(out, number, b"BadWindow"),
+        ChangeFault::BadShift => put_word(out, number, b"BadShift"),
+        ChangeFault::BadTeams => put_word(out, number, b"BadTeams"),
+        ChangeFault::MissingTravel { from, to } => put_line(
+            out,
+            &[
+                Part::Word(b"refused"),
+                Part::Number(number),
+                Part::Word(b"MissingTravel"),
+                Part::Word(from.bytes()),
+                Part::Word(to.bytes()),
+            ],
+        ),
+    }
+}
+
+/// Writes the line of a day's refusal, with the number of its record from 1, or 0 where the text is too long. A
+/// fault leaves a front of it.
+pub fn put_refused<K: Sink>(out: &mut K, number: u64, cause: DayFault) -> Result<(), WriteFault>
+    ensures all { OnOk result (Appended (K.got out.old) (K.got out.new) (refused_line number cause)) }
+    ensures part { OnErr result (AppendedPart (K.got out.old) (K.got out.new) (refused_line number cause)) }
+    ensures later { K.faults out.old ≤ K.faults out.new }
+    ensures cause { IsErr result → Rose (K.faults out.old) (K.faults out.new) }
+    ensures steady { K.steady out.old → K.steady out.new × (IsErr result → K.full out.new) }
+{
+    match cause {
+        DayFault::TooLong => put_word(out, number, b"TooLong"),
+        DayFault::InItself(DayCause::Kind) => put_word(out, number, b"Kind"),
+        DayFault::InItself(DayCause::Field(fault)) => put_field(out, number, fault),
+        DayFault::Change(fault) => put_change(out, number, fault),
+    }
+}
