@@ -1,4 +1,3 @@
-pub mod Ranges
 pub mod Records
 pub mod Forms
 pub mod Fields
