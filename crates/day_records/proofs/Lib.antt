@@ -4,3 +4,5 @@ pub mod SkillSets
 pub mod ByNumber
 pub mod Turns
 pub mod Takings
+pub mod InRanges
+pub mod OneReadings

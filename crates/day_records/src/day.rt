@@ -1,6 +1,7 @@
 // The records of a text, read in turn.
-ghost use Rattle.std.specs.Prelude.{◌≡◌, ◌<◌, length, IfOk};
+ghost use Rattle.std.specs.Prelude.{◌≡◌, ◌<◌, length, IfOk, All};
 ghost use Rattle.day_terms.specs.Days.{ReadsRecord, IsDayOf};
+ghost use Rattle.day_terms.specs.Ranges.{IsInRange};
 
 use crate::rows::{KINDS, LENGTHS, read_row};
 use crate::words::RecordWords;
@@ -76,7 +77,8 @@ fn read_record(words: &RecordWords<'_>) -> Result<Entry, DayCause>
 /// the number, from 1, and the cause of that one. The bytes may be any; a text that is not UTF-8 is read
 /// like any other. AllocError comes where memory is wanting.
 pub fn read_day(alloc: Global, text: &[u8]) -> Result<Day, AllocError>
-    ensures { IfOk result (λ day. IsDayOf text.now day.entries day.stop) }
+    ensures says { IfOk result (λ day. IsDayOf text.now day.entries day.stop) }
+    ensures in_range { IfOk result (λ day. All IsInRange day.entries) }
 {
     let rdr = ReaderBuilder::new()
         .has_headers(false)

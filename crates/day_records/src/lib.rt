@@ -2,6 +2,7 @@
 #![tactic(auto)]
 
 mod day;
+mod laws;
 mod rows;
 mod skills;
 #[cfg(test)]
@@ -10,4 +11,5 @@ mod words;
 
 pub use day::{Day, Entries, read_day};
 pub use day_terms::{DayCause, Entry, Refused};
+pub use laws::one_reading;
 pub use words::RecordWords;

@@ -5,6 +5,7 @@ use Rattle.csv.specs.Records.{fields_of}
 use Rattle.csv.specs.declared.parser.State.TheVariants as st
 use Rattle.csv.proofs.ReadFacts.{rows-end, rows-more}
 use Rattle.day_terms.specs.Days.{ReadsRecord}
+use Rattle.day_records.proofs.InRanges.{day_range}
 use Rattle.day_records.proofs.Turns.{last_some}
 use Rattle.day_records.proofs.Takings.{taken_none, taken_more, taken_all, taken_bad}
 use Rattle.day_records.proofs.day.read_day.Goals as goal
@@ -35,8 +36,8 @@ read_record-requires c =
     let m = rows-more (λ (s : Bor (List ℕ)). Some s.now) c.loop-row.row-iterator.rdr c.next.new.self.rdr f default_config st.StartRecord (strip_bom c.args.text.now) inv.4 inv.6.rows inv.3 inv.5 inv.6.reached s.0 in
     subst (λ r. 0 < length r) (sym c.new-in-loop-row.ensures) (last_some st.StartRecord _ (strip_bom c.args.text.now) m.0 inv.6.rows f m.2)
 
-pub returns-in-Err : goal.returns-in-Err
-returns-in-Err c =
+pub returns-in-Err-clause-says : goal.returns-in-Err-clause-says
+returns-in-Err-clause-says c =
     let inv = c.loop-row.invariant in
     let f = fields_of c.in-Ok.row in
     let s = rw (c.in-Some.is, c.in-Ok.is) at ((c.next.ensures.steps inv.2 inv.0).0 inv.1) in
@@ -55,9 +56,15 @@ loop-row-preserved c =
     let said = subst (λ r. ReadsRecord r (Ok c.in-Ok-read_record.entry)) c.new-in-loop-row.ensures c.in-Ok-read_record.ensures in
     (s.0.3 ∙ inv.0, inl s.1, s.2, s.0.2 ∙ inv.3, m.0, m.1, taken_more c.args.text.now _ _ inv.4 m.0 c.loop-row.entries.items _ f c.in-Ok-read_record.entry inv.6 m.2 said items)
 
-pub returns : goal.returns
-returns c =
+pub returns-clause-says : goal.returns-clause-says
+returns-clause-says c =
     let inv = c.loop-row.invariant in
     let s = rw c.in-None.is at ((c.next.ensures.steps inv.2 inv.0).0 inv.1) in
     taken_all c.args.text.now _ inv.4 c.loop-row.entries.items c.new-2.result inv.6
     (rows-end (λ (s : Bor (List ℕ)). Some s.now) c.loop-row.row-iterator.rdr c.next.new.self.rdr [] default_config inv.4 inv.3 inv.5 s) c.new-2.ensures
+
+pub returns-in-Err-clause-in_range : goal.returns-in-Err-clause-in_range
+returns-in-Err-clause-in_range c = day_range c.args.text.now _ _ (returns-in-Err-clause-says c)
+
+pub returns-clause-in_range : goal.returns-clause-in_range
+returns-clause-in_range c = day_range c.args.text.now _ _ (returns-clause-says c)
