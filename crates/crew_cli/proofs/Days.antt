@@ -3,6 +3,7 @@ use Rattle.std.proofs.Common.{◌≡◌, ◌≤◌, ◌<◌, ◌+◌, ◌++◌, 
 use Rattle.std.specs.List.{fold, flat_map}
 use Rattle.std.proofs.lemmas.List.Sums.{fold-append}
 use Rattle.std.proofs.lemmas.List.Concat.{flat_map-append}
+use Rattle.dossier_terms.specs.Lines.{instance_text}
 use Rattle.day_terms.specs.declared.Entry.{Entry}
 use Rattle.day_terms.specs.declared.Refused.{Refused}
 use Rattle.day_terms.specs.Days.{IsDayOf}
@@ -12,6 +13,10 @@ use Rattle.day_terms.specs.Rounds.{Round, round_at, rounds_from, rounds_of}
 use Rattle.flight_changes.specs.Faults.{fault_of}
 use Rattle.crew_cli.specs.declared.refused.DayFault.TheVariants.{InItself, Change}
 use Rattle.crew_cli.specs.Rounds.{AreTaken, DayStop, ComesTo, AllTaken, BadRecord, BadChange, rounds_text}
+
+-- the text of a round
+abbrev pub round_text : Round → List ℕ
+round_text r = instance_text r.instance r.nodes
 
 -- the state after entries, from a state on
 abbrev pub after_all : State → List Entry → State
@@ -41,7 +46,7 @@ pub rounds_more : (entries : List Entry) (entry : Entry) → rounds_of (entries 
 rounds_more entries entry = rounds_more_from start entries entry
 
 pub text_more : (entries : List Entry) (entry : Entry) → rounds_text (rounds_of (entries ++ entry ∷ [])) ≡ rounds_text (rounds_of entries) ++ rounds_text (round_at (state_after entries) entry)
-text_more entries entry = ap rounds_text (rounds_more entries entry) ∙ flat_map-append _ (rounds_of entries) (round_at (state_after entries) entry)
+text_more entries entry = ap rounds_text (rounds_more entries entry) ∙ flat_map-append round_text (rounds_of entries) (round_at (state_after entries) entry)
 
 -- what a day comes to, whose first rounds are these
 pub record GoesOn (text : List ℕ) (first : List Round) : Type 0 where
@@ -61,16 +66,18 @@ goes_on text front [] (Some refused) day taken = record {
   stop = Some (record { number = refused.number; cause = InItself refused.cause });
   comes_to = BadRecord front refused (subst (λ es. IsDayOf text es (Some refused)) (append-nil front) day) taken (append-nil (rounds_of front)) refl;
 }
-goes_on text front (entry ∷ back) last day taken = by (refusal_of (state_after front) entry) refl
+goes_on text front (entry ∷ back) last day taken =
+    by (refusal_of (state_after front) entry) refl
+    (λ e. goes_on text (front ++ entry ∷ []) back last (subst (λ es. IsDayOf text es last) (sym (append_assoc front (entry ∷ []) back)) day) (taken_more front entry taken e))
   where
-    by : (told : Option Refusal) → refusal_of (state_after front) entry ≡ told → GoesOn text (rounds_of front)
-    by (Some refusal) e = record {
+    by : (told : Option Refusal) → refusal_of (state_after front) entry ≡ told → (refusal_of (state_after front) entry ≡ None → GoesOn text (rounds_of (front ++ entry ∷ []))) → GoesOn text (rounds_of front)
+    by (Some refusal) e more = record {
       rest = [];
       stop = Some (record { number = length front + 1; cause = Change (fault_of refusal) });
       comes_to = BadChange front back entry last day taken refusal e (append-nil (rounds_of front)) refl;
     }
-    by None e =
-        let g = goes_on text (front ++ entry ∷ []) back last (subst (λ es. IsDayOf text es last) (sym (append_assoc front (entry ∷ []) back)) day) (taken_more front entry taken e) in
+    by None e more =
+        let g = more e in
         record {
           rest = round_at (state_after front) entry ++ g.rest;
           stop = g.stop;

@@ -9,3 +9,4 @@ pub mod HeadRows
 pub mod HeadSteps
 pub mod BodyRows
 pub mod Days
+pub mod Applies

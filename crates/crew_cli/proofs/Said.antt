@@ -35,11 +35,11 @@ GoodBounds = (d : Dossier) (p : Plan) → IsGood d → IsLegal d.instance p → 
 pub opens : (reader : Reader) → reader ≡ fresh_reader (2 ^ 62) → IsOpen reader 0
 opens reader e = subst (λ r. IsOpen r 0) (sym e) (record { going = refl; limit = refl; within = omega arith; few = omega arith })
 
-appended_none : (got : Option (List ℕ)) → Appended got got []
+pub appended_none : (got : Option (List ℕ)) → Appended got got []
 appended_none None = refl
 appended_none (Some bytes) = ap Some (sym (append-nil bytes))
 
-appended_both : (old mid new : Option (List ℕ)) (xs ys : List ℕ) → Appended old mid xs → Appended mid new ys → Appended old new (xs ++ ys)
+pub appended_both : (old mid new : Option (List ℕ)) (xs ys : List ℕ) → Appended old mid xs → Appended mid new ys → Appended old new (xs ++ ys)
 appended_both None mid new xs ys p q = subst (λ m. Appended m new ys) p q
 appended_both (Some bytes) mid new xs ys p q = subst (λ m. Appended m new ys) p q ∙ ap Some (append_assoc bytes xs ys)
 

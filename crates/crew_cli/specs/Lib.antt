@@ -5,4 +5,5 @@ pub mod Input
 pub mod Refused
 pub mod Rounds
 pub mod Status
+pub mod Applied
 pub mod Run

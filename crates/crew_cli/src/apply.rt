@@ -1,9 +1,8 @@
 // The instance of each round of a day.
-ghost use Rattle.std.specs.Prelude.{◌≡◌, ◌≢◌, ◌≤◌, List, ℕ, None, IfOk, IfSome, OnErr, IsTrue, All};
+ghost use Rattle.std.specs.Prelude.{◌≡◌, ◌≢◌, ◌≤◌, ◌↔◌, List, ℕ, None, IfOk, IfSome, OnErr, IsTrue, All};
 ghost use Rattle.crew_io.specs.Io.{Appended, AppendedPart, Rose};
 ghost use Rattle.dossier_terms.specs.Lines.{instance_text};
 ghost use Rattle.day_terms.specs.Ranges.{IsInRange};
-ghost use Rattle.day_terms.specs.Rounds.{first_missing, instance_of};
 ghost use Rattle.crew_cli.specs.Applied.{IsApplied, IsDay, Wrote, is_taken_or_write_fault, is_refused_or_write_fault, is_of_day};
 ghost use Rattle.crew_cli.specs.Refused.{refused_line};
 ghost use Rattle.crew_cli.specs.Rounds.{SaysFirstRounds};
@@ -13,11 +12,11 @@ ghost use Rattle.crew_cli.specs.declared.run.Command.TheVariants as command;
 use crate::refused::{DayFault, put_refused};
 use crate::status::Status;
 use cert_format::write_head;
+use crew_instance::Instance;
 use crew_io::sink::{Sink, WriteFault};
 use crew_io::source::Source;
 use crew_io::text::{Text, read_text};
-use day_laws::{entries_in_range, one_day};
-use day_records::{Day, read_day};
+use day_records::{Day, one_reading, read_day};
 use day_terms::Entry;
 use flight_changes::{ChangeFault, Desk};
 use std::alloc::{AllocError, Global};
@@ -50,24 +49,26 @@ fn refuse<K: Sink>(out: &mut K, number: u64, cause: DayFault) -> Status
     }
 }
 
-/// Writes the instance of the desk's state.
-fn put_round<K: Sink>(desk: &Desk, nodes: u32, out: &mut K) -> Result<Applied, AllocError>
-    requires { first_missing desk.now ≡ None }
-    ensures taken { IfOk result (λ applied. applied ≡ Applied.Taken → Appended (K.got out.old) (K.got out.new) (instance_text (instance_of desk.now) nodes)) }
-    ensures part { IfOk result (λ applied. applied ≡ Applied.WriteFault → AppendedPart (K.got out.old) (K.got out.new) (instance_text (instance_of desk.now) nodes)) }
-    ensures others { IfOk result (λ applied. IsTrue (is_taken_or_write_fault applied)) }
-    ensures nothing { OnErr result (K.got out.new ≡ K.got out.old) }
-    ensures write_fault { IfOk result (λ applied. applied ≡ Applied.WriteFault → Rose (K.faults out.old) (K.faults out.new)) }
+/// Writes the instance of a round.
+fn put_round<K: Sink>(instance: &Instance, nodes: u32, out: &mut K) -> Applied
+    ensures taken { result ≡ Applied.Taken → Appended (K.got out.old) (K.got out.new) (instance_text instance.now nodes) }
+    ensures part { result ≡ Applied.WriteFault → AppendedPart (K.got out.old) (K.got out.new) (instance_text instance.now nodes) }
+    ensures others { IsTrue (is_taken_or_write_fault result) }
+    ensures write_fault { result ≡ Applied.WriteFault → Rose (K.faults out.old) (K.faults out.new) }
     ensures later { K.faults out.old ≤ K.faults out.new }
-    ensures steady { K.steady out.old → K.steady out.new × IfOk result (λ applied. applied ≡ Applied.WriteFault → K.full out.new) }
+    ensures steady { K.steady out.old → K.steady out.new × (result ≡ Applied.WriteFault → K.full out.new) }
 {
-    let Ok(instance) = desk.instance() else {
-        return Err(AllocError);
-    };
-    match write_head(out, &instance, nodes) {
-        Ok(()) => Ok(Applied::Taken),
-        Err(WriteFault) => Ok(Applied::WriteFault),
+    match write_head(out, instance, nodes) {
+        Ok(()) => Applied::Taken,
+        Err(WriteFault) => Applied::WriteFault,
     }
+}
+
+/// Whether a change failed for want of memory.
+fn wants_memory(fault: &ChangeFault) -> bool
+    ensures { IsTrue result ↔ (fault.now ≡ ChangeFault.OutOfMemory) }
+{
+    matches!(fault, ChangeFault::OutOfMemory)
 }
 
 /// Applies an entry, and writes the instance of the round that it begins, if it begins one.
@@ -83,15 +84,19 @@ fn apply_entry<K: Sink>(
     ensures later { K.faults out.old ≤ K.faults out.new }
     ensures steady { K.steady out.old → K.steady out.new × IfOk result (λ applied. applied ≡ Applied.WriteFault → K.full out.new) }
 {
-    match desk.apply(entry) {
-        Ok(()) => {}
-        Err(ChangeFault::OutOfMemory) => return Err(AllocError),
-        Err(fault) => return Ok(Applied::Refused(fault)),
+    if let Err(fault) = desk.apply(entry) {
+        if wants_memory(&fault) {
+            return Err(AllocError);
+        }
+        return Ok(Applied::Refused(fault));
     }
-    match *entry {
-        Entry::Plan { nodes } => put_round(desk, nodes, out),
-        _ => Ok(Applied::Taken),
-    }
+    let Entry::Plan { nodes } = *entry else {
+        return Ok(Applied::Taken);
+    };
+    let Ok(instance) = desk.instance() else {
+        return Err(AllocError);
+    };
+    Ok(put_round(&instance, nodes, out))
 }
 
 /// Writes the instance of each round of a day, up to the first record that is refused, and the line of that one.
@@ -107,7 +112,8 @@ fn apply_day<K: Sink>(alloc: Global, day: &Day, out: &mut K) -> Result<Status, A
     ensures steady { K.steady out.old → K.steady out.new × IfOk result (λ status. status ≡ Status.WriteFault → K.full out.new) }
 {
     let mut desk = Desk::new(alloc);
-    for (n, entry) in day.entries.as_slice().iter().enumerate() {
+    let entries = day.entries.as_slice();
+    for (n, entry) in entries.iter().enumerate() {
         match apply_entry(&mut desk, entry, out)? {
             Applied::Taken => {}
             Applied::Refused(fault) => return Ok(refuse(
@@ -118,10 +124,10 @@ fn apply_day<K: Sink>(alloc: Global, day: &Day, out: &mut K) -> Result<Status, A
             Applied::WriteFault => return Ok(Status::WriteFault),
         }
     }
-    Ok(match day.stop {
-        Some(stop) => refuse(out, stop.number, DayFault::InItself(stop.cause)),
-        None => Status::Done,
-    })
+    let Some(stop) = day.stop else {
+        return Ok(Status::Done);
+    };
+    Ok(refuse(out, stop.number, DayFault::InItself(stop.cause)))
 }
 
 /// Reads a day, and writes the instance of each of its rounds, up to the first record that is refused, and the line
@@ -142,8 +148,7 @@ pub(crate) fn apply<S: Source, K: Sink>(
     ensures steady_source { S.steady src.old → IfOk result (λ status. status ≢ Status.ReadFault) }
     ensures steady_sink { K.steady out.old → K.steady out.new × IfOk result (λ status. status ≡ Status.WriteFault → K.full out.new) }
 {
-    one_day();
-    entries_in_range();
+    one_reading();
     match read_text(alloc, src, DAY)? {
         Text::Whole(text) => {
             let day = read_day(alloc, text.as_slice())?;
