@@ -1,14 +1,16 @@
 -- what is written of a day, entry by entry
 use Rattle.std.proofs.Common.{◌≡◌, ◌≢◌, ◌≤◌, ◌<◌, ◌+◌, ◌++◌, ◌∷◌, [], ℕ, suc, List, Option, None, Some, Result, Ok, Err, length, take, drop, get_or, ap, subst, sym, refl, ◌∙◌, arith, append_assoc, append-nil, length-append, length-take}
-use Rattle.std.specs.Prelude.{IfOk, IfErr, OnErr, IsTrue, codes, option_map}
+use Rattle.std.specs.Prelude.{IfSome, IfOk, IfErr, OnErr, IsTrue, codes, option_map}
 use Rattle.std.specs.List.{flat_map}
 use Rattle.std.specs.Fmt.{decimal}
 use Rattle.std.proofs.lemmas.List.{take_more, take_all, take-append-le, take-append-drop}
 use Rattle.std.proofs.lemmas.List.Concat.{flat_map-append}
-use Rattle.std.proofs.Math.Seq.{drop-cons}
+use Rattle.std.proofs.Math.Seq.{take-length}
 use Rattle.crew_terms.specs.Words.{line_text}
 use Rattle.crew_terms.specs.Instance.{Instance}
 use Rattle.crew_io.specs.Io.{Appended, AppendedPart}
+use Rattle.crew_io.specs.Text.{TookAtMost, ReadsText}
+use Rattle.crew_io.specs.declared.text.Text.TheVariants as text_is
 use Rattle.dossier_terms.specs.Lines.{instance_text}
 use Rattle.day_terms.specs.declared.Entry.{Entry}
 use Rattle.day_terms.specs.declared.Entry.TheVariants.{Place, Travel, RouteTime, DefaultTravel, Team, Task, Cancel, Move, Longer, Needs, Sick, Shift, Skill, Unskill, Plan}
@@ -21,17 +23,17 @@ use Rattle.flight_changes.specs.Faults.{fault_of}
 use Rattle.flight_changes.specs.declared.faults.ChangeFault.{ChangeFault}
 use Rattle.flight_changes.specs.declared.faults.ChangeFault.TheVariants.{OutOfMemory, MissingTravel}
 use Rattle.crew_cli.specs.Refused.{refused_line}
-use Rattle.crew_cli.specs.Rounds.{DAY, AreTaken, DayStop, ComesTo, AllTaken, BadRecord, BadChange, rounds_text, stop_text, SaysRounds, IsRefusedOutput, IsStopped, IsOutput, OfRounds, OfRefusal, SaysOutputFront, SaysFirstRounds, Rounds}
-use Rattle.crew_cli.specs.Applied.{IsApplied, IsDay, Wrote, is_taken_or_write_fault, is_refused_or_write_fault}
-use Rattle.crew_cli.specs.Run.{Says}
+use Rattle.crew_cli.specs.Rounds.{DAY, AreTaken, DayStop, ComesTo, AllTaken, BadRecord, BadChange, rounds_text, stop_text, SaysRounds, IsRefusedOutput, IsTooLong, IsStopped, IsOutput, OfRounds, OfRefusal, SaysOutputPart, NoByte, SomeBytes, SaysFirstRounds, NoRound, Rounds, SaysNothingRead}
+use Rattle.crew_cli.specs.Applied.{IsApplied, IsDay, Wrote, is_taken_or_write_fault, is_refused_or_write_fault, is_of_day}
+use Rattle.crew_cli.specs.Run.{OfBytes, Says, IsFine}
 use Rattle.crew_cli.specs.declared.run.Command.TheVariants as command
 use Rattle.crew_cli.specs.declared.status.Status.{Status}
 use Rattle.crew_cli.specs.declared.status.Status.TheVariants as status
 use Rattle.crew_cli.specs.declared.apply.Applied.{Applied}
 use Rattle.crew_cli.specs.declared.apply.Applied.TheVariants.{Taken, Refused as IsRefused, WriteFault}
 use Rattle.crew_cli.specs.declared.refused.DayFault.{DayFault}
-use Rattle.crew_cli.specs.declared.refused.DayFault.TheVariants.{InItself, Change}
-use Rattle.crew_cli.proofs.Days.{GoesOn, goes_on, round_text, text_more, taken_more, state_more}
+use Rattle.crew_cli.specs.declared.refused.DayFault.TheVariants.{TooLong, InItself, Change}
+use Rattle.crew_cli.proofs.Days.{GoesOn, goes_on, one_end, round_text, text_more, taken_more, state_more}
 use Rattle.crew_cli.proofs.Said.{appended_none, appended_both}
 
 -- ---- one entry
@@ -114,13 +116,13 @@ output_of text rounds None within c = OfRounds (record { within = within; rounds
 output_of text rounds (Some stop) within c = OfRefusal (IsStopped within rounds stop c refl)
 
 -- a front of a piece of the output was written
-pub says_front : (text output xs ys rest : List ℕ) (n : ℕ) → IsOutput text output → output ≡ xs ++ (ys ++ rest) → n ≤ length ys → SaysOutputFront text (xs ++ take n ys)
-says_front text output xs ys rest n whole is l = record {
+pub says_front : (text output xs ys rest : List ℕ) (n : ℕ) → IsOutput text output → output ≡ xs ++ (ys ++ rest) → n ≤ length ys → SaysOutputPart text (xs ++ take n ys)
+says_front text output xs ys rest n whole is l = SomeBytes (record {
   output = output;
   whole = whole;
   n = length xs + n;
   front = sym (ap (take (length xs + n)) is ∙ take_past xs (ys ++ rest) n ∙ ap (λ zs. xs ++ zs) (take-append-le n ys rest l));
-}
+})
 
 take_front : {X : Type 0} (xs ys : List X) → take (length xs) (xs ++ ys) ≡ xs
 take_front [] ys = refl
@@ -260,3 +262,101 @@ at_stop text entries n last stop got mid later answer day all taken wrote some w
     says_stop text (rounds_of entries) (record { number = stop.number; cause = InItself stop.cause }) got mid later answer day.within
     (BadRecord entries stop (subst (IsDayOf text entries) some day.day) (subst (AreTaken start) e taken) refl refl)
     (subst (λ es. Appended got mid (rounds_text (rounds_of es))) e wrote) whole part others
+
+-- ---- the whole call
+
+pub of_bytes_weaker : (left got later : Option (List ℕ)) (F G : List ℕ → List ℕ → Type 0) → ((input written : List ℕ) → F input written → G input written) → OfBytes left got later F → OfBytes left got later G
+of_bytes_weaker None got later F G f b = tt
+of_bytes_weaker (Some input) got later F G f b = (b.0, b.1, f input b.0 b.2)
+
+-- whatever the status, what was written is a front of the output
+pub part_of : (answer : Status) (unseen : Option (List ℕ)) (input written : List ℕ) → Says command.Apply answer unseen input written → SaysOutputPart input written
+part_of status.Done unseen input written says = SomeBytes (record { output = written; whole = OfRounds says; n = length written; front = sym (take-length written) })
+part_of status.No unseen input written says = absurd says
+part_of status.Words unseen input written says = absurd says
+part_of status.Refused unseen input written says = SomeBytes (record { output = written; whole = OfRefusal says; n = length written; front = sym (take-length written) })
+part_of status.ReadFault unseen input written says = NoByte says.none
+part_of status.WriteFault unseen input written says = says
+part_of status.Memory unseen input written (NoRound none) = NoByte none
+part_of status.Memory unseen input written (Rounds within rounds stop c n texts) =
+    let first = take n rounds in
+    let rest = rounds_text (drop n rounds) ++ stop_text stop in
+    let is : rounds_text rounds ++ stop_text stop ≡ rounds_text first ++ rest =
+    ap (λ rs. rounds_text rs ++ stop_text stop) (sym (take-append-drop n rounds)) ∙ ap (λ x. x ++ stop_text stop) (flat_map-append round_text first (drop n rounds))
+    ∙ append_assoc (rounds_text first) (rounds_text (drop n rounds)) (stop_text stop) in
+    SomeBytes (record {
+      output = rounds_text rounds ++ stop_text stop;
+      whole = output_of input rounds stop within c;
+      n = length (rounds_text first);
+      front = texts ∙ sym (ap (take (length (rounds_text first))) is ∙ take_front (rounds_text first) rest);
+    })
+
+says_any : (answer : Status) (unseen : Option (List ℕ)) (input written : List ℕ) → IsTrue (is_of_day answer) → Says command.Apply answer None input written → Says command.Apply answer unseen input written
+says_any status.Done unseen input written of_day says = says
+says_any status.No unseen input written of_day says = absurd (cc)
+says_any status.Words unseen input written of_day says = absurd (cc)
+says_any status.Refused unseen input written of_day says = says
+says_any status.ReadFault unseen input written of_day says = absurd (cc)
+says_any status.WriteFault unseen input written of_day says = says
+says_any status.Memory unseen input written of_day says = absurd (cc)
+
+-- the whole text was read
+pub whole_says : (left later got new : Option (List ℕ)) (bytes : List ℕ) (answer : Status) → ReadsText DAY left (text_is.Whole bytes) later → IsTrue (is_of_day answer)
+    → Wrote got new (Says command.Apply answer None bytes) → OfBytes left got new (Says command.Apply answer later)
+whole_says None later got new bytes answer read of_day wrote = tt
+whole_says (Some input) later got new bytes answer read of_day wrote = (wrote.0, wrote.1, says_any answer later input wrote.0 of_day (subst (λ x. Says command.Apply answer None x wrote.0) read.0 wrote.2))
+
+pub whole_memory : (left later got new : Option (List ℕ)) (bytes : List ℕ) → ReadsText DAY left (text_is.Whole bytes) later → Wrote got new (SaysFirstRounds bytes) → OfBytes left got new SaysFirstRounds
+whole_memory None later got new bytes read wrote = tt
+whole_memory (Some input) later got new bytes read wrote = (wrote.0, wrote.1, subst (λ x. SaysFirstRounds x wrote.0) read.0 wrote.2)
+
+pub whole_not_fine : (left later : Option (List ℕ)) (bytes : List ℕ) → ReadsText DAY left (text_is.Whole bytes) later → (IsFine command.Apply bytes → ⊥) → IfSome left (λ input. IsFine command.Apply input → ⊥)
+whole_not_fine None later bytes read not = tt
+whole_not_fine (Some input) later bytes read not = subst (λ x. IsFine command.Apply x → ⊥) read.0 not
+
+-- nothing was written, and memory was wanting
+pub none_memory : (left got : Option (List ℕ)) → OfBytes left got got SaysFirstRounds
+none_memory None got = tt
+none_memory (Some input) got = ([], appended_none got, NoRound refl)
+
+-- more bytes come than a day may have
+pub long_says : (left later got new : Option (List ℕ)) (answer : Status) → ReadsText DAY left text_is.TooLong later → (answer ≡ status.Refused → Appended got new (refused_line 0 TooLong))
+    → AppendedPart got new (refused_line 0 TooLong) → IsTrue (is_refused_or_write_fault answer) → OfBytes left got new (Says command.Apply answer later)
+long_says None later got new answer read all part others = tt
+long_says (Some input) later got new status.Done read all part others = absurd (cc)
+long_says (Some input) later got new status.No read all part others = absurd (cc)
+long_says (Some input) later got new status.Words read all part others = absurd (cc)
+long_says (Some input) later got new status.ReadFault read all part others = absurd (cc)
+long_says (Some input) later got new status.Memory read all part others = absurd (cc)
+long_says (Some input) later got new status.Refused read all part others = (refused_line 0 TooLong, all refl, IsTooLong read.0 refl)
+long_says (Some input) later got new status.WriteFault read all part others =
+    let line = refused_line 0 TooLong in
+    let w = piece_front got got new [] line (appended_none got) part in
+    (take w.0 line, w.2, says_front input line [] line [] w.0 (OfRefusal (IsTooLong read.0 refl)) (sym (append-nil line)) w.1)
+
+pub long_not_fine : (left later : Option (List ℕ)) → ReadsText DAY left text_is.TooLong later → IfSome left (λ input. IsFine command.Apply input → ⊥)
+long_not_fine None later read = tt
+long_not_fine (Some input) later read = λ fine. let a = read.0 in let b = fine.0 in absurd (omega arith)
+
+-- a read has failed
+pub fault_says : (left later got : Option (List ℕ)) → TookAtMost DAY left later → OfBytes left got got (Says command.Apply status.ReadFault later)
+fault_says None later got took = tt
+fault_says (Some input) later got took = (
+  [],
+  appended_none got,
+  record {
+    none = refl;
+    read = take took.0 input;
+    within = (let a = took.1 in omega (arith, length-take took.0 input));
+    rest = drop took.0 input;
+    left = took.3;
+    parts = sym (take-append-drop took.0 input);
+  },
+)
+
+-- what is refused is not fine
+pub refused_not_fine : (text output : List ℕ)
+    → ((text : List ℕ) (entries others : List Entry) (stop last : Option Refused) → IsDayOf text entries stop → IsDayOf text others last → (entries ≡ others) × (stop ≡ last))
+    → IsRefusedOutput text output → IsFine command.Apply text → ⊥
+refused_not_fine text output law (IsTooLong more is) fine = let b = fine.0 in absurd (omega arith)
+refused_not_fine text output law (IsStopped within rounds stop c is) fine = one_end text fine.1.0 rounds stop law fine.1.1 c

@@ -10,3 +10,4 @@ pub mod HeadSteps
 pub mod BodyRows
 pub mod Days
 pub mod Applies
+pub mod Top

@@ -73,6 +73,11 @@ pub record SaysOutputFront (input written : List ℕ) : Type 0 where
   pub n : ℕ
   pub front : written ≡ take n output
 
+-- nothing was written, or a front of it
+pub data SaysOutputPart (input written : List ℕ) : Type 0 where
+  NoByte : (none : written ≡ []) → SaysOutputPart input written
+  SomeBytes : (part : SaysOutputFront input written) → SaysOutputPart input written
+
 -- the instances of the first rounds were written and nothing else, if any
 pub data SaysFirstRounds (input written : List ℕ) : Type 0 where
   NoRound : (none : written ≡ []) → SaysFirstRounds input written

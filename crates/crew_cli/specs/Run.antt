@@ -1,5 +1,5 @@
 -- what the program writes for what it reads
-use Rattle.std.specs.Prelude.{◌≡◌, ◌≤◌, ◌++◌, ℕ, Bool, true, false, List, [], ◌∷◌, length, take, Option, None, Some, IfSome, All, codes, bytes_eq, if◌then◌else◌}
+use Rattle.std.specs.Prelude.{◌≡◌, ◌≤◌, ◌++◌, ℕ, Bool, true, false, List, [], ◌∷◌, length, take, Option, None, Some, IfSome, All, codes}
 use Rattle.std.specs.List.{flat_map}
 use Rattle.crew_terms.specs.Plan.{Plan, IsLegal, unassigned_count}
 use Rattle.crew_io.specs.Io.{Appended}
@@ -12,7 +12,7 @@ use Rattle.dossier_terms.specs.Reading.{Reading, Form}
 use Rattle.dossier_terms.specs.Today.{IsSimpleInput}
 use Rattle.day_terms.specs.Rounds.{Round}
 use Rattle.crew_cli.specs.Input.{IsRefusal, HasRead, room_after}
-use Rattle.crew_cli.specs.Rounds.{DAY, ComesTo, SaysRounds, IsRefusedOutput, SaysOutputFront, SaysFirstRounds, SaysNothingRead}
+use Rattle.crew_cli.specs.Rounds.{DAY, ComesTo, SaysRounds, IsRefusedOutput, SaysOutputPart, SaysFirstRounds, SaysNothingRead}
 use Rattle.crew_cli.specs.declared.run.Command.{Command}
 use Rattle.crew_cli.specs.declared.run.Command.TheVariants.{Check, Apply}
 use Rattle.crew_cli.specs.declared.status.Status.{Status}
@@ -88,10 +88,14 @@ pub record SaysYesLines (input written : List ℕ) : Type 0 where
   pub yes_lines : written ≡ flat_map yes_line dossiers
   pub each : All IsTrueYes dossiers
 
--- what the words ask for
-abbrev pub command_of : List (List ℕ) → Option Command
-command_of (word ∷ []) = if bytes_eq word (codes "check") then Some Check else if bytes_eq word (codes "apply") then Some Apply else None
-command_of _ = None
+-- the word of a command
+abbrev pub word_of : Command → List ℕ
+word_of Check = codes "check"
+word_of Apply = codes "apply"
+
+-- the words ask for the command: they are its one word
+abbrev pub AskFor : Command → List (List ℕ) → Type 0
+AskFor command words = words ≡ word_of command ∷ []
 
 -- what a status of a command says of the input, of what its source has left, and of what was written; no other status
 -- comes
@@ -104,7 +108,7 @@ Says Check Memory unseen input written = SaysYesLines input written
 Says Apply Done unseen input written = SaysRounds input written
 Says Apply Refused unseen input written = IsRefusedOutput input written
 Says Apply ReadFault unseen input written = SaysNothingRead unseen input written
-Says Apply WriteFault unseen input written = SaysOutputFront input written
+Says Apply WriteFault unseen input written = SaysOutputPart input written
 Says Apply Memory unseen input written = SaysFirstRounds input written
 Says _ _ unseen input written = ⊥
 

@@ -1,11 +1,11 @@
 // The instance of each round of a day.
-ghost use Rattle.std.specs.Prelude.{◌≡◌, ◌≢◌, ◌≤◌, ◌↔◌, List, ℕ, None, IfOk, IfSome, OnErr, IsTrue, All};
+ghost use Rattle.std.specs.Prelude.{◌≡◌, ◌≢◌, ◌≤◌, ◌↔◌, length, List, ℕ, None, IfOk, IfSome, OnErr, IsTrue, All};
 ghost use Rattle.crew_io.specs.Io.{Appended, AppendedPart, Rose};
 ghost use Rattle.dossier_terms.specs.Lines.{instance_text};
 ghost use Rattle.day_terms.specs.Ranges.{IsInRange};
 ghost use Rattle.crew_cli.specs.Applied.{IsApplied, IsDay, Wrote, is_taken_or_write_fault, is_refused_or_write_fault, is_of_day};
 ghost use Rattle.crew_cli.specs.Refused.{refused_line};
-ghost use Rattle.crew_cli.specs.Rounds.{SaysFirstRounds};
+ghost use Rattle.crew_cli.specs.Rounds.{DAY, SaysFirstRounds};
 ghost use Rattle.crew_cli.specs.Run.{OfBytes, Says, IsFine};
 ghost use Rattle.crew_cli.specs.declared.run.Command.TheVariants as command;
 
@@ -72,11 +72,7 @@ fn wants_memory(fault: &ChangeFault) -> bool
 }
 
 /// Applies an entry, and writes the instance of the round that it begins, if it begins one.
-fn apply_entry<K: Sink>(
-    desk: &mut Desk,
-    entry: &Entry,
-    out: &mut K,
-) -> Result<Applied, AllocError>
+fn apply_entry<K: Sink>(desk: &mut Desk, entry: &Entry, out: &mut K) -> Result<Applied, AllocError>
     requires { IsInRange entry.now }
     ensures applied { IfOk result (λ applied. IsApplied desk.old entry.now applied desk.new (K.got out.old) (K.got out.new)) }
     ensures nothing { OnErr result (K.got out.new ≡ K.got out.old) }
@@ -130,6 +126,23 @@ fn apply_day<K: Sink>(alloc: Global, day: &Day, out: &mut K) -> Result<Status, A
     Ok(refuse(out, stop.number, DayFault::InItself(stop.cause)))
 }
 
+/// Writes the instance of each round of a day's text, up to the first record that is refused, and the line of that one.
+fn apply_text<K: Sink>(alloc: Global, text: &[u8], out: &mut K) -> Result<Status, AllocError>
+    requires { length text.now ≤ DAY }
+    ensures says { IfOk result (λ status. Wrote (K.got out.old) (K.got out.new) (Says command.Apply status None text.now)) }
+    ensures memory { OnErr result (Wrote (K.got out.old) (K.got out.new) (SaysFirstRounds text.now)) }
+    ensures refused { IfOk result (λ status. status ≡ Status.Refused → IsFine command.Apply text.now → ⊥) }
+    ensures others { IfOk result (λ status. IsTrue (is_of_day status)) }
+    ensures write_fault { IfOk result (λ status. status ≡ Status.WriteFault → Rose (K.faults out.old) (K.faults out.new)) }
+    ensures later { K.faults out.old ≤ K.faults out.new }
+    ensures steady { K.steady out.old → K.steady out.new × IfOk result (λ status. status ≡ Status.WriteFault → K.full out.new) }
+{
+    one_reading();
+    let day = read_day(alloc, text)?;
+    let status = apply_day(alloc, &day, out)?;
+    Ok(status)
+}
+
 /// Reads a day, and writes the instance of each of its rounds, up to the first record that is refused, and the line
 /// of that one; the line alone where the text is too long.
 pub(crate) fn apply<S: Source, K: Sink>(
@@ -148,11 +161,10 @@ pub(crate) fn apply<S: Source, K: Sink>(
     ensures steady_source { S.steady src.old → IfOk result (λ status. status ≢ Status.ReadFault) }
     ensures steady_sink { K.steady out.old → K.steady out.new × IfOk result (λ status. status ≡ Status.WriteFault → K.full out.new) }
 {
-    one_reading();
     match read_text(alloc, src, DAY)? {
         Text::Whole(text) => {
-            let day = read_day(alloc, text.as_slice())?;
-            apply_day(alloc, &day, out)
+            let status = apply_text(alloc, text.as_slice(), out)?;
+            Ok(status)
         }
         Text::TooLong => Ok(refuse(out, 0, DayFault::TooLong)),
         Text::ReadFault => Ok(Status::ReadFault),

@@ -29,7 +29,7 @@ pub(crate) fn check<S: Source, K: Sink>(
     ensures interrupted { IfOk result (λ status. status ≡ Status.ReadFault
         → OfBytes (S.left src.old) (K.got out.old) (K.got out.new) (SaysReadFault (S.left src.new))) }
     ensures memory { OnErr result (OfBytes (S.left src.old) (K.got out.old) (K.got out.new) SaysYesLines) }
-    ensures others { IfOk result (λ status. (status ≢ Status.Words) × (status ≢ Status.Memory)) }
+    ensures others { IfOk result (λ status. (status ≢ Status.Words) × (status ≢ Status.Refused) × (status ≢ Status.Memory)) }
     ensures read_fault { IfOk result (λ status. status ≡ Status.ReadFault → Rose (S.faults src.old) (S.faults src.new)) }
     ensures write_fault { IfOk result (λ status. status ≡ Status.WriteFault → Rose (K.faults out.old) (K.faults out.new)) }
     ensures source_later { S.faults src.old ≤ S.faults src.new }

@@ -1,6 +1,7 @@
 // What the program answers, and what it has written, where a read, a write or the flush fails.
 ghost use Rattle.std.specs.Prelude.{◌≤◌};
 
+use crate::apply_tests::DAY;
 use crate::run::{Status, run};
 use crate::steady::{run_in_memory, run_steady};
 use crate::tests::{GOOD, WITH_POOL, YES, joined};
@@ -15,10 +16,11 @@ const ROOM: usize = 400;
 /// More calls than any run here makes.
 const CALLS: u64 = 1000;
 
-/// What `crew check` answers and writes, over a source that gives pieces of so many bytes and a sink with this
+/// What `crew` answers to a word and writes, over a source that gives pieces of so many bytes and a sink with this
 /// room, where these reads and writes fail, from 1. A flush is counted with the writes.
-fn check_over(
+fn answer_over(
     alloc: Global,
+    word: &str,
     input: &[u8],
     piece: usize,
     reads: &[u64],
@@ -28,7 +30,7 @@ fn check_over(
     requires { 1 ≤ piece }
 {
     let mut words = Vec::new(alloc);
-    words.push(String::from_str(alloc, "check")?)?;
+    words.push(String::from_str(alloc, word)?)?;
     let mut src = MemSource::new(input.to_vec(alloc)?, piece, reads.to_vec(alloc)?);
     let mut out = MemSink::new(alloc, room, 7, writes.to_vec(alloc)?)?;
     let status = run(alloc, &words, &mut src, &mut out);
@@ -37,12 +39,12 @@ fn check_over(
 
 /// How many reads there are, each of which was told where it failed, with a front of the output; none where one
 /// was not.
-fn told_reads(alloc: Global, input: &[u8], piece: usize) -> Result<Option<u64>, Fail>
+fn told_reads(alloc: Global, word: &str, input: &[u8], piece: usize) -> Result<Option<u64>, Fail>
     requires { 1 ≤ piece }
 {
-    let whole = check_over(alloc, input, piece, &[], ROOM, &[])?;
+    let whole = answer_over(alloc, word, input, piece, &[], ROOM, &[])?;
     for call in 1..CALLS {
-        let (status, written) = check_over(alloc, input, piece, &[call], ROOM, &[])?;
+        let (status, written) = answer_over(alloc, word, input, piece, &[call], ROOM, &[])?;
         if status != Status::ReadFault {
             return Ok((status == whole.0 && written == whole.1).then_some(call - 1));
         }
@@ -55,13 +57,13 @@ fn told_reads(alloc: Global, input: &[u8], piece: usize) -> Result<Option<u64>, 
 
 /// Whether each write and the flush is told where it fails, with a front of the output. The last of these is the
 /// flush, behind the whole output.
-fn tells_writes(alloc: Global, input: &[u8], piece: usize) -> Result<bool, Fail>
+fn tells_writes(alloc: Global, word: &str, input: &[u8], piece: usize) -> Result<bool, Fail>
     requires { 1 ≤ piece }
 {
-    let whole = check_over(alloc, input, piece, &[], ROOM, &[])?;
+    let whole = answer_over(alloc, word, input, piece, &[], ROOM, &[])?;
     let mut last = 0;
     for call in 1..CALLS {
-        let (status, written) = check_over(alloc, input, piece, &[], ROOM, &[call])?;
+        let (status, written) = answer_over(alloc, word, input, piece, &[], ROOM, &[call])?;
         if status != Status::WriteFault {
             return Ok(status == whole.0 && written == whole.1 && last == whole.1.len());
         }
@@ -74,18 +76,18 @@ fn tells_writes(alloc: Global, input: &[u8], piece: usize) -> Result<bool, Fail>
 }
 
 /// Whether each sink whose room is too small is filled, and its fault told; and one with just the room is no fault.
-fn tells_small_rooms(alloc: Global, input: &[u8], piece: usize) -> Result<bool, Fail>
+fn tells_small_rooms(alloc: Global, word: &str, input: &[u8], piece: usize) -> Result<bool, Fail>
     requires { 1 ≤ piece }
 {
-    let (answer, whole) = check_over(alloc, input, piece, &[], ROOM, &[])?;
+    let (answer, whole) = answer_over(alloc, word, input, piece, &[], ROOM, &[])?;
     let mut tells = true;
     for room in 0..whole.len() {
-        let (status, written) = check_over(alloc, input, piece, &[], room, &[])?;
+        let (status, written) = answer_over(alloc, word, input, piece, &[], room, &[])?;
         tells &= status == Status::WriteFault
             && written.len() == room
             && whole.starts_with(&written);
     }
-    let (status, _) = check_over(alloc, input, piece, &[], whole.len(), &[])?;
+    let (status, _) = answer_over(alloc, word, input, piece, &[], whole.len(), &[])?;
     Ok(tells && status == answer)
 }
 
@@ -107,9 +109,9 @@ fn until_the_pool() -> usize {
 fn two_dossiers_in_pieces_of_sixteen(rt: HostRuntime) -> Result<(), Fail> {
     let twice = joined(rt.alloc(), &[GOOD, GOOD])?;
     let reads = reads_of(twice.len(), 16).saturating_add(1);
-    assert_eq!(rt; told_reads(rt.alloc(), &twice, 16)?, Some(reads));
-    assert!(rt; tells_writes(rt.alloc(), &twice, 16)?);
-    assert!(rt; tells_small_rooms(rt.alloc(), &twice, 16)?);
+    assert_eq!(rt; told_reads(rt.alloc(), "check", &twice, 16)?, Some(reads));
+    assert!(rt; tells_writes(rt.alloc(), "check", &twice, 16)?);
+    assert!(rt; tells_small_rooms(rt.alloc(), "check", &twice, 16)?);
     Ok(())
 }
 
@@ -117,9 +119,9 @@ fn two_dossiers_in_pieces_of_sixteen(rt: HostRuntime) -> Result<(), Fail> {
 fn two_dossiers_byte_by_byte(rt: HostRuntime) -> Result<(), Fail> {
     let twice = joined(rt.alloc(), &[GOOD, GOOD])?;
     let reads = reads_of(twice.len(), 1).saturating_add(1);
-    assert_eq!(rt; told_reads(rt.alloc(), &twice, 1)?, Some(reads));
-    assert!(rt; tells_writes(rt.alloc(), &twice, 1)?);
-    assert!(rt; tells_small_rooms(rt.alloc(), &twice, 1)?);
+    assert_eq!(rt; told_reads(rt.alloc(), "check", &twice, 1)?, Some(reads));
+    assert!(rt; tells_writes(rt.alloc(), "check", &twice, 1)?);
+    assert!(rt; tells_small_rooms(rt.alloc(), "check", &twice, 1)?);
     Ok(())
 }
 
@@ -127,9 +129,9 @@ fn two_dossiers_byte_by_byte(rt: HostRuntime) -> Result<(), Fail> {
 fn a_refusal_in_pieces_of_sixteen(rt: HostRuntime) -> Result<(), Fail> {
     let refused = joined(rt.alloc(), &[GOOD, WITH_POOL])?;
     let reads = reads_of(until_the_pool(), 16);
-    assert_eq!(rt; told_reads(rt.alloc(), &refused, 16)?, Some(reads));
-    assert!(rt; tells_writes(rt.alloc(), &refused, 16)?);
-    assert!(rt; tells_small_rooms(rt.alloc(), &refused, 16)?);
+    assert_eq!(rt; told_reads(rt.alloc(), "check", &refused, 16)?, Some(reads));
+    assert!(rt; tells_writes(rt.alloc(), "check", &refused, 16)?);
+    assert!(rt; tells_small_rooms(rt.alloc(), "check", &refused, 16)?);
     Ok(())
 }
 
@@ -137,9 +139,21 @@ fn a_refusal_in_pieces_of_sixteen(rt: HostRuntime) -> Result<(), Fail> {
 fn a_refusal_byte_by_byte(rt: HostRuntime) -> Result<(), Fail> {
     let refused = joined(rt.alloc(), &[GOOD, WITH_POOL])?;
     let reads = reads_of(until_the_pool(), 1);
-    assert_eq!(rt; told_reads(rt.alloc(), &refused, 1)?, Some(reads));
-    assert!(rt; tells_writes(rt.alloc(), &refused, 1)?);
-    assert!(rt; tells_small_rooms(rt.alloc(), &refused, 1)?);
+    assert_eq!(rt; told_reads(rt.alloc(), "check", &refused, 1)?, Some(reads));
+    assert!(rt; tells_writes(rt.alloc(), "check", &refused, 1)?);
+    assert!(rt; tells_small_rooms(rt.alloc(), "check", &refused, 1)?);
+    Ok(())
+}
+
+#[test]
+fn a_day_in_pieces(rt: HostRuntime) -> Result<(), Fail> {
+    for piece in [16, 1] {
+        let piece = piece.max(1);
+        let reads = reads_of(DAY.len(), piece).saturating_add(1);
+        assert_eq!(rt; told_reads(rt.alloc(), "apply", DAY, piece)?, Some(reads));
+        assert!(rt; tells_writes(rt.alloc(), "apply", DAY, piece)?);
+        assert!(rt; tells_small_rooms(rt.alloc(), "apply", DAY, piece)?);
+    }
     Ok(())
 }
 
@@ -165,10 +179,10 @@ fn what_does_not_fail_is_no_fault(rt: HostRuntime) -> Result<(), Fail> {
 
 #[test]
 fn the_first_calls_fail(rt: HostRuntime) -> Result<(), Fail> {
-    let (read, nothing) = check_over(rt.alloc(), GOOD, 10, &[3], ROOM, &[])?;
+    let (read, nothing) = answer_over(rt.alloc(), "check", GOOD, 10, &[3], ROOM, &[])?;
     assert_eq!(rt; read, Status::ReadFault);
     assert!(rt; nothing.is_empty());
-    let (write, none) = check_over(rt.alloc(), GOOD, 10, &[], ROOM, &[1])?;
+    let (write, none) = answer_over(rt.alloc(), "check", GOOD, 10, &[], ROOM, &[1])?;
     assert_eq!(rt; write, Status::WriteFault);
     assert!(rt; none.is_empty());
     Ok(())

@@ -2,6 +2,8 @@
 #![tactic(auto)]
 
 pub mod apply;
+#[cfg(test)]
+mod apply_tests;
 pub mod body;
 mod check;
 pub mod checker;

@@ -1,14 +1,14 @@
 // The top call.
-ghost use Rattle.std.specs.Prelude.{◌≡◌, ◌≢◌, ◌≤◌, ◌↔◌, ◌⊎◌, [], None, map, string_bytes, IfSome};
+ghost use Rattle.std.specs.Prelude.{◌≡◌, ◌≢◌, ◌≤◌, ◌↔◌, ◌⊎◌, [], ◌∷◌, map, string_bytes, IfSome, IsTrue, MatchOption};
 ghost use Rattle.crew_io.specs.Io.{Rose};
-ghost use Rattle.crew_cli.specs.Run.{OfBytes, Says, IsFine, command_of};
+ghost use Rattle.crew_cli.specs.Run.{OfBytes, AskFor, Says, IsFine};
 
 use crate::apply::apply;
 use crate::check::check;
 pub use crate::status::Status;
 use crew_io::sink::Sink;
 use crew_io::source::Source;
-use std::alloc::Global;
+use std::alloc::{AllocError, Global};
 
 /// What the words ask for.
 #[derive(Clone, Copy, Debug, PartialEq, Eq)]
@@ -19,19 +19,52 @@ pub enum Command {
     Apply,
 }
 
+/// Whether the words are the one word.
+fn asks_for(words: &[String], word: &str) -> bool
+    ensures { IsTrue result ↔ (map (λ w. string_bytes w) words.now ≡ word.now ∷ []) }
+{
+    words.len() == 1 && words[0].as_str() == word
+}
+
 impl Command {
     /// What the words ask for; None exactly where they are none of the forms.
     fn of(words: &[String]) -> Option<Command>
-        ensures { result ≡ command_of (map (λ w. string_bytes w) words.now) }
+        ensures { MatchOption result ((command : Command) → AskFor command (map (λ w. string_bytes w) words.now) → ⊥) (λ command. AskFor command (map (λ w. string_bytes w) words.now)) }
     {
-        if words.len() != 1 {
-            return None;
+        if asks_for(words, "check") {
+            return Some(Command::Check);
         }
-        match words[0].as_str() {
-            "check" => Some(Command::Check),
-            "apply" => Some(Command::Apply),
-            _ => None,
+        if asks_for(words, "apply") {
+            return Some(Command::Apply);
         }
+        None
+    }
+}
+
+/// Does what a command asks for, but for the flush.
+fn answer<S: Source, K: Sink>(alloc: Global, command: Command, src: &mut S, out: &mut K) -> Status
+    ensures says { OfBytes (S.left src.old) (K.got out.old) (K.got out.new) (Says command result (S.left src.new)) }
+    ensures part { OfBytes (S.left src.old) (K.got out.old) (K.got out.new) (Says command Status.WriteFault (S.left src.new)) }
+    ensures others { result ≢ Status.Words }
+    ensures read_fault { result ≡ Status.ReadFault → Rose (S.faults src.old) (S.faults src.new) }
+    ensures write_fault { result ≡ Status.WriteFault → Rose (K.faults out.old) (K.faults out.new) }
+    ensures source_later { S.faults src.old ≤ S.faults src.new }
+    ensures sink_later { K.faults out.old ≤ K.faults out.new }
+    ensures steady_source { S.steady src.old → result ≢ Status.ReadFault }
+    ensures steady_sink { K.steady out.old → K.steady out.new × (result ≡ Status.WriteFault → K.full out.new) }
+    ensures complete { IfSome (S.left src.old) (λ input. IsFine command input
+        → (Rose (S.faults src.old) (S.faults src.new) → ⊥) → (Rose (K.faults out.old) (K.faults out.new) → ⊥)
+        → (result ≡ Status.Done) ⊎ (result ≡ Status.Memory)) }
+{
+    match command {
+        Command::Check => match check(alloc, src, out) {
+            Ok(status) => status,
+            Err(AllocError) => Status::Memory,
+        },
+        Command::Apply => match apply(alloc, src, out) {
+            Ok(status) => status,
+            Err(AllocError) => Status::Memory,
+        },
     }
 }
 
@@ -42,13 +75,13 @@ impl Command {
 /// have no form: nothing is read or written.
 pub fn run<S: Source, K: Sink>(alloc: Global, words: &[String], src: &mut S, out: &mut K) -> Status
     // Each status tells what the input is and what was written, also at a fault.
-    ensures says { IfSome (command_of (map (λ w. string_bytes w) words.now)) (λ command.
-        OfBytes (S.left src.old) (K.got out.old) (K.got out.new) (Says command result (S.left src.new))) }
+    ensures says { (command : Command) → AskFor command (map (λ w. string_bytes w) words.now)
+        → OfBytes (S.left src.old) (K.got out.old) (K.got out.new) (Says command result (S.left src.new)) }
 
     // Without a write fault, all that was written is passed on.
     ensures flushed { result ≢ Status.Words → result ≢ Status.WriteFault → K.held out.new ≡ [] }
 
-    ensures words { (result ≡ Status.Words) ↔ (command_of (map (λ w. string_bytes w) words.now) ≡ None) }
+    ensures words { (result ≡ Status.Words) ↔ ((command : Command) → AskFor command (map (λ w. string_bytes w) words.now) → ⊥) }
     ensures untouched { result ≡ Status.Words → (src.new ≡ src.old) × (out.new ≡ out.old) }
 
     // A fault is answered only where its count rose in this call, and never of what does not fail.
@@ -60,18 +93,14 @@ pub fn run<S: Source, K: Sink>(alloc: Global, words: &[String], src: &mut S, out
     ensures steady_sink { K.steady out.old → result ≡ Status.WriteFault → K.full out.new }
 
     // Where no count of faults rises, each input that is fine is done, or memory was wanting.
-    ensures complete { IfSome (command_of (map (λ w. string_bytes w) words.now)) (λ command. IfSome (S.left src.old) (λ input. IsFine command input
+    ensures complete { (command : Command) → AskFor command (map (λ w. string_bytes w) words.now) → IfSome (S.left src.old) (λ input. IsFine command input
         → (Rose (S.faults src.old) (S.faults src.new) → ⊥) → (Rose (K.faults out.old) (K.faults out.new) → ⊥)
-        → (result ≡ Status.Done) ⊎ (result ≡ Status.Memory))) }
+        → (result ≡ Status.Done) ⊎ (result ≡ Status.Memory)) }
 {
     let Some(command) = Command::of(words) else {
         return Status::Words;
     };
-    let answer = match command {
-        Command::Check => check(alloc, src, out),
-        Command::Apply => apply(alloc, src, out),
-    };
-    let status = answer.unwrap_or(Status::Memory);
+    let status = answer(alloc, command, src, out);
     match out.flush() {
         Ok(()) => status,
         Err(_) => Status::WriteFault,

@@ -56,7 +56,7 @@ pub fn joined(alloc: Global, pieces: &[&[u8]]) -> Result<Vec<u8>, AllocError> {
 }
 
 /// What `crew` answers to these words with this input, and what it writes.
-fn answer(
+pub fn answer(
     alloc: Global,
     texts: &[&str],
     input: Vec<u8>,
@@ -67,8 +67,8 @@ fn answer(
     for text in texts {
         words.push(String::from_str(alloc, text)?)?;
     }
-    let mut src = MemSource::new(input, 100, read_fails.to_vec(alloc)?);
-    let mut out = MemSink::new(alloc, 400, 7, write_fails.to_vec(alloc)?)?;
+    let mut src = MemSource::new(input, 4096, read_fails.to_vec(alloc)?);
+    let mut out = MemSink::new(alloc, 2000, 7, write_fails.to_vec(alloc)?)?;
     let status = run(alloc, &words, &mut src, &mut out);
     Ok((status, out.got().to_vec(alloc)?))
 }

@@ -6,7 +6,6 @@ mod refusals;
 
 use super::*;
 use crew_terms::{Task, Team};
-use std::alloc::Global;
 use std::test::Fail;
 
 const ZERO: u8 = b'0';
@@ -80,22 +79,20 @@ fn task(called: &[u8], place: &[u8], earliest: u32, latest: u32, teams: u32) -> 
 }
 
 /// Two places ten minutes apart, a team, and the tasks A and B.
-fn small_day(alloc: Global) -> Result<Desk, Fail> {
-    let mut desk = Desk::new(alloc);
-    change(&mut desk, place(b"BASE")?)?;
-    change(&mut desk, place(b"G1")?)?;
+fn fill_small_day(desk: &mut Desk) -> Result<(), Fail> {
+    change(desk, place(b"BASE")?)?;
+    change(desk, place(b"G1")?)?;
     change(
-        &mut desk,
+        desk,
         Entry::Travel {
             from: name(b"BASE")?,
             to: name(b"G1")?,
             minutes: 10,
         },
     )?;
-    change(&mut desk, team(b"T1", b"BASE", 360, 840)?)?;
-    change(&mut desk, task(b"A", b"G1", 420, 420, 1)?)?;
-    change(&mut desk, task(b"B", b"G1", 420, 420, 1)?)?;
-    Ok(desk)
+    change(desk, team(b"T1", b"BASE", 360, 840)?)?;
+    change(desk, task(b"A", b"G1", 420, 420, 1)?)?;
+    change(desk, task(b"B", b"G1", 420, 420, 1)?)
 }
 
 fn is_same_travel(a: &Instance, b: &Instance, from: u32) -> bool {
@@ -151,162 +148,209 @@ fn refuses(desk: &mut Desk, entry: Entry, fault: ChangeFault) -> Result<bool, Fa
     requires { IsInRange entry }
 {
     let before = desk.instance()?;
-    let answer = desk.apply(&entry);
+    let told = answer(desk, entry);
     let after = desk.instance()?;
     Ok(
-        answer == Err(fault)
+        told == Err(fault)
             && is_same_places(&before, &after)
             && is_same_teams(&before, &after)
             && is_same_tasks(&before, &after),
     )
 }
 
-#[test]
-fn tells_the_missing_time(rt: HostRuntime) -> Result<(), Fail> {
-    let mut desk = Desk::new(rt.alloc());
-    change(&mut desk, place(b"BASE")?)?;
-    change(&mut desk, place(b"G1")?)?;
-    change(&mut desk, team(b"T1", b"BASE", 360, 840)?)?;
-    change(&mut desk, task(b"A", b"G1", 420, 450, 1)?)?;
-    let missing = ChangeFault::MissingTravel {
-        from: name(b"BASE")?,
-        to: name(b"G1")?,
-    };
-    assert_eq!(rt; answer(&mut desk, Entry::Plan { nodes: 1 }), Err(missing));
-    assert_eq!(rt; desk.instance().err(), Some(missing));
+/// Whether the desk lacks the time from the one place to the other, for a plan and for an instance.
+fn lacks(desk: &mut Desk, from: Name, to: Name) -> bool {
+    if answer(desk, Entry::Plan { nodes: 1 }) != Err(ChangeFault::MissingTravel { from, to }) {
+        return false;
+    }
+    desk.instance().err() == Some(ChangeFault::MissingTravel { from, to })
+}
+
+/// Whether the desk's instance has three places with these times.
+fn has_times(desk: &Desk, pairs: [(u32, u32, u32); 4]) -> Result<bool, Fail> {
+    let built = desk.instance()?;
+    if built.places() != 3 {
+        return Ok(false);
+    }
+    for (from, to, minutes) in pairs {
+        if from >= 3 || to >= 3 || built.travel(from, to) != minutes {
+            return Ok(false);
+        }
+    }
+    Ok(true)
+}
+
+fn lacks_times(desk: &mut Desk) -> Result<bool, Fail> {
+    let base = name(b"BASE")?;
+    let gate = name(b"G1")?;
+    change(desk, place(b"BASE")?)?;
+    change(desk, place(b"G1")?)?;
+    change(desk, team(b"T1", b"BASE", 360, 840)?)?;
+    change(desk, task(b"A", b"G1", 420, 450, 1)?)?;
+    let neither = lacks(desk, base, gate);
     change(
-        &mut desk,
+        desk,
         Entry::RouteTime {
-            from: name(b"BASE")?,
-            to: name(b"G1")?,
+            from: base,
+            to: gate,
             minutes: 10,
         },
     )?;
-    let back = ChangeFault::MissingTravel {
-        from: name(b"G1")?,
-        to: name(b"BASE")?,
-    };
-    assert_eq!(rt; answer(&mut desk, Entry::Plan { nodes: 1 }), Err(back));
-    change(&mut desk, Entry::DefaultTravel { minutes: 12 })?;
-    change(&mut desk, place(b"G2")?)?;
-    assert_eq!(rt; answer(&mut desk, Entry::Plan { nodes: 1 }), Ok(()));
-    let built = desk.instance()?;
-    assert!(rt; built.places() == 3);
-    assert_eq!(rt;
-        [
-            built.travel(0, 1),
-            built.travel(1, 0),
-            built.travel(0, 2),
-            built.travel(2, 2)
-        ],
-        [10, 12, 12, 0]
-    );
+    let no_way_back = lacks(desk, gate, base);
+    change(desk, Entry::DefaultTravel { minutes: 12 })?;
+    change(desk, place(b"G2")?)?;
+    change(desk, Entry::Plan { nodes: 1 })?;
+    let times = [(0, 1, 10), (1, 0, 12), (0, 2, 12), (2, 2, 0)];
+    Ok(neither && no_way_back && has_times(desk, times)?)
+}
+
+#[test]
+fn tells_the_missing_time(rt: HostRuntime) -> Result<(), Fail> {
+    let mut desk = Desk::new(rt.alloc());
+    assert!(rt; lacks_times(&mut desk)?);
     Ok(())
+}
+
+/// Whether the task is the only one.
+fn has_only_task(desk: &Desk, task: Task) -> Result<bool, Fail> {
+    let built = desk.instance()?;
+    Ok(built.tasks() == 1 && *built.task(0) == task)
+}
+
+fn moves_down(desk: &mut Desk) -> Result<bool, Fail> {
+    fill_small_day(desk)?;
+    let a = name(b"A")?;
+    let b = name(b"B")?;
+    change(desk, Entry::Plan { nodes: 1 })?;
+    change(desk, Entry::Cancel { task: a })?;
+    change(
+        desk,
+        Entry::Move {
+            task: b,
+            earliest: 420,
+            latest: 480,
+        },
+    )?;
+    let moved = Task {
+        name: b,
+        place: 1,
+        earliest: 420,
+        latest: 480,
+        minutes: 30,
+        teams: 1,
+        skills: 0,
+    };
+    Ok(
+        has_only_task(desk, moved)?
+            && refuses(desk, Entry::Cancel { task: a }, ChangeFault::NoTask)?,
+    )
 }
 
 #[test]
 fn moves_down_what_is_left(rt: HostRuntime) -> Result<(), Fail> {
-    let mut desk = small_day(rt.alloc())?;
-    change(&mut desk, Entry::Plan { nodes: 1 })?;
-    change(&mut desk, Entry::Cancel { task: name(b"A")? })?;
-    change(
-        &mut desk,
-        Entry::Move {
-            task: name(b"B")?,
-            earliest: 420,
-            latest: 480,
-        },
-    )?;
-    let built = desk.instance()?;
-    assert!(rt; built.tasks() == 1);
-    assert_eq!(rt;
-        *built.task(0),
-        Task {
-            name: name(b"B")?,
-            place: 1,
-            earliest: 420,
-            latest: 480,
-            minutes: 30,
-            teams: 1,
-            skills: 0
-        }
-    );
-    assert!(rt;
-        refuses(
-            &mut desk,
-            Entry::Cancel { task: name(b"A")? },
-            ChangeFault::NoTask
-        )?
-    );
+    let mut desk = Desk::new(rt.alloc());
+    assert!(rt; moves_down(&mut desk)?);
     Ok(())
+}
+
+/// Whether the teams with these names stand in this order, and the last one is this.
+fn ends_with_team(desk: &Desk, first: Name, second: Name, third: Team) -> Result<bool, Fail> {
+    let built = desk.instance()?;
+    Ok(
+        built.teams() == 3
+            && built.team(0).name == first
+            && built.team(1).name == second
+            && *built.team(2) == third,
+    )
+}
+
+fn puts_team_last(desk: &mut Desk) -> Result<bool, Fail> {
+    fill_small_day(desk)?;
+    let back = name(b"T2")?;
+    change(desk, team(b"T2", b"G1", 360, 840)?)?;
+    change(desk, team(b"T3", b"BASE", 360, 840)?)?;
+    change(desk, Entry::Sick { team: back })?;
+    change(desk, team(b"T2", b"G1", 400, 900)?)?;
+    let last = Team {
+        name: back,
+        home: 1,
+        from: 400,
+        until: 900,
+        skills: 0,
+    };
+    ends_with_team(desk, name(b"T1")?, name(b"T3")?, last)
 }
 
 #[test]
 fn puts_a_team_that_is_back_last(rt: HostRuntime) -> Result<(), Fail> {
-    let mut desk = small_day(rt.alloc())?;
-    change(&mut desk, team(b"T2", b"G1", 360, 840)?)?;
-    change(&mut desk, team(b"T3", b"BASE", 360, 840)?)?;
-    change(&mut desk, Entry::Sick { team: name(b"T2")? })?;
-    change(&mut desk, team(b"T2", b"G1", 400, 900)?)?;
-    let built = desk.instance()?;
-    assert!(rt; built.teams() == 3);
-    assert_eq!(rt; built.team(0).name, name(b"T1")?);
-    assert_eq!(rt; built.team(1).name, name(b"T3")?);
-    assert_eq!(rt;
-        *built.team(2),
-        Team {
-            name: name(b"T2")?,
-            home: 1,
-            from: 400,
-            until: 900,
-            skills: 0
-        }
-    );
+    let mut desk = Desk::new(rt.alloc());
+    assert!(rt; puts_team_last(&mut desk)?);
     Ok(())
 }
 
-#[test]
-fn changes_each_field(rt: HostRuntime) -> Result<(), Fail> {
-    let mut desk = small_day(rt.alloc())?;
-    let a = name(b"A")?;
-    let t = name(b"T1")?;
+/// Changes task A, team T1, and the time of the way back.
+fn change_fields(desk: &mut Desk) -> Result<(), Fail> {
+    let task = name(b"A")?;
+    let team = name(b"T1")?;
+    let from = name(b"G1")?;
+    let to = name(b"BASE")?;
+    change(desk, Entry::Longer { task, minutes: 45 })?;
+    change(desk, Entry::Needs { task, teams: 2 })?;
     change(
-        &mut desk,
-        Entry::Longer {
-            task: a,
-            minutes: 45,
-        },
-    )?;
-    change(&mut desk, Entry::Needs { task: a, teams: 2 })?;
-    change(
-        &mut desk,
+        desk,
         Entry::Shift {
-            team: t,
+            team,
             from: 300,
             until: 900,
         },
     )?;
-    change(&mut desk, Entry::Skill { team: t, skill: 3 })?;
-    change(&mut desk, Entry::Skill { team: t, skill: 63 })?;
-    change(&mut desk, Entry::Skill { team: t, skill: 3 })?;
-    change(&mut desk, Entry::Unskill { team: t, skill: 3 })?;
-    change(&mut desk, Entry::Unskill { team: t, skill: 5 })?;
     change(
-        &mut desk,
+        desk,
         Entry::RouteTime {
-            from: name(b"G1")?,
-            to: name(b"BASE")?,
+            from,
+            to,
             minutes: 7,
         },
-    )?;
+    )
+}
+
+/// Gives team T1 the skills 3 and 63, and takes 3 and 5 from it.
+fn change_skills(desk: &mut Desk) -> Result<(), Fail> {
+    let team = name(b"T1")?;
+    change(desk, Entry::Skill { team, skill: 3 })?;
+    change(desk, Entry::Skill { team, skill: 63 })?;
+    change(desk, Entry::Skill { team, skill: 3 })?;
+    change(desk, Entry::Unskill { team, skill: 3 })?;
+    change(desk, Entry::Unskill { team, skill: 5 })
+}
+
+fn has_changed(desk: &Desk) -> Result<bool, Fail> {
     let built = desk.instance()?;
-    assert!(rt; built.places() == 2);
-    assert!(rt; built.teams() == 1);
-    assert!(rt; built.tasks() == 2);
-    assert_eq!(rt; (built.task(0).minutes, built.task(0).teams), (45, 2));
-    assert_eq!(rt; (built.task(1).minutes, built.task(1).teams), (30, 1));
-    assert_eq!(rt; (built.team(0).from, built.team(0).until), (300, 900));
-    assert_eq!(rt; built.team(0).skills, 1 << 63);
-    assert_eq!(rt; (built.travel(0, 1), built.travel(1, 0)), (10, 7));
+    if built.places() != 2 || built.teams() != 1 || built.tasks() != 2 {
+        return Ok(false);
+    }
+    let tasks = [
+        (built.task(0).minutes, built.task(0).teams),
+        (built.task(1).minutes, built.task(1).teams),
+    ];
+    let team = built.team(0);
+    Ok(
+        tasks == [(45, 2), (30, 1)]
+            && (team.from, team.until, team.skills) == (300, 900, 1 << 63)
+            && (built.travel(0, 1), built.travel(1, 0)) == (10, 7),
+    )
+}
+
+fn changes_fields(desk: &mut Desk) -> Result<bool, Fail> {
+    fill_small_day(desk)?;
+    change_fields(desk)?;
+    change_skills(desk)?;
+    has_changed(desk)
+}
+
+#[test]
+fn changes_each_field(rt: HostRuntime) -> Result<(), Fail> {
+    let mut desk = Desk::new(rt.alloc());
+    assert!(rt; changes_fields(&mut desk)?);
     Ok(())
 }

@@ -2,10 +2,9 @@
 ghost use Rattle.std.specs.Prelude.{◌≤◌, IfOk};
 ghost use Rattle.day_terms.specs.Ranges.{IsInRange};
 
-use super::{change, name, numbered, place, refuses, small_day, task, team};
+use super::{change, fill_small_day, name, numbered, place, refuses, task, team};
 use crate::faults::ChangeFault;
 use crate::{Desk, Entry};
-use std::alloc::Global;
 use std::test::Fail;
 
 const CELLS: u32 = 28;
@@ -168,18 +167,18 @@ fn full_cell(n: u32) -> Result<Entry, Fail>
 }
 
 /// 200 places, 64 teams and 400 tasks.
-fn full_day(alloc: Global) -> Result<Desk, Fail> {
-    let mut desk = Desk::new(alloc);
-    change(&mut desk, Entry::DefaultTravel { minutes: 10 })?;
+fn fill_day(desk: &mut Desk) -> Result<(), Fail> {
+    change(desk, Entry::DefaultTravel { minutes: 10 })?;
     for n in 0..200 {
-        change(&mut desk, Entry::Place { name: numbered(n)? })?;
+        change(desk, Entry::Place { name: numbered(n)? })?;
     }
     for n in 0..64 {
+        let name = numbered(n)?;
         change(
-            &mut desk,
+            desk,
             Entry::Team {
-                name: numbered(n)?,
-                home: numbered(n)?,
+                name,
+                home: name,
                 from: 360,
                 until: 840,
                 skills: 0,
@@ -188,7 +187,7 @@ fn full_day(alloc: Global) -> Result<Desk, Fail> {
     }
     for n in 0..400 {
         change(
-            &mut desk,
+            desk,
             Entry::Task {
                 name: numbered(n)?,
                 place: numbered(n / 2)?,
@@ -200,23 +199,38 @@ fn full_day(alloc: Global) -> Result<Desk, Fail> {
             },
         )?;
     }
-    Ok(desk)
+    Ok(())
+}
+
+/// The number of the first cell that a small day does not refuse as it says; of none, how many there are.
+fn first_unrefused(desk: &mut Desk) -> Result<u32, Fail> {
+    fill_small_day(desk)?;
+    for n in 0..CELLS {
+        let (entry, fault) = cell(n)?;
+        if !refuses(desk, entry, fault)? {
+            return Ok(n);
+        }
+    }
+    Ok(CELLS)
+}
+
+/// The same of a full day.
+fn first_unrefused_when_full(desk: &mut Desk) -> Result<u32, Fail> {
+    fill_day(desk)?;
+    for n in 0..FULL_CELLS {
+        let entry = full_cell(n)?;
+        if !refuses(desk, entry, ChangeFault::TooMany)? {
+            return Ok(n);
+        }
+    }
+    Ok(FULL_CELLS)
 }
 
 #[test]
 fn refuses_each_cell(rt: HostRuntime) -> Result<(), Fail> {
-    let mut desk = small_day(rt.alloc())?;
-    for n in 0..CELLS {
-        let (entry, fault) = cell(n)?;
-        assert!(rt; refuses(&mut desk, entry, fault)?, "cell {n}");
-    }
-    let mut full = full_day(rt.alloc())?;
-    for n in 0..FULL_CELLS {
-        let entry = full_cell(n)?;
-        assert!(rt;
-            refuses(&mut full, entry, ChangeFault::TooMany)?,
-            "full cell {n}"
-        );
-    }
+    let mut desk = Desk::new(rt.alloc());
+    assert_eq!(rt; first_unrefused(&mut desk)?, CELLS);
+    let mut full = Desk::new(rt.alloc());
+    assert_eq!(rt; first_unrefused_when_full(&mut full)?, FULL_CELLS);
     Ok(())
 }
