@@ -1,0 +1,24 @@
+use Rattle.std.proofs.Common.{◌≡◌, ◌∙◌, Some, length, arith, ap, sym}
+use Rattle.std.specs.Prelude.{find}
+use Rattle.crew_terms.specs.Instance.{IsTask}
+use Rattle.crew_terms.specs.declared.Task.{Task}
+use Rattle.day_terms.specs.State.{is_task}
+use Rattle.flight_changes.proofs.Keyed.{found_all}
+use Rattle.flight_changes.proofs.Known.{task_changed, task_stands}
+use Rattle.flight_changes.proofs.Accepted.{needs_accepted}
+use Rattle.flight_changes.proofs.desks.Desk.set_teams.Goals as goal
+
+pub put_task-requires : goal.put_task-requires
+put_task-requires c =
+    let s = c.args.self.now in
+    let is = c.task-old.ensures.limits in
+    let old = c.task-old.result in
+    let found = c.task-old.ensures.task in
+    let fits : IsTask (length s.places) old = found_all (λ t. t.name) (IsTask (length s.places)) s.tasks c.args.task.now old is.tasks found in
+    let ok = needs_accepted s c.args.task.now c.args.teams c.requires in
+    record { known = task_stands s is c.args.task.now old found; fits = record { name = fits.name; place = fits.place; order = fits.order; width = fits.width; day = fits.day; some_minutes = fits.some_minutes; minutes = fits.minutes; some_teams = ok.1.0; teams = ok.1.1; skills = fits.skills } }
+
+pub returns : goal.returns
+returns c =
+    let change : Task → Task = λ t. record t { teams = c.args.teams } in
+    c.put_task.ensures ∙ task_changed c.args.self.now c.task-old.ensures.limits c.args.task.now c.task-old.result c.task-old.ensures.task change

@@ -1,0 +1,16 @@
+// A day's state under changes, and the instance of any moment.
+#![tactic(auto)]
+
+mod changes;
+mod checks;
+mod desks;
+mod faults;
+mod moments;
+#[cfg(test)]
+mod tests;
+
+pub use crew_instance::Instance;
+pub use crew_terms::Name;
+pub use day_terms::Entry;
+pub use desks::Desk;
+pub use faults::ChangeFault;
