@@ -1,10 +1,9 @@
 -- what holds where an entry is not refused
-use Rattle.std.proofs.Common.{◌≡◌, ◌<◌, ◌≤◌, ◌-◌, ◌||◌, ℕ, Bool, true, false, not, List, [], ◌∷◌, None, Some, length, nat_le, nat_lt, arith, refl, cond, if◌then◌else◌}
+use Rattle.std.proofs.Common.{◌≡◌, ◌<◌, ◌≤◌, ◌-◌, ◌||◌, ℕ, Bool, true, false, not, List, [], ◌∷◌, None, length, nat_le, nat_lt, arith, refl}
 use Rattle.std.proofs.lemmas.Bool.Decides.{nat_tests}
 use Rattle.day_terms.specs.State.{State, has_place, has_team, has_task}
 use Rattle.day_terms.specs.Refusal.{Refusal, TooMany, SameName, NoPlace, NoTask, NoTeam, BadWindow, BadShift, BadTeams, first_of, refusal_of, is_bad_window, is_bad_count}
 use Rattle.day_terms.specs.declared.Entry.TheVariants.{Place, Team, Task, Cancel, Move, Needs, Sick, Shift}
-use Rattle.flight_changes.proofs.Keyed.{by_test}
 
 -- no first condition holds, so the first one fails, and none of the rest holds
 pub passes : (b : Bool) (told : Refusal) (rows : List (Bool × Refusal)) → first_of ((b, told) ∷ rows) ≡ None → (b ≡ false) × (first_of rows ≡ None)

@@ -1,6 +1,6 @@
 -- teams and tasks that stand, and a change of one
-use Rattle.std.proofs.Common.{◌≡◌, ◌≢◌, ◌<◌, ◌≤◌, ℕ, Bool, true, List, Option, Some, is_some, map, sym, ap, subst, ◌∙◌, if◌then◌else◌}
-use Rattle.std.specs.Prelude.{AllPairs, bytes_eq, find}
+use Rattle.std.proofs.Common.{◌≡◌, true, List, Some, is_some, map, sym, ap, ◌∙◌}
+use Rattle.std.specs.Prelude.{find}
 use Rattle.std.proofs.lemmas.Map.Made.{IsDistinct-from_AllPairs}
 use Rattle.std.proofs.lemmas.Slice.Eq.{bytes_eq-Decides}
 use Rattle.crew_terms.specs.declared.Team.{Team}

@@ -1,7 +1,7 @@
 -- a state with one part changed is within the limits
-use Rattle.std.proofs.Common.{◌≡◌, ◌≢◌, ◌<◌, ◌≤◌, ◌+◌, ◌++◌, ℕ, List, [], ◌∷◌, Option, Bool, length, map, filter, arith, sym, ap, subst, if◌then◌else◌}
-use Rattle.std.specs.Prelude.{All, AllPairs, IfSome}
-use Rattle.std.proofs.lemmas.List.{length_push, length-map}
+use Rattle.std.proofs.Common.{◌≡◌, ◌≢◌, ◌<◌, ◌≤◌, ◌+◌, ◌++◌, ℕ, List, [], ◌∷◌, Bool, length, map, filter, arith, sym, ap, subst, if◌then◌else◌}
+use Rattle.std.specs.Prelude.{All, AllPairs}
+use Rattle.std.proofs.lemmas.List.{length_push}
 use Rattle.std.proofs.lemmas.List.Elements.{All-weaker, All-push, All-cons, All-head, All-tail, All-nil}
 use Rattle.crew_terms.specs.Name.{IsName}
 use Rattle.crew_terms.specs.Instance.{IsTeam, IsTask}

@@ -1,5 +1,5 @@
 -- the times that were given, as they are kept
-use Rattle.std.proofs.Common.{◌≡◌, ◌≤◌, ◌&&◌, ℕ, Bool, List, [], ◌∷◌, Option, map, refl, ap, ◌∙◌}
+use Rattle.std.proofs.Common.{◌≡◌, ◌≤◌, ◌&&◌, ℕ, Bool, List, [], ◌∷◌, map, refl, ap}
 use Rattle.std.specs.Prelude.{All, bytes_eq, find, option_map}
 use Rattle.std.specs.Map.{lookup}
 use Rattle.std.proofs.lemmas.List.Elements.{All-cons, All-head, All-tail, All-nil}

@@ -1,9 +1,9 @@
-use Rattle.std.proofs.Common.{◌≡◌, ◌∙◌, Some, length, arith, ap, sym}
-use Rattle.std.specs.Prelude.{◌^◌, ℕ, bit_and, bit_or, find}
+use Rattle.std.proofs.Common.{◌∙◌, length, ap}
+use Rattle.std.specs.Prelude.{◌^◌, ℕ, bit_and}
 use Rattle.std.specs.Int.{bit_not, w64}
 use Rattle.crew_terms.specs.Instance.{IsTeam}
 use Rattle.crew_terms.specs.declared.Team.{Team}
-use Rattle.day_terms.specs.State.{State, is_team, with_team}
+use Rattle.day_terms.specs.State.{State, with_team}
 use Rattle.flight_changes.proofs.Skills.{without_skill, without_skill_fits}
 use Rattle.flight_changes.proofs.Keyed.{found_all}
 use Rattle.flight_changes.proofs.Known.{team_changed, team_stands}

@@ -1,4 +1,4 @@
-use Rattle.std.proofs.Common.{◌≡◌, ◌≤◌, List, length, filter, not, arith, sym, ap, subst, ◌∙◌}
+use Rattle.std.proofs.Common.{List, length, filter, not, arith, sym, ap, subst, ◌∙◌}
 use Rattle.std.proofs.lemmas.List.Elements.{All-filter}
 use Rattle.crew_terms.specs.Instance.{IsTeam}
 use Rattle.crew_terms.specs.declared.Team.{Team}

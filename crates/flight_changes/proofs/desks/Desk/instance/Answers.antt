@@ -1,4 +1,4 @@
-use Rattle.std.proofs.Common.{subst, sym, ◌∙◌, ap}
+use Rattle.std.proofs.Common.{subst, ◌∙◌, ap}
 use Rattle.flight_changes.specs.Limits.{IsState}
 use Rattle.flight_changes.proofs.Instances.{is_instance}
 use Rattle.flight_changes.proofs.desks.Desk.instance.Goals as goal

@@ -1,6 +1,6 @@
-use Rattle.std.proofs.Common.{sym, ap, ◌∙◌}
+use Rattle.std.proofs.Common.{sym, ◌∙◌}
 use Rattle.day_terms.specs.Rounds.{lacks_time}
-use Rattle.flight_changes.proofs.Missing.{passed_over, stopped_at}
+use Rattle.flight_changes.proofs.Missing.{passed_over}
 use Rattle.flight_changes.proofs.desks.Desk.missing_from.Goals as goal
 
 pub loop-to-preserved : goal.loop-to-preserved

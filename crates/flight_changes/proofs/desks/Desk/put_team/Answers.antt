@@ -1,4 +1,4 @@
-use Rattle.std.proofs.Common.{◌≡◌, ◌≤◌, List, is_some, length, map, arith, sym, ap, subst, ◌∙◌, if◌then◌else◌}
+use Rattle.std.proofs.Common.{List, is_some, length, map, arith, sym, ap, subst, ◌∙◌, if◌then◌else◌}
 use Rattle.std.proofs.lemmas.List.{length-map}
 use Rattle.crew_terms.specs.Instance.{IsTeam}
 use Rattle.crew_terms.specs.declared.Team.{Team}

@@ -1,8 +1,6 @@
-use Rattle.std.proofs.Common.{◌≡◌, ◌∙◌, Some, length, arith, ap, sym}
-use Rattle.std.specs.Prelude.{find}
+use Rattle.std.proofs.Common.{◌∙◌, length}
 use Rattle.crew_terms.specs.Instance.{IsTask}
 use Rattle.crew_terms.specs.declared.Task.{Task}
-use Rattle.day_terms.specs.State.{is_task}
 use Rattle.flight_changes.proofs.Keyed.{found_all}
 use Rattle.flight_changes.proofs.Known.{task_changed, task_stands}
 use Rattle.flight_changes.proofs.Accepted.{task_known}

@@ -1,8 +1,6 @@
-use Rattle.std.proofs.Common.{◌≡◌, ◌∙◌, Some, length, arith, ap, sym}
-use Rattle.std.specs.Prelude.{find}
+use Rattle.std.proofs.Common.{◌∙◌, length}
 use Rattle.crew_terms.specs.Instance.{IsTeam}
 use Rattle.crew_terms.specs.declared.Team.{Team}
-use Rattle.day_terms.specs.State.{is_team}
 use Rattle.flight_changes.proofs.Keyed.{found_all}
 use Rattle.flight_changes.proofs.Known.{team_changed, team_stands}
 use Rattle.flight_changes.proofs.Accepted.{shift_accepted}

@@ -1,7 +1,6 @@
-use Rattle.std.proofs.Common.{◌≡◌, Some, true, is_some, sym, ap, ◌∙◌}
+use Rattle.std.proofs.Common.{is_some, sym, ap, ◌∙◌}
 use Rattle.std.specs.Prelude.{find, option_copied}
 use Rattle.day_terms.specs.State.{has_task, is_task}
-use Rattle.flight_changes.specs.Kept.{kept}
 use Rattle.flight_changes.proofs.Keyed.{is_there, looked_up, some_copied}
 use Rattle.flight_changes.proofs.desks.Desk.task.Goals as goal
 
