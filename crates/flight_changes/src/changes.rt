@@ -31,16 +31,7 @@ impl Desk {
                 from,
                 until,
                 skills,
-            } => {
-                let home = self.number_of_place(&home);
-                self.add_team(Team {
-                    name,
-                    home,
-                    from,
-                    until,
-                    skills,
-                })?
-            }
+            } => self.new_team(name, &home, (from, until), skills)?,
             Entry::Task {
                 name,
                 place,
@@ -49,18 +40,7 @@ impl Desk {
                 minutes,
                 teams,
                 skills,
-            } => {
-                let place = self.number_of_place(&place);
-                self.add_task(Task {
-                    name,
-                    place,
-                    earliest,
-                    latest,
-                    minutes,
-                    teams,
-                    skills,
-                })?
-            }
+            } => self.new_task(name, &place, (earliest, latest), minutes, teams, skills)?,
             Entry::Cancel { task } => self.cancel(&task),
             Entry::Move {
                 task,
@@ -122,6 +102,58 @@ impl Desk {
         ensures below { result < length self.now.places }
     {
         self.places.get_index_of(name).unwrap() as u32
+    }
+
+    /// Adds a team at its home, with its shift.
+    fn new_team(
+        &mut self,
+        name: Name,
+        home: &Name,
+        shift: (u32, u32),
+        skills: u64,
+    ) -> Result<(), AllocError>
+        requires range { IsInRange (Entry.Team name home.now shift.0 shift.1 skills) }
+        requires accepted { refusal_of self.old (Entry.Team name home.now shift.0 shift.1 skills) ≡ None }
+        ensures ok { OnOk result (self.new ≡ after_entry self.old (Entry.Team name home.now shift.0 shift.1 skills)) }
+        ensures err { OnErr result (self.new ≡ self.old) }
+    {
+        let (from, until) = shift;
+        let home = self.number_of_place(home);
+        self.add_team(Team {
+            name,
+            home,
+            from,
+            until,
+            skills,
+        })
+    }
+
+    /// Adds a task at its place, with its window.
+    fn new_task(
+        &mut self,
+        name: Name,
+        place: &Name,
+        window: (u32, u32),
+        minutes: u32,
+        teams: u32,
+        skills: u64,
+    ) -> Result<(), AllocError>
+        requires range { IsInRange (Entry.Task name place.now window.0 window.1 minutes teams skills) }
+        requires accepted { refusal_of self.old (Entry.Task name place.now window.0 window.1 minutes teams skills) ≡ None }
+        ensures ok { OnOk result (self.new ≡ after_entry self.old (Entry.Task name place.now window.0 window.1 minutes teams skills)) }
+        ensures err { OnErr result (self.new ≡ self.old) }
+    {
+        let (earliest, latest) = window;
+        let place = self.number_of_place(place);
+        self.add_task(Task {
+            name,
+            place,
+            earliest,
+            latest,
+            minutes,
+            teams,
+            skills,
+        })
     }
 
     fn add_team(&mut self, team: Team) -> Result<(), AllocError>
