@@ -6,3 +6,4 @@ pub mod Trees
 pub mod Routes
 pub mod Root
 pub mod Verdicts
+pub mod Tours

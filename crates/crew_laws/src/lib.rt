@@ -11,6 +11,7 @@ ghost use Rattle.crew_terms.specs.Leaf.{Prices, IsValidLeaf, HoldsLocally, Prove
 ghost use Rattle.crew_terms.specs.Tree.{Tree, IsSound};
 ghost use Rattle.crew_terms.specs.declared.Visit.{Visit};
 ghost use Rattle.crew_terms.specs.declared.PlanVerdict.{PlanVerdict};
+ghost use Rattle.crew_laws.specs.Visits.{AreVisitsOf};
 
 /// No legal plan within a leaf's limits leaves fewer tasks unassigned than the leaf proves.
 pub fn leaf_proves()
@@ -40,6 +41,23 @@ pub fn root_is_limits()
 pub fn root_has_legal_plans()
     ensures { (i : Instance) (p : Plan) → IsLegal i p → IsWithin (root_limits i) p }
 {}
+
+/// A legal plan within the limits of a node gives each team a route of the node: the team's visits by
+/// start.
+pub fn plan_gives_routes()
+    ensures { (n : Limits) (p : Plan) (k : ℕ) → IsLegal n.instance p → IsWithin n p →
+        (visits : List Visit) × AreVisitsOf p k visits × IsRoute n k visits }
+{}
+
+/// Every legal plan is within the limits of the root, and gives each team a route of the root: the
+/// team's visits by start.
+pub fn root_has_routes()
+    ensures { (i : Instance) (p : Plan) (k : ℕ) → IsLegal i p →
+        IsWithin (root_limits i) p × ((visits : List Visit) × AreVisitsOf p k visits × IsRoute (root_limits i) k visits) }
+{
+    plan_gives_routes();
+    root_has_legal_plans();
+}
 
 /// No legal plan of an instance leaves fewer tasks unassigned than a tree that is sound at the root proves.
 pub fn root_tree_proves()
