@@ -7,3 +7,4 @@ pub mod Heads
 pub mod Rows
 pub mod Accepted
 pub mod Wrong
+pub mod NodeLines

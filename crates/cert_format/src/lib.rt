@@ -8,6 +8,7 @@ mod head;
 pub mod head_out;
 pub mod kinds;
 pub mod lines_out;
+mod nodes;
 pub mod numbers;
 mod ranges;
 mod shape;
@@ -36,7 +37,7 @@ pub fn read_line<'a>(expect: Expect, words: LineWords<'a>) -> Result<LineKind<'a
         Expect::Plan { tasks } => body::read_plan(words, tasks),
         Expect::Job { teams, tasks } => body::read_job(words, teams, tasks),
         Expect::Tree => body::read_tree(words),
-        Expect::Node { teams, tasks } => body::read_node(words, teams, tasks),
+        Expect::Node { teams, tasks } => nodes::read_node(words, teams, tasks),
         Expect::End => body::read_end(words),
     }
 }

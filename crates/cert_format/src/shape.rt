@@ -13,7 +13,7 @@ pub(crate) fn is_word(words: &LineWords<'_>, n: usize, text: &[u8]) -> bool
 }
 
 /// Whether the line begins with the word.
-pub(crate) fn begins(words: &LineWords<'_>, first: &[u8]) -> bool
+fn begins(words: &LineWords<'_>, first: &[u8]) -> bool
     ensures { MatchBool result (Begins first.now words.now) (Begins first.now words.now → ⊥) }
 {
     if words.count() == 0 {
