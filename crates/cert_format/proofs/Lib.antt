@@ -8,3 +8,5 @@ pub mod Rows
 pub mod Accepted
 pub mod Wrong
 pub mod NodeLines
+pub mod OneAnswer
+pub mod ReadBack

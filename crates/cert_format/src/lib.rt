@@ -7,6 +7,7 @@ mod body;
 mod head;
 pub mod head_out;
 pub mod kinds;
+mod laws;
 pub mod lines_out;
 mod nodes;
 pub mod numbers;
@@ -18,6 +19,7 @@ mod tests;
 use field_table::LineWords;
 pub use head_out::write_head;
 pub use kinds::{Expect, LineFault, LineKind};
+pub use laws::{instance_is_read_back, line_has_one_answer};
 pub use lines_out::{Part, put_line};
 pub use numbers::Rest;
 
