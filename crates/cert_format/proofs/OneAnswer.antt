@@ -1,21 +1,27 @@
 -- a line has one answer where a kind is due
-use Rattle.std.proofs.Common.{◌≡◌, ◌≤◌, ◌<◌, [], ◌∷◌, ℕ, ℤ, pos, List, Result, Ok, Err, map, get_or, ap, sym, refl, ◌∙◌, subst, arith}
-use Rattle.std.specs.Prelude.{codes}
-use Rattle.std.specs.List.{AllByRecursion}
-use Rattle.std.specs.Fmt.{decimal}
-use Rattle.std.proofs.lemmas.Fmt.{decimal_injective}
+use Rattle.std.proofs.Common.{◌≡◌, ◌≤◌, ◌<◌, [], ◌∷◌, ℕ, ℤ, pos, List, Result, Ok, Err, length, map, get_or, ap, sym, refl, ◌∙◌, subst, arith}
+use Rattle.std.specs.Prelude.{codes, FitsSigned}
+use Rattle.std.specs.Int.{w64}
+use Rattle.std.specs.List.{AllByRecursion, flat_map}
+use Rattle.std.specs.Fmt.{decimal, signed_decimal}
+use Rattle.std.proofs.lemmas.Fmt.{decimal_injective, signed_decimal_injective}
 use Rattle.std.proofs.lemmas.List.{length-map}
 use Rattle.std.proofs.lemmas.List.Elements.{recursion_from_All}
 use Rattle.crew_terms.specs.Words.{Words}
 use Rattle.crew_terms.specs.Name.{IsName}
+use Rattle.crew_terms.specs.Leaf.{IsPrice}
+use Rattle.crew_terms.specs.declared.Visit.{Visit}
 use Rattle.cert_format.specs.declared.kinds.Expect.{Expect}
 use Rattle.cert_format.specs.declared.kinds.Expect.TheVariants as expected
 use Rattle.cert_format.specs.declared.kinds.LineKind.{LineKind}
 use Rattle.cert_format.specs.declared.kinds.LineKind.TheVariants as kinds
 use Rattle.cert_format.specs.declared.kinds.LineFault.{LineFault}
 use Rattle.cert_format.specs.declared.kinds.LineFault.TheVariants.{Shape, Number, Name}
-use Rattle.cert_format.specs.Lines.{IsFormLine, IsSizeLine, IsPlaceLine, IsTimesLine, IsTeamOf, IsTaskOf, IsPoolLine, IsPlanLine, IsJobLine, IsTreeLine, IsNodeLine, IsEndLine, IsLineOf, WindowShape, PairShape, BareShape, OpenShape, ClosedShape, HasShape, HasNames, IsFaultOf, ReadsLine}
+use Rattle.cert_format.specs.Lines.{IsFormLine, IsSizeLine, IsPlaceLine, IsTimesLine, IsTeamOf, IsTaskOf, IsPoolLine, IsRouteLine, IsPlanLine, IsJobLine, IsTreeLine, IsNodeLine, IsPriceLine, IsExtraLine, IsWorthLine, IsPhiLine, IsEndLine, IsLineOf, WindowShape, PairShape, BareShape, OpenShape, ClosedShape, HasShape, HasNames, IsFaultOf, ReadsLine}
+use Rattle.cert_format.specs.Fields.{visit_numbers}
 use Rattle.cert_format.specs.ReadBack.{HasCounts}
+use Rattle.cert_format.proofs.LeafLines.{price_fits, worth_fits}
+use Rattle.cert_format.proofs.Visits.{length-visits, visits_map}
 
 -- ---- numbers have one spelling
 
@@ -119,6 +125,23 @@ pool_one ws (kinds.Pool u v) (kinds.Pool u' v') (k, c, p, q, few, less, e) (k', 
 pool_one ws (kinds.Pool u v) _ h g = absurd g
 pool_one ws _ _ h g = absurd h
 
+visits_wide : (tasks : ℕ) (vs : List Visit) → tasks < 4294967296 → AllByRecursion (λ (v : Visit). v.task < tasks) vs → AllByRecursion (λ (v : Visit). v.start ≤ 2880) vs
+    → AllByRecursion IsWide (flat_map visit_numbers vs)
+visits_wide tasks [] few known starts = tt
+visits_wide tasks (v ∷ vs) few known starts = (omega (arith, known.0), (omega (arith, starts.0), visits_wide tasks vs few known.1 starts.1))
+
+route_one : (teams tasks : ℕ) (ws : Words) (a b : LineKind) → teams < 4294967296 → tasks < 4294967296 → IsRouteLine teams tasks ws a → IsRouteLine teams tasks ws b → a ≡ b
+route_one teams tasks ws (kinds.Route k v) (kinds.Route l u) some few (vs, p, h, e) (us, q, g, f) =
+    let spelled : map decimal (k ∷ flat_map visit_numbers vs) ≡ map decimal (l ∷ flat_map visit_numbers us) =
+    ap (λ xs. decimal k ∷ xs) (sym (visits_map vs)) ∙ behind (codes "route") ws _ _ e f ∙ ap (λ xs. decimal l ∷ xs) (visits_map us) in
+    let same = one_list (k ∷ flat_map visit_numbers vs) (l ∷ flat_map visit_numbers us)
+    (omega (arith, h.team), visits_wide tasks vs few h.tasks h.starts) (omega (arith, g.team), visits_wide tasks us few g.tasks g.starts) spelled in
+    let numbers : flat_map visit_numbers vs ≡ flat_map visit_numbers us = cc in
+    let visits : v ≡ u = p ∙ ap (map pos) numbers ∙ sym q in
+    cc
+route_one teams tasks ws (kinds.Route k v) _ some few h g = absurd g
+route_one teams tasks ws _ _ some few h g = absurd h
+
 plan_one : (tasks : ℕ) (ws : Words) (a b : LineKind) → tasks < 4294967296 → IsPlanLine tasks ws a → IsPlanLine tasks ws b → a ≡ b
 plan_one tasks ws (kinds.Plan u l) (kinds.Plan u' l') few (p, q, e) (p', q', f) =
     let same = one_list (u ∷ l ∷ []) (u' ∷ l' ∷ []) (omega arith, (omega arith, tt)) (omega arith, (omega arith, tt)) (behind (codes "plan") ws _ _ e f) in
@@ -190,6 +213,52 @@ node_one teams tasks ws kinds.LeafOpen _ some few h g = absurd g
 node_one teams tasks ws kinds.LeafClosed _ some few h g = absurd g
 node_one teams tasks ws _ _ some few h g = absurd h
 
+signed_list : (us vs : List ℤ) → AllByRecursion (FitsSigned w64) us → AllByRecursion (FitsSigned w64) vs → map signed_decimal us ≡ map signed_decimal vs → us ≡ vs
+signed_list [] [] a b e = refl
+signed_list [] (v ∷ vs) a b e = absurd cc
+signed_list (u ∷ us) [] a b e = absurd cc
+signed_list (u ∷ us) (v ∷ vs) a b e =
+    let f : signed_decimal u ≡ signed_decimal v = cc in
+    let g : map signed_decimal us ≡ map signed_decimal vs = cc in
+    let p = signed_decimal_injective u v a.0.sfits b.0.sfits f in
+    let q = signed_list us vs a.1 b.1 g in
+    cc
+
+prices_fit : (vs : List ℤ) → AllByRecursion IsPrice vs → AllByRecursion (FitsSigned w64) vs
+prices_fit [] h = tt
+prices_fit (v ∷ vs) h = (price_fits v h.0, prices_fit vs h.1)
+
+-- what follows the first two words
+behind_two : (w x : List ℕ) (ws xs ys : Words) → ws ≡ w ∷ x ∷ xs → ws ≡ w ∷ x ∷ ys → xs ≡ ys
+behind_two w x ws xs ys e f = let g : w ∷ x ∷ xs ≡ w ∷ x ∷ ys = sym e ∙ f in cc
+
+price_one : (tasks : ℕ) (ws : Words) (a b : LineKind) → IsPriceLine tasks ws a → IsPriceLine tasks ws b → a ≡ b
+price_one tasks ws (kinds.Price us) (kinds.Price vs) (h, e) (g, f) =
+    ap (λ (zs : List ℤ). kinds.Price zs) (signed_list us vs (prices_fit us h.each) (prices_fit vs g.each) (behind (codes "price") ws _ _ e f))
+price_one tasks ws (kinds.Price us) _ h g = absurd g
+price_one tasks ws _ _ h g = absurd h
+
+extra_one : (task count : ℕ) (ws : Words) (a b : LineKind) → IsExtraLine task count ws a → IsExtraLine task count ws b → a ≡ b
+extra_one task count ws (kinds.Extra i us) (kinds.Extra j vs) (p, h, e) (q, g, f) =
+    let same = signed_list us vs (prices_fit us h.each) (prices_fit vs g.each) (behind_two (codes "extra") (decimal task) ws _ _ e f) in
+    cc
+extra_one task count ws (kinds.Extra i us) _ h g = absurd g
+extra_one task count ws _ _ h g = absurd h
+
+worth_one : (ws : Words) (a b : LineKind) → IsWorthLine ws a → IsWorthLine ws b → a ≡ b
+worth_one ws (kinds.Worth u) (kinds.Worth v) (h, e) (g, f) =
+    let same = signed_list (u ∷ []) (v ∷ []) (worth_fits u h, tt) (worth_fits v g, tt) (behind (codes "worth") ws _ _ e f) in
+    cc
+worth_one ws (kinds.Worth u) _ h g = absurd g
+worth_one ws _ _ h g = absurd h
+
+phi_one : (task count : ℕ) (ws : Words) (a b : LineKind) → IsPhiLine task count ws a → IsPhiLine task count ws b → a ≡ b
+phi_one task count ws (kinds.Phi i us) (kinds.Phi j vs) (p, h, e) (q, g, f) =
+    let same = signed_list us vs h.each g.each (behind_two (codes "phi") (decimal task) ws _ _ e f) in
+    cc
+phi_one task count ws (kinds.Phi i us) _ h g = absurd g
+phi_one task count ws _ _ h g = absurd h
+
 one_kind : (expect : Expect) (ws : Words) (a b : LineKind) → HasCounts expect → IsLineOf expect ws a → IsLineOf expect ws b → a ≡ b
 one_kind expected.Form ws a b few h g = form_one ws a b h g
 one_kind expected.Size ws a b few h g = size_one ws a b h g
@@ -198,10 +267,15 @@ one_kind (expected.Travel places) ws a b few h g = times_one places ws a b h g
 one_kind (expected.Team places) ws a b few h g = team_one places ws a b (omega arith) h g
 one_kind (expected.Task places) ws a b few h g = task_one places ws a b (omega arith) h g
 one_kind expected.Pool ws a b few h g = pool_one ws a b h g
+one_kind (expected.Route teams tasks) ws a b few h g = route_one teams tasks ws a b (omega arith) (omega arith) h g
 one_kind (expected.Plan tasks) ws a b few h g = plan_one tasks ws a b (omega arith) h g
 one_kind (expected.Job teams tasks) ws a b few h g = job_one teams tasks ws a b (omega arith) (omega arith) h g
 one_kind expected.Tree ws a b few h g = tree_one ws a b h g
 one_kind (expected.Node teams tasks) ws a b few h g = node_one teams tasks ws a b (omega arith) (omega arith) h g
+one_kind (expected.Price tasks) ws a b few h g = price_one tasks ws a b h g
+one_kind (expected.Extra task count) ws a b few h g = extra_one task count ws a b h g
+one_kind expected.Worth ws a b few h g = worth_one ws a b h g
+one_kind (expected.Phi task count) ws a b few h g = phi_one task count ws a b h g
 one_kind expected.End ws a b few h g = end_one ws a b h g
 
 -- ---- a line that is read has the shape and the names of its kind
@@ -240,6 +314,14 @@ pool_fits : (ws : Words) (kind : LineKind) → Fits expected.Pool ws kind
 pool_fits ws (kinds.Pool kept columns) (k, c, e, f, few, less, is) = ((_, is, refl), tt)
 pool_fits ws _ h = absurd h
 
+route_fits : (teams tasks : ℕ) (ws : Words) (kind : LineKind) → Fits (expected.Route teams tasks) ws kind
+route_fits teams tasks ws (kinds.Route team visits) ([], e, route, is) = absurd (let some = route.some in omega arith)
+route_fits teams tasks ws (kinds.Route team visits) (v ∷ vs, e, route, is) =
+    let all = ap length is in
+    let more = length-visits vs in
+    (((_, is), (length vs, omega arith)), tt)
+route_fits teams tasks ws _ h = absurd h
+
 plan_fits : (tasks : ℕ) (ws : Words) (kind : LineKind) → Fits (expected.Plan tasks) ws kind
 plan_fits tasks ws (kinds.Plan u l) (a, b, is) = ((_, is, refl), tt)
 plan_fits tasks ws _ h = absurd h
@@ -260,6 +342,22 @@ node_fits teams tasks ws kinds.LeafOpen is = (OpenShape is, tt)
 node_fits teams tasks ws kinds.LeafClosed is = (ClosedShape is, tt)
 node_fits teams tasks ws _ h = absurd h
 
+price_line_fits : (tasks : ℕ) (ws : Words) (kind : LineKind) → Fits (expected.Price tasks) ws kind
+price_line_fits tasks ws (kinds.Price vs) (h, is) = ((map signed_decimal vs, is, length-map vs signed_decimal ∙ h.count), tt)
+price_line_fits tasks ws _ h = absurd h
+
+extra_fits : (task count : ℕ) (ws : Words) (kind : LineKind) → Fits (expected.Extra task count) ws kind
+extra_fits task count ws (kinds.Extra j vs) (e, h, is) = ((map signed_decimal vs, is, length-map vs signed_decimal ∙ h.count), tt)
+extra_fits task count ws _ h = absurd h
+
+worth_line_fits : (ws : Words) (kind : LineKind) → Fits expected.Worth ws kind
+worth_line_fits ws (kinds.Worth v) (h, is) = ((_, is, refl), tt)
+worth_line_fits ws _ h = absurd h
+
+phi_fits : (task count : ℕ) (ws : Words) (kind : LineKind) → Fits (expected.Phi task count) ws kind
+phi_fits task count ws (kinds.Phi j vs) (e, h, is) = ((map signed_decimal vs, is, length-map vs signed_decimal ∙ h.count), tt)
+phi_fits task count ws _ h = absurd h
+
 end_fits : (ws : Words) (kind : LineKind) → Fits expected.End ws kind
 end_fits ws kinds.End h = (h, tt)
 end_fits ws _ h = absurd h
@@ -272,10 +370,15 @@ line_fits (expected.Travel places) ws kind = times_fits places ws kind
 line_fits (expected.Team places) ws kind = team_fits places ws kind
 line_fits (expected.Task places) ws kind = task_fits places ws kind
 line_fits expected.Pool ws kind = pool_fits ws kind
+line_fits (expected.Route teams tasks) ws kind = route_fits teams tasks ws kind
 line_fits (expected.Plan tasks) ws kind = plan_fits tasks ws kind
 line_fits (expected.Job teams tasks) ws kind = job_fits teams tasks ws kind
 line_fits expected.Tree ws kind = tree_fits ws kind
 line_fits (expected.Node teams tasks) ws kind = node_fits teams tasks ws kind
+line_fits (expected.Price tasks) ws kind = price_line_fits tasks ws kind
+line_fits (expected.Extra task count) ws kind = extra_fits task count ws kind
+line_fits expected.Worth ws kind = worth_line_fits ws kind
+line_fits (expected.Phi task count) ws kind = phi_fits task count ws kind
 line_fits expected.End ws kind = end_fits ws kind
 
 -- ---- one answer

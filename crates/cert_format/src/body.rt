@@ -1,10 +1,10 @@
-// The lines of a pool, a plan and a tree.
+// The lines of a pool, a plan and a tree, but those of its nodes.
 ghost use Rattle.cert_format.specs.Lines.{ReadsLine};
 
 use crate::kinds::{Expect, LineFault, LineKind};
-use crate::numbers::read_rest;
+use crate::numbers::{read_below, read_visits};
 use crate::ranges::MINUTE;
-use crate::shape::{has_shape, has_shape_from};
+use crate::shape::{has_pairs, has_shape, has_shape_from};
 use field_table::{LineWords, fields};
 
 pub(crate) fn read_pool<'a>(words: LineWords<'a>) -> Result<LineKind<'a>, LineFault>
@@ -18,6 +18,25 @@ pub(crate) fn read_pool<'a>(words: LineWords<'a>) -> Result<LineKind<'a>, LineFa
         else fault => LineFault::Number
     );
     Ok(LineKind::Pool { kept, columns })
+}
+
+pub(crate) fn read_route<'a>(
+    words: LineWords<'a>,
+    teams: u32,
+    tasks: u32,
+) -> Result<LineKind<'a>, LineFault>
+    ensures { ReadsLine (Expect.Route teams tasks) words.entry result }
+{
+    if !has_pairs(&words, b"route") {
+        return Err(LineFault::Shape);
+    }
+    let last = teams as i64 - 1;
+    fields!(&words, "route" => team: Number(0, last); else fault => LineFault::Number);
+    let visits = read_visits(words, 2, tasks)?;
+    Ok(LineKind::Route {
+        team: team as u32,
+        visits,
+    })
 }
 
 pub(crate) fn read_plan<'a>(words: LineWords<'a>, tasks: u32) -> Result<LineKind<'a>, LineFault>
@@ -46,7 +65,7 @@ pub(crate) fn read_job<'a>(
     }
     let last = tasks as i64 - 1;
     fields!(&words, "do" => task: Number(0, last), start: MINUTE; else fault => LineFault::Number);
-    let teams = read_rest(words, 3, teams)?;
+    let teams = read_below(words, 3, teams)?;
     Ok(LineKind::Job {
         task: task as u32,
         start: start as u32,
