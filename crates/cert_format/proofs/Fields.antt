@@ -1,22 +1,77 @@
 -- lists of numbers and of the words that spell them
-use Rattle.std.proofs.Common.{◌≡◌, ◌<◌, [], ◌∷◌, ℕ, zero, suc, List, length, map, get_or, ap, refl, ◌∙◌, arith}
+use Rattle.std.proofs.Common.{◌≡◌, ◌<◌, ◌^◌, ◌+ℤ◌, [], ◌∷◌, ℕ, zero, suc, ℤ, pos, negsuc, List, Result, Ok, Err, length, map, get_or, ap, sym, refl, ◌∙◌, subst, arith}
+use Rattle.std.proofs.lemmas.Int.{ints}
+use Rattle.std.specs.Prelude.{FitsSigned, MatchResult}
+use Rattle.std.specs.Int.{w64}
 use Rattle.std.specs.List.{AllByRecursion}
-use Rattle.std.specs.Fmt.{decimal}
+use Rattle.std.specs.Fmt.{signed_decimal}
 use Rattle.crew_terms.specs.Words.{Words}
-use Rattle.cert_format.specs.Fields.{SpellBelow}
+use Rattle.field_table.specs.Fields.{Spells, Accepts}
+use Rattle.field_table.specs.declared.fields.Kind.{Kind}
+use Rattle.field_table.specs.declared.fields.Kind.TheVariants.{Number}
+use Rattle.field_table.specs.declared.fields.Field.{Field}
+use Rattle.cert_format.specs.declared.kinds.LineFault.{LineFault}
+use Rattle.cert_format.specs.declared.kinds.LineFault.TheVariants.{Number as BadNumber}
+use Rattle.cert_format.specs.Fields.{IsIn, SpellIn, SpellBelow}
+use Rattle.cert_format.proofs.Rests.{signed_map}
+use Rattle.cert_format.proofs.Accepted.{number_field}
 
--- the word spells a number below a bound
-abbrev pub IsBelow : ℕ → List ℕ → Type 0
-IsBelow past w = (v : ℕ) × (v < past) × (w ≡ decimal v)
+-- the word spells a number in the field's range
+abbrev pub SpellsOne : Field → List ℕ → Type 0
+SpellsOne field w = (n : ℤ) × IsIn field n × (w ≡ signed_decimal n)
 
-pub spelled_at : (past : ℕ) (ns : List ℕ) → AllByRecursion (λ n. n < past) ns → (k : ℕ) → k < length ns → IsBelow past (get_or (map decimal ns) k [])
-spelled_at past [] all k h = absurd (omega arith)
-spelled_at past (n ∷ ns) all zero h = (n, all.0, refl)
-spelled_at past (n ∷ ns) all (suc k) h = spelled_at past ns all.1 k (omega arith)
+pub spelled_at : (field : Field) (ns : List ℤ) → AllByRecursion (IsIn field) ns → (k : ℕ) → k < length ns → SpellsOne field (get_or (map signed_decimal ns) k [])
+spelled_at field [] all k h = absurd (omega arith)
+spelled_at field (n ∷ ns) all zero h = (n, all.0, refl)
+spelled_at field (n ∷ ns) all (suc k) h = spelled_at field ns all.1 k (omega arith)
 
-pub spelled_all : (past : ℕ) (ws : Words) → ((k : ℕ) → k < length ws → IsBelow past (get_or ws k [])) → (ns : List ℕ) × SpellBelow past ns ws
-spelled_all past [] h = ([], record { below = tt; spelled = refl })
-spelled_all past (w ∷ ws) h =
+pub spelled_all : (field : Field) (ws : Words) → ((k : ℕ) → k < length ws → SpellsOne field (get_or ws k [])) → (ns : List ℤ) × SpellIn field ns ws
+spelled_all field [] h = ([], record { each = tt; spelled = refl })
+spelled_all field (w ∷ ws) h =
     let first = h 0 (omega arith) in
-    let rest = spelled_all past ws (λ k l. h (suc k) (omega arith)) in
-    (first.0 ∷ rest.0, record { below = (first.1, rest.1.below); spelled = ap (λ x. x ∷ ws) first.2 ∙ ap (λ xs. decimal first.0 ∷ xs) rest.1.spelled })
+    let rest = spelled_all field ws (λ k l. h (suc k) (omega arith)) in
+    (first.0 ∷ rest.0, record { each = (first.1, rest.1.each); spelled = ap (λ x. x ∷ ws) first.2 ∙ ap (λ xs. signed_decimal first.0 ∷ xs) rest.1.spelled })
+
+-- what a field of numbers accepts
+pub accepted : (field : Field) (w : List ℕ) (n : ℤ) → field.kind ≡ Number → IsIn field n → w ≡ signed_decimal n → Accepts field w n
+accepted field w n kind is e = record { spelled = subst (λ (k : Kind). Spells k w n) (sym kind) (is.fits, e); low = is.low; high = is.high }
+
+pub read_one : (field : Field) (w : List ℕ) (n : ℤ) → field.kind ≡ Number → Accepts field w n → SpellsOne field w
+read_one field w n kind a =
+    let s : Spells Number w n = subst (λ (k : Kind). Spells k w n) kind a.spelled in
+    (n, record { fits = s.0; low = a.low; high = a.high }, s.1)
+
+pub each_fits : (field : Field) (ns : List ℤ) → AllByRecursion (IsIn field) ns → AllByRecursion (FitsSigned w64) ns
+each_fits field [] all = tt
+each_fits field (n ∷ ns) all = (all.0.fits, each_fits field ns all.1)
+
+-- ---- numbers below a bound
+
+below_each : (past : ℕ) (last : ℤ) → last +ℤ pos 1 ≡ pos past → (ns : List ℤ) → AllByRecursion (IsIn (number_field 0 last)) ns → (ms : List ℕ) × (ns ≡ map pos ms) × AllByRecursion (λ n. n < past) ms
+below_each past last e [] all = ([], refl, tt)
+below_each past last e (pos n ∷ ns) all =
+    let high = all.0.high in
+    let rest = below_each past last e ns all.1 in
+    (n ∷ rest.0, ap (λ zs. pos n ∷ zs) rest.1, (omega (arith, ints), rest.2))
+below_each past last e (negsuc n ∷ ns) all = let low = all.0.low in absurd (omega (arith, ints))
+
+each_in : (past : ℕ) (last : ℤ) → last +ℤ pos 1 ≡ pos past → past < 2 ^ 32 → (ms : List ℕ) → AllByRecursion (λ n. n < past) ms → AllByRecursion (IsIn (number_field 0 last)) (map pos ms)
+each_in past last e few [] all = tt
+each_in past last e few (n ∷ ms) all =
+    let less = all.0 in
+    (record { fits = record { sfits = omega arith }; low = omega (arith, ints); high = omega (arith, ints) }, each_in past last e few ms all.1)
+
+below_of : (past : ℕ) (last : ℤ) → last +ℤ pos 1 ≡ pos past → (ns : List ℤ) (ws : Words) → SpellIn (number_field 0 last) ns ws → (ms : List ℕ) × (ns ≡ map pos ms) × SpellBelow past ms ws
+below_of past last e ns ws s =
+    let ms = below_each past last e ns s.each in
+    (ms.0, ms.1, record { below = ms.2; spelled = s.spelled ∙ ap (map signed_decimal) ms.1 ∙ sym (signed_map ms.0) })
+
+in_of : (past : ℕ) (last : ℤ) → last +ℤ pos 1 ≡ pos past → past < 2 ^ 32 → (ms : List ℕ) (ws : Words) → SpellBelow past ms ws → SpellIn (number_field 0 last) (map pos ms) ws
+in_of past last e few ms ws s = record { each = each_in past last e few ms s.below; spelled = s.spelled ∙ signed_map ms }
+
+-- what is read is of numbers below the bound
+pub below_read : (past : ℕ) (last : ℤ) → last +ℤ pos 1 ≡ pos past → past < 2 ^ 32 → (ws : Words) (read : Result (List ℤ) LineFault)
+    → MatchResult read (λ rest. SpellIn (number_field 0 last) rest ws) (λ fault. (fault ≡ BadNumber) × ((ns : List ℤ) → SpellIn (number_field 0 last) ns ws → ⊥))
+    → MatchResult read (λ rest. (ms : List ℕ) × (rest ≡ map pos ms) × SpellBelow past ms ws) (λ fault. (fault ≡ BadNumber) × ((ms : List ℕ) → SpellBelow past ms ws → ⊥))
+below_read past last e few ws (Ok rest) s = below_of past last e rest ws s
+below_read past last e few ws (Err fault) none = (none.0, λ ms s. none.1 (map pos ms) (in_of past last e few ms ws s))

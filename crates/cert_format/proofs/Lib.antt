@@ -2,8 +2,13 @@ pub mod Numerals
 pub mod Fields
 pub mod Fronts
 pub mod Rests
+pub mod Visits
 pub mod Exits
 pub mod Heads
 pub mod Rows
 pub mod Accepted
 pub mod Wrong
+pub mod LeafLines
+pub mod NodeLines
+pub mod OneAnswer
+pub mod ReadBack

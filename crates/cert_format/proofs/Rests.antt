@@ -25,15 +25,9 @@ pub value_back : (z : ℤ) → FitsSigned w64 z → signed_digits_value 10 (sign
 value_back (pos n) fits = let s = fits.sfits in value_plain n (omega arith)
 value_back (negsuc n) fits = let s = fits.sfits in ap (λ k. neg_ℤ (pos k)) (decimal_is_IsNumeral (suc n) (omega arith)).1
 
-pub values_back : (past : ℕ) (ns : List ℕ) → past < 2 ^ 32 → AllByRecursion (λ n. n < past) ns → map (signed_digits_value 10) (map decimal ns) ≡ map pos ns
-values_back past [] h all = refl
-values_back past (n ∷ ns) h all =
-    let first = all.0 in
-    ap (λ z. z ∷ map (signed_digits_value 10) (map decimal ns)) (value_plain n (omega arith)) ∙ ap (λ zs. pos n ∷ zs) (values_back past ns h all.1)
-
-pub all_fit : (past : ℕ) (ns : List ℕ) → past < 2 ^ 32 → AllByRecursion (λ n. n < past) ns → AllByRecursion (FitsSigned w64) (map pos ns)
-all_fit past [] h all = tt
-all_fit past (n ∷ ns) h all = let first = all.0 in (record { sfits = omega arith }, all_fit past ns h all.1)
+pub values_back : (ns : List ℤ) → AllByRecursion (FitsSigned w64) ns → map (signed_digits_value 10) (map signed_decimal ns) ≡ ns
+values_back [] fit = refl
+values_back (n ∷ ns) fit = ap (λ z. z ∷ map (signed_digits_value 10) (map signed_decimal ns)) (value_back n fit.0) ∙ ap (λ zs. n ∷ zs) (values_back ns fit.1)
 
 pub signed_map : (ns : List ℕ) → map decimal ns ≡ map signed_decimal (map pos ns)
 signed_map [] = refl

@@ -18,7 +18,7 @@ use Rattle.cert_format.proofs.Rows.{apart}
 abbrev pub NoneRead : List Field → Words → Type 0
 NoneRead fs ws = (values : List ℤ) → AreValues fs ws values → ⊥
 
-none_of : (fs : List Field) (ws : Words) (w : List ℕ) (ns : List ℕ) (rest : Words) → NoneRead fs ws → AreIn fs ns → ws ≡ w ∷ (map decimal ns ++ rest) → ⊥
+pub none_of : (fs : List Field) (ws : Words) (w : List ℕ) (ns : List ℕ) (rest : Words) → NoneRead fs ws → AreIn fs ns → ws ≡ w ∷ (map decimal ns ++ rest) → ⊥
 none_of fs ws w ns rest none a is = none (map pos ns) (subst (λ (xs : Words). AreValues fs xs (map pos ns)) (sym is) (numbers_read fs w ns rest a))
 
 none_named : (fs : List Field) (ws : Words) (w name : List ℕ) (ns : List ℕ) (rest : Words) → NoneRead (name_field ∷ fs) ws → IsName name → AreIn fs ns

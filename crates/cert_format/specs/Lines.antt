@@ -1,16 +1,20 @@
 -- what a line says where a kind of line is expected
-use Rattle.std.specs.Prelude.{◌≡◌, ◌≤◌, ◌<◌, ℕ, pos, List, Result, Ok, Err, map, codes}
-use Rattle.std.specs.List.{AllByRecursion}
+use Rattle.std.specs.Prelude.{◌≡◌, ◌≤◌, ◌<◌, ℕ, pos, List, length, Result, Ok, Err, map, codes}
+use Rattle.std.specs.List.{AllByRecursion, flat_map}
 use Rattle.crew_terms.specs.Words.{Words}
 use Rattle.crew_terms.specs.Name.{IsName}
+use Rattle.crew_terms.specs.Leaf.{IsPrice}
 use Rattle.crew_terms.specs.Plan.{Job}
 use Rattle.crew_terms.specs.declared.Team.{Team}
 use Rattle.crew_terms.specs.declared.Task.{Task}
+use Rattle.crew_terms.specs.declared.Visit.{Visit}
+use Rattle.dossier_terms.specs.Dossier.{Route, IsWorthNumber, IsSigned}
 use Rattle.dossier_terms.specs.declared.Size.{Size}
 use Rattle.dossier_terms.specs.Reading.{Counts}
-use Rattle.dossier_terms.specs.Rules.{IsShape, IsShapeFrom}
-use Rattle.dossier_terms.specs.Table.{IsSize, IsTravel, IsTeamLine, IsTaskLine, IsCounts, HasName}
-use Rattle.dossier_terms.specs.Lines.{form_line, size_line, place_line, travel_line, team_words, task_words, pool_line, plan_line, do_line, tree_line, window_line, pair_line, bare_line, open_line, closed_line, end_line}
+use Rattle.dossier_terms.specs.Rules.{IsShape, IsShapeFrom, Begins}
+use Rattle.dossier_terms.specs.Table.{IsSize, IsTravel, IsTeamLine, IsTaskLine, IsCounts, AreNumbers, HasName, IsPairs, IsRow}
+use Rattle.dossier_terms.specs.Lines.{form_line, size_line, place_line, travel_line, team_words, task_words, pool_line, route_line, plan_line, do_line, tree_line, window_line, pair_line, bare_line, open_line, closed_line, price_line, extra_line, worth_line, phi_line, end_line}
+use Rattle.cert_format.specs.Fields.{visit_numbers}
 use Rattle.cert_format.specs.declared.kinds.Expect.{Expect}
 use Rattle.cert_format.specs.declared.kinds.Expect.TheVariants as expected
 use Rattle.cert_format.specs.declared.kinds.LineKind.{LineKind}
@@ -55,6 +59,18 @@ IsPoolLine ws (kinds.Pool kept columns) = (k c : ℕ) × (kept ≡ pos k) × (co
     × (k ≤ 9223372036854775807) × (c ≤ 9223372036854775807) × (ws ≡ pool_line k c)
 IsPoolLine ws _ = ⊥
 
+-- a route as its line spells it, where there are m teams and n tasks: the ranges of its numbers
+pub record IsRouteOf (m n : ℕ) (r : Route) : Type 0 where
+  pub team : r.team < m
+  pub some : 1 ≤ length r.visits
+  pub tasks : AllByRecursion (λ (v : Visit). v.task < n) r.visits
+  pub starts : AllByRecursion (λ (v : Visit). v.start ≤ 2880) r.visits
+
+abbrev pub IsRouteLine : ℕ → ℕ → Words → LineKind → Type 0
+IsRouteLine teams tasks ws (kinds.Route team visits) = (vs : List Visit) × (visits ≡ map pos (flat_map visit_numbers vs))
+    × IsRouteOf teams tasks (record { team = team; visits = vs }) × (ws ≡ route_line (record { team = team; visits = vs }))
+IsRouteLine teams tasks ws _ = ⊥
+
 abbrev pub IsPlanLine : ℕ → Words → LineKind → Type 0
 IsPlanLine tasks ws (kinds.Plan unassigned bound) = (unassigned ≤ tasks) × (bound ≤ tasks) × (ws ≡ plan_line unassigned bound)
 IsPlanLine tasks ws _ = ⊥
@@ -84,6 +100,22 @@ IsNodeLine teams tasks ws kinds.LeafOpen = ws ≡ open_line
 IsNodeLine teams tasks ws kinds.LeafClosed = ws ≡ closed_line
 IsNodeLine teams tasks ws _ = ⊥
 
+abbrev pub IsPriceLine : ℕ → Words → LineKind → Type 0
+IsPriceLine tasks ws (kinds.Price prices) = AreNumbers IsPrice tasks prices × (ws ≡ price_line prices)
+IsPriceLine tasks ws _ = ⊥
+
+abbrev pub IsExtraLine : ℕ → ℕ → Words → LineKind → Type 0
+IsExtraLine task count ws (kinds.Extra j prices) = (j ≡ task) × AreNumbers IsPrice count prices × (ws ≡ extra_line task prices)
+IsExtraLine task count ws _ = ⊥
+
+abbrev pub IsWorthLine : Words → LineKind → Type 0
+IsWorthLine ws (kinds.Worth sigma) = IsWorthNumber sigma × (ws ≡ worth_line sigma)
+IsWorthLine ws _ = ⊥
+
+abbrev pub IsPhiLine : ℕ → ℕ → Words → LineKind → Type 0
+IsPhiLine task count ws (kinds.Phi j values) = (j ≡ task) × AreNumbers IsSigned count values × (ws ≡ phi_line task values)
+IsPhiLine task count ws _ = ⊥
+
 abbrev pub IsEndLine : Words → LineKind → Type 0
 IsEndLine ws kinds.End = ws ≡ end_line
 IsEndLine ws _ = ⊥
@@ -97,10 +129,15 @@ IsLineOf (expected.Travel places) ws kind = IsTimesLine places ws kind
 IsLineOf (expected.Team places) ws kind = IsTeamOf places ws kind
 IsLineOf (expected.Task places) ws kind = IsTaskOf places ws kind
 IsLineOf expected.Pool ws kind = IsPoolLine ws kind
+IsLineOf (expected.Route teams tasks) ws kind = IsRouteLine teams tasks ws kind
 IsLineOf (expected.Plan tasks) ws kind = IsPlanLine tasks ws kind
 IsLineOf (expected.Job teams tasks) ws kind = IsJobLine teams tasks ws kind
 IsLineOf expected.Tree ws kind = IsTreeLine ws kind
 IsLineOf (expected.Node teams tasks) ws kind = IsNodeLine teams tasks ws kind
+IsLineOf (expected.Price tasks) ws kind = IsPriceLine tasks ws kind
+IsLineOf (expected.Extra task count) ws kind = IsExtraLine task count ws kind
+IsLineOf expected.Worth ws kind = IsWorthLine ws kind
+IsLineOf (expected.Phi task count) ws kind = IsPhiLine task count ws kind
 IsLineOf expected.End ws kind = IsEndLine ws kind
 
 -- ---- what a line has to show before its numbers are read
@@ -122,10 +159,15 @@ HasShape (expected.Travel places) ws = IsShape (codes "travel") places ws
 HasShape (expected.Team places) ws = IsShapeFrom (codes "team") 4 ws
 HasShape (expected.Task places) ws = IsShapeFrom (codes "task") 6 ws
 HasShape expected.Pool ws = IsShape (codes "pool") 2 ws
+HasShape (expected.Route teams tasks) ws = Begins (codes "route") ws × IsPairs ws
 HasShape (expected.Plan tasks) ws = IsShape (codes "plan") 2 ws
 HasShape (expected.Job teams tasks) ws = IsShapeFrom (codes "do") 2 ws
 HasShape expected.Tree ws = IsShape (codes "tree") 4 ws
 HasShape (expected.Node teams tasks) ws = HasNodeShape ws
+HasShape (expected.Price tasks) ws = IsShape (codes "price") tasks ws
+HasShape (expected.Extra task count) ws = IsRow extra_line task count ws
+HasShape expected.Worth ws = IsShape (codes "worth") 1 ws
+HasShape (expected.Phi task count) ws = IsRow phi_line task count ws
 HasShape expected.End ws = ws ≡ end_line
 
 -- the names that the line has are spelled as names

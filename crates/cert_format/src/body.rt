@@ -1,12 +1,10 @@
-// The lines of a pool, a plan and a tree.
-ghost use Rattle.std.specs.Prelude.{ℕ, codes};
-ghost use Rattle.dossier_terms.specs.Rules.{Begins};
+// The lines of a pool, a plan and a tree, but those of its nodes.
 ghost use Rattle.cert_format.specs.Lines.{ReadsLine};
 
 use crate::kinds::{Expect, LineFault, LineKind};
-use crate::numbers::read_rest;
+use crate::numbers::{read_below, read_visits};
 use crate::ranges::MINUTE;
-use crate::shape::{begins, has_shape, has_shape_from, is_word};
+use crate::shape::{has_pairs, has_shape, has_shape_from};
 use field_table::{LineWords, fields};
 
 pub(crate) fn read_pool<'a>(words: LineWords<'a>) -> Result<LineKind<'a>, LineFault>
@@ -20,6 +18,25 @@ pub(crate) fn read_pool<'a>(words: LineWords<'a>) -> Result<LineKind<'a>, LineFa
         else fault => LineFault::Number
     );
     Ok(LineKind::Pool { kept, columns })
+}
+
+pub(crate) fn read_route<'a>(
+    words: LineWords<'a>,
+    teams: u32,
+    tasks: u32,
+) -> Result<LineKind<'a>, LineFault>
+    ensures { ReadsLine (Expect.Route teams tasks) words.entry result }
+{
+    if !has_pairs(&words, b"route") {
+        return Err(LineFault::Shape);
+    }
+    let last = teams as i64 - 1;
+    fields!(&words, "route" => team: Number(0, last); else fault => LineFault::Number);
+    let visits = read_visits(words, 2, tasks)?;
+    Ok(LineKind::Route {
+        team: team as u32,
+        visits,
+    })
 }
 
 pub(crate) fn read_plan<'a>(words: LineWords<'a>, tasks: u32) -> Result<LineKind<'a>, LineFault>
@@ -48,7 +65,7 @@ pub(crate) fn read_job<'a>(
     }
     let last = tasks as i64 - 1;
     fields!(&words, "do" => task: Number(0, last), start: MINUTE; else fault => LineFault::Number);
-    let teams = read_rest(words, 3, teams)?;
+    let teams = read_below(words, 3, teams)?;
     Ok(LineKind::Job {
         task: task as u32,
         start: start as u32,
@@ -72,76 +89,6 @@ pub(crate) fn read_tree<'a>(words: LineWords<'a>) -> Result<LineKind<'a>, LineFa
         left_open: left_open as u32,
         depth: depth as u32,
     })
-}
-
-fn read_window<'a>(words: LineWords<'a>, tasks: u32) -> Result<LineKind<'a>, LineFault>
-    requires { Begins (codes "window") words }
-    ensures { (teams : ℕ) → ReadsLine (Expect.Node teams tasks) words.entry result }
-{
-    if !has_shape(&words, b"window", 2) {
-        return Err(LineFault::Shape);
-    }
-    let last = tasks as i64 - 1;
-    fields!(&words, "window" => task: Number(0, last), cut: MINUTE; else fault => LineFault::Number);
-    Ok(LineKind::Window {
-        task: task as u32,
-        cut: cut as u32,
-    })
-}
-
-fn read_pair<'a>(words: LineWords<'a>, teams: u32, tasks: u32) -> Result<LineKind<'a>, LineFault>
-    requires { Begins (codes "pair") words }
-    ensures { ReadsLine (Expect.Node teams tasks) words.entry result }
-{
-    if !has_shape(&words, b"pair", 2) {
-        return Err(LineFault::Shape);
-    }
-    let last_team = teams as i64 - 1;
-    let last_task = tasks as i64 - 1;
-    fields!(
-        &words, "pair" => team: Number(0, last_team), task: Number(0, last_task);
-        else fault => LineFault::Number
-    );
-    Ok(LineKind::Pair {
-        team: team as u32,
-        task: task as u32,
-    })
-}
-
-fn read_leaf<'a>(words: LineWords<'a>) -> Result<LineKind<'a>, LineFault>
-    requires no_window { Begins (codes "window") words → ⊥ }
-    requires no_pair { Begins (codes "pair") words → ⊥ }
-    ensures { (teams tasks : ℕ) → ReadsLine (Expect.Node teams tasks) words.entry result }
-{
-    if !has_shape(&words, b"leaf", 1) {
-        return Err(LineFault::Shape);
-    }
-    if is_word(&words, 1, b"bare") {
-        return Ok(LineKind::LeafBare);
-    }
-    if is_word(&words, 1, b"open") {
-        return Ok(LineKind::LeafOpen);
-    }
-    if is_word(&words, 1, b"closed") {
-        return Ok(LineKind::LeafClosed);
-    }
-    Err(LineFault::Shape)
-}
-
-pub(crate) fn read_node<'a>(
-    words: LineWords<'a>,
-    teams: u32,
-    tasks: u32,
-) -> Result<LineKind<'a>, LineFault>
-    ensures { ReadsLine (Expect.Node teams tasks) words.entry result }
-{
-    if begins(&words, b"window") {
-        return read_window(words, tasks);
-    }
-    if begins(&words, b"pair") {
-        return read_pair(words, teams, tasks);
-    }
-    read_leaf(words)
 }
 
 pub(crate) fn read_end<'a>(words: LineWords<'a>) -> Result<LineKind<'a>, LineFault>

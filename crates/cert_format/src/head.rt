@@ -2,7 +2,7 @@
 ghost use Rattle.cert_format.specs.Lines.{ReadsLine};
 
 use crate::kinds::{Expect, LineFault, LineKind};
-use crate::numbers::read_rest;
+use crate::numbers::read_below;
 use crate::ranges::{MINUTE, NAME, name_of, named};
 use crate::shape::{has_shape, has_shape_from, is_word};
 use field_table::{LineWords, fields};
@@ -54,7 +54,7 @@ pub(crate) fn read_travel<'a>(words: LineWords<'a>, places: u32) -> Result<LineK
     if !has_shape(&words, b"travel", places as usize) {
         return Err(LineFault::Shape);
     }
-    let times = read_rest(words, 1, 2881)?;
+    let times = read_below(words, 1, 2881)?;
     Ok(LineKind::Travel { times })
 }
 
@@ -70,7 +70,7 @@ pub(crate) fn read_team<'a>(words: LineWords<'a>, places: u32) -> Result<LineKin
         else fault => named(fault)
     );
     let name = name_of(&words);
-    let skills = read_rest(words, 5, 64)?;
+    let skills = read_below(words, 5, 64)?;
     Ok(LineKind::Team {
         name,
         home: home as u32,
@@ -93,7 +93,7 @@ pub(crate) fn read_task<'a>(words: LineWords<'a>, places: u32) -> Result<LineKin
         else fault => named(fault)
     );
     let name = name_of(&words);
-    let skills = read_rest(words, 7, 64)?;
+    let skills = read_below(words, 7, 64)?;
     Ok(LineKind::Task {
         name,
         place: place as u32,

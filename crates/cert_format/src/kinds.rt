@@ -12,15 +12,23 @@ pub enum Expect {
     Team { places: u32 },
     Task { places: u32 },
     Pool,
+    Route { teams: u32, tasks: u32 },
     Plan { tasks: u32 },
     Job { teams: u32, tasks: u32 },
     Tree,
     /// A line `window`, `pair` or `leaf`.
     Node { teams: u32, tasks: u32 },
+    Price { tasks: u32 },
+    /// The task that is due, and how many of its pairs are required.
+    Extra { task: u32, count: u32 },
+    Worth,
+    /// The task that is due, and at how many minutes the team may begin it.
+    Phi { task: u32, count: u32 },
     End,
 }
 
-/// What a line says. Minutes are minutes of the day; skills, teams and times are in the order of the line.
+/// What a line says. Minutes are minutes of the day; prices, worths and potentials are in 1/840,000,000 of a task;
+/// numbers at the end of a line are in its order.
 #[derive(Drop)]
 pub enum LineKind<'a> {
     Form,
@@ -56,6 +64,11 @@ pub enum LineKind<'a> {
         kept: i64,
         columns: i64,
     },
+    /// The visits of a team: of each its task, and the minute at which it begins.
+    Route {
+        team: u32,
+        visits: Rest<'a>,
+    },
     Plan {
         unassigned: u32,
         bound: u32,
@@ -82,6 +95,24 @@ pub enum LineKind<'a> {
     LeafBare,
     LeafOpen,
     LeafClosed,
+    /// A price of each task.
+    Price {
+        prices: Rest<'a>,
+    },
+    /// A price of each required pair of a task, by team.
+    Extra {
+        task: u32,
+        prices: Rest<'a>,
+    },
+    /// A team's worth.
+    Worth {
+        sigma: i64,
+    },
+    /// A potential of a team's task for each minute at which the team may begin it.
+    Phi {
+        task: u32,
+        values: Rest<'a>,
+    },
     End,
 }
 

@@ -7,7 +7,10 @@ mod body;
 mod head;
 pub mod head_out;
 pub mod kinds;
+mod laws;
+mod leaves;
 pub mod lines_out;
+mod nodes;
 pub mod numbers;
 mod ranges;
 mod shape;
@@ -17,6 +20,7 @@ mod tests;
 use field_table::LineWords;
 pub use head_out::write_head;
 pub use kinds::{Expect, LineFault, LineKind};
+pub use laws::{instance_is_read_back, line_has_one_answer};
 pub use lines_out::{Part, put_line};
 pub use numbers::Rest;
 
@@ -33,10 +37,15 @@ pub fn read_line<'a>(expect: Expect, words: LineWords<'a>) -> Result<LineKind<'a
         Expect::Team { places } => head::read_team(words, places),
         Expect::Task { places } => head::read_task(words, places),
         Expect::Pool => body::read_pool(words),
+        Expect::Route { teams, tasks } => body::read_route(words, teams, tasks),
         Expect::Plan { tasks } => body::read_plan(words, tasks),
         Expect::Job { teams, tasks } => body::read_job(words, teams, tasks),
         Expect::Tree => body::read_tree(words),
-        Expect::Node { teams, tasks } => body::read_node(words, teams, tasks),
+        Expect::Node { teams, tasks } => nodes::read_node(words, teams, tasks),
+        Expect::Price { tasks } => leaves::read_price(words, tasks),
+        Expect::Extra { task, count } => leaves::read_extra(words, task, count),
+        Expect::Worth => leaves::read_worth(words),
+        Expect::Phi { task, count } => leaves::read_phi(words, task, count),
         Expect::End => body::read_end(words),
     }
 }

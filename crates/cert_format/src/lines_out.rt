@@ -1,5 +1,5 @@
 // Lines out.
-ghost use Rattle.std.specs.Prelude.{◌≤◌, map, OnOk, OnErr, IsErr};
+ghost use Rattle.std.specs.Prelude.{◌≡◌, ◌≤◌, map, OnOk, OnErr, IsErr};
 ghost use Rattle.crew_io.specs.Io.{Rose, Appended, AppendedPart};
 ghost use Rattle.crew_terms.specs.Words.{line_text};
 ghost use Rattle.cert_format.specs.Parts.{text_of};
@@ -15,6 +15,10 @@ pub enum Part<'a> {
 }
 
 impl Default for Part<'_> {
+    ghost use Rattle.std.specs.Prelude.{[]};
+
+    ghost is_default = { λ part. text_of part ≡ [] };
+
     /// An empty word.
     fn default() -> Self {
         Part::Word(b"")

@@ -1,10 +1,12 @@
 // Numbers in the words of a line.
-ghost use Rattle.std.specs.Prelude.{◌≡◌, ◌≢◌, ◌≤◌, ◌<◌, ◌+◌, ◌^◌, ℕ, List, [], pos, length, take, drop, map, slice_index_or, MatchOption, MatchBool, MatchResult, IfOk};
-ghost use Rattle.std.specs.Fmt.{decimal};
-ghost use Rattle.cert_format.specs.Fields.{SpellBelow};
+ghost use Rattle.std.specs.Prelude.{◌≡◌, ◌≤◌, ◌<◌, ◌+◌, ◌*◌, ℕ, ℤ, List, pos, length, drop, map, slice_index_or, MatchBool, MatchResult};
+ghost use Rattle.std.specs.List.{flat_map};
+ghost use Rattle.crew_terms.specs.declared.Visit.{Visit};
+ghost use Rattle.cert_format.specs.Fields.{SpellIn, SpellBelow, SpellVisits, visit_numbers};
 
 use crate::kinds::LineFault;
-use field_table::{Field, Kind, LineWords, Words, read_at, read_number};
+use crate::ranges::MINUTE;
+use field_table::{Field, Kind, LineWords, Words, field, read_at, read_number};
 use std::marker::Model;
 
 /// The numbers at the end of a line, in its order; it borrows the line.
@@ -44,26 +46,40 @@ impl<'a> Rest<'a> {
     }
 }
 
-/// Whether the words from a place on are the decimals of numbers below `past`.
-fn are_below(words: &LineWords<'_>, from: usize, past: u32) -> bool
-    requires { from ≤ length words.now }
-    ensures { MatchBool result ((ns : List ℕ) × SpellBelow past ns (drop from words.now)) ((ns : List ℕ) → SpellBelow past ns (drop from words.now) → ⊥) }
+/// Whether the words from a place on are the decimals of numbers in a field's range.
+fn are_in(words: &LineWords<'_>, from: usize, field: &Field) -> bool
+    requires numbers { field.now.kind ≡ Kind.Number }
+    requires within { from ≤ length words.now }
+    ensures { MatchBool result ((ns : List ℤ) × SpellIn field.now ns (drop from words.now)) ((ns : List ℤ) → SpellIn field.now ns (drop from words.now) → ⊥) }
 {
-    let below = Field {
-        low: 0,
-        high: past as i64 - 1,
-        kind: Kind::Number,
-    };
     for n in from..words.count() {
-        let Ok(_) = read_at(words, n, &below) else {
+        let Ok(_) = read_at(words, n, field) else {
             return false;
         };
     }
     true
 }
 
-/// The numbers of the words from a place on, each below `past`.
+/// The numbers of the words from a place on, each in a field's range.
 pub(crate) fn read_rest<'a>(
+    words: LineWords<'a>,
+    from: usize,
+    field: Field,
+) -> Result<Rest<'a>, LineFault>
+    requires numbers { field.kind ≡ Kind.Number }
+    requires within { from ≤ length words }
+    ensures { MatchResult result (λ rest. SpellIn field rest (drop from words.entry))
+        (λ fault. (fault ≡ LineFault.Number) × ((ns : List ℤ) → SpellIn field ns (drop from words.entry) → ⊥)) }
+{
+    if !are_in(&words, from, &field) {
+        return Err(LineFault::Number);
+    }
+    let len = words.count() - from;
+    Ok(Rest { words, from, len })
+}
+
+/// The numbers of the words from a place on, each below `past`.
+pub(crate) fn read_below<'a>(
     words: LineWords<'a>,
     from: usize,
     past: u32,
@@ -72,7 +88,40 @@ pub(crate) fn read_rest<'a>(
     ensures { MatchResult result (λ rest. (ns : List ℕ) × (rest ≡ map pos ns) × SpellBelow past ns (drop from words.entry))
         (λ fault. (fault ≡ LineFault.Number) × ((ns : List ℕ) → SpellBelow past ns (drop from words.entry) → ⊥)) }
 {
-    if !are_below(&words, from, past) {
+    let last = past as i64 - 1;
+    read_rest(words, from, field!(Number(0, last)))
+}
+
+/// Whether the pairs of words from a place on are the decimals of a task below `tasks` and of a minute.
+fn are_visits(words: &LineWords<'_>, from: usize, tasks: u32) -> bool
+    requires pairs { (k : ℕ) × (length words.now ≡ from + 2 * k) }
+    ensures { MatchBool result ((vs : List Visit) × SpellVisits tasks vs (drop from words.now)) ((vs : List Visit) → SpellVisits tasks vs (drop from words.now) → ⊥) }
+{
+    let last = tasks as i64 - 1;
+    let task = field!(Number(0, last));
+    let pairs = (words.count() - from) / 2;
+    for n in 0..pairs {
+        let Ok(_) = read_at(words, from + 2 * n, &task) else {
+            return false;
+        };
+        let Ok(_) = read_at(words, from + 2 * n + 1, &MINUTE) else {
+            return false;
+        };
+    }
+    true
+}
+
+/// The visits of the words from a place on, each a task below `tasks` and a minute.
+pub(crate) fn read_visits<'a>(
+    words: LineWords<'a>,
+    from: usize,
+    tasks: u32,
+) -> Result<Rest<'a>, LineFault>
+    requires pairs { (k : ℕ) × (length words ≡ from + 2 * k) }
+    ensures { MatchResult result (λ rest. (vs : List Visit) × (rest ≡ map pos (flat_map visit_numbers vs)) × SpellVisits tasks vs (drop from words.entry))
+        (λ fault. (fault ≡ LineFault.Number) × ((vs : List Visit) → SpellVisits tasks vs (drop from words.entry) → ⊥)) }
+{
+    if !are_visits(&words, from, tasks) {
         return Err(LineFault::Number);
     }
     let len = words.count() - from;

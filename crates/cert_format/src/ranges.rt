@@ -13,6 +13,20 @@ pub(crate) const MINUTE: Field = Field {
     kind: Kind::Number,
 };
 
+/// A price: at most 1,000,000 tasks, either way.
+pub(crate) const PRICE: Field = Field {
+    low: -840_000_000_000_000,
+    high: 840_000_000_000_000,
+    kind: Kind::Number,
+};
+
+/// A potential: any number of 64 bits.
+pub(crate) const POTENTIAL: Field = Field {
+    low: i64::MIN,
+    high: i64::MAX,
+    kind: Kind::Number,
+};
+
 /// A name of a place, a team or a task.
 pub(crate) const NAME: Field = Field {
     low: 1,

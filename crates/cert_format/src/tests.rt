@@ -18,6 +18,7 @@ fn reads_each_kind(rt: HostRuntime) -> Result<(), Fail> {
         (Expect::Team { places: 2 }, b"team T1 0 360 840 0 63"),
         (Expect::Task { places: 2 }, b"task A 1 420 450 30 1"),
         (Expect::Pool, b"pool 0 9223372036854775807"),
+        (Expect::Route { teams: 2, tasks: 3 }, b"route 1 2 2880 0 0"),
         (Expect::Plan { tasks: 1 }, b"plan 0 1"),
         (Expect::Job { teams: 1, tasks: 1 }, b"do 0 420 0"),
         (Expect::Tree, b"tree 0 0 1 0"),
@@ -26,6 +27,17 @@ fn reads_each_kind(rt: HostRuntime) -> Result<(), Fail> {
         (Expect::Node { teams: 2, tasks: 3 }, b"leaf bare"),
         (Expect::Node { teams: 2, tasks: 3 }, b"leaf open"),
         (Expect::Node { teams: 2, tasks: 3 }, b"leaf closed"),
+        (
+            Expect::Price { tasks: 2 },
+            b"price -840000000000000 840000000000000",
+        ),
+        (Expect::Price { tasks: 0 }, b"price"),
+        (Expect::Extra { task: 7, count: 2 }, b"extra 7 -1 0"),
+        (Expect::Worth, b"worth 9223372036854775807"),
+        (
+            Expect::Phi { task: 0, count: 2 },
+            b"phi 0 -9223372036854775808 9223372036854775807",
+        ),
         (Expect::End, b"end"),
     ];
     for (expect, line) in lines {
@@ -71,6 +83,99 @@ fn tells_faults(rt: HostRuntime) -> Result<(), Fail> {
     ];
     for (expect, line, fault) in lines {
         assert_eq!(rt; read_line(expect, cuts.split(line)).err(), Some(fault));
+    }
+    Ok(())
+}
+
+#[test]
+fn tells_faults_of_routes(rt: HostRuntime) -> Result<(), Fail> {
+    let mut cuts = Cuts::new(rt.alloc())?;
+    let route = Expect::Route { teams: 2, tasks: 3 };
+    let lines = [
+        (route, b"route 1".as_slice(), LineFault::Shape),
+        (route, b"route 1 2", LineFault::Shape),
+        (route, b"route 1 2 420 0", LineFault::Shape),
+        (route, b"rout 1 2 420", LineFault::Shape),
+        (route, b"route 2 2 420", LineFault::Number),
+        (route, b"route 1 3 420", LineFault::Number),
+        (route, b"route 1 2 2881", LineFault::Number),
+        (route, b"route 1 2 420 00 420", LineFault::Number),
+        (route, b"route -1 2 420", LineFault::Number),
+    ];
+    for (expect, line, fault) in lines {
+        assert_eq!(rt; read_line(expect, cuts.split(line)).err(), Some(fault));
+    }
+    Ok(())
+}
+
+#[test]
+fn tells_faults_of_prices(rt: HostRuntime) -> Result<(), Fail> {
+    let mut cuts = Cuts::new(rt.alloc())?;
+    let price = Expect::Price { tasks: 2 };
+    let extra = Expect::Extra { task: 0, count: 2 };
+    let lines = [
+        (price, b"price 1".as_slice(), LineFault::Shape),
+        (price, b"price 1 2 3", LineFault::Shape),
+        (price, b"price 1 840000000000001", LineFault::Number),
+        (price, b"price -840000000000001 1", LineFault::Number),
+        (price, b"price 1 -0", LineFault::Number),
+        (extra, b"extra 1 1 2", LineFault::Shape),
+        (extra, b"extra 00 1 2", LineFault::Shape),
+        (extra, b"extra 0 1", LineFault::Shape),
+        (extra, b"extra 0 1 2 3", LineFault::Shape),
+        (extra, b"extra 0 1 840000000000001", LineFault::Number),
+        (extra, b"extra 0 1 02", LineFault::Number),
+    ];
+    for (expect, line, fault) in lines {
+        assert_eq!(rt; read_line(expect, cuts.split(line)).err(), Some(fault));
+    }
+    Ok(())
+}
+
+#[test]
+fn tells_faults_of_potentials(rt: HostRuntime) -> Result<(), Fail> {
+    let mut cuts = Cuts::new(rt.alloc())?;
+    let worth = Expect::Worth;
+    let phi = Expect::Phi { task: 12, count: 1 };
+    let lines = [
+        (worth, b"worth".as_slice(), LineFault::Shape),
+        (worth, b"worth 1 2", LineFault::Shape),
+        (worth, b"worth -1", LineFault::Number),
+        (worth, b"worth 9223372036854775808", LineFault::Number),
+        (worth, b"worth 01", LineFault::Number),
+        (phi, b"phi 12", LineFault::Shape),
+        (phi, b"phi 1 0", LineFault::Shape),
+        (phi, b"phi 012 0", LineFault::Shape),
+        (phi, b"phi 12 0 0", LineFault::Shape),
+        (phi, b"phi 12 9223372036854775808", LineFault::Number),
+        (phi, b"phi 12 -9223372036854775809", LineFault::Number),
+        (phi, b"phi 12 00", LineFault::Number),
+    ];
+    for (expect, line, fault) in lines {
+        assert_eq!(rt; read_line(expect, cuts.split(line)).err(), Some(fault));
+    }
+    Ok(())
+}
+
+#[test]
+fn reads_the_numbers_of_a_route_and_of_potentials(rt: HostRuntime) -> Result<(), Fail> {
+    let mut cuts = Cuts::new(rt.alloc())?;
+    let route = Expect::Route { teams: 2, tasks: 3 };
+    match read_line(route, cuts.split(b"route 1 2 420 0 480"))? {
+        LineKind::Route { team, visits } => {
+            assert_eq!(rt; (team, visits.len()), (1, 4));
+            assert_eq!(rt; (visits.get(0), visits.get(1)), (2, 420));
+            assert_eq!(rt; (visits.get(2), visits.get(3)), (0, 480));
+        }
+        _ => assert!(rt; false, "no route"),
+    }
+    let phi = Expect::Phi { task: 7, count: 2 };
+    match read_line(phi, cuts.split(b"phi 7 -9223372036854775808 5"))? {
+        LineKind::Phi { task, values } => {
+            assert_eq!(rt; (task, values.len()), (7, 2));
+            assert_eq!(rt; (values.get(0), values.get(1)), (i64::MIN, 5));
+        }
+        _ => assert!(rt; false, "no potentials"),
     }
     Ok(())
 }

@@ -11,7 +11,7 @@ use Rattle.crew_terms.specs.Instance.{Instance, IsInstance, IsTeam, IsTask, team
 use Rattle.crew_terms.specs.declared.Team.{Team}
 use Rattle.crew_terms.specs.declared.Task.{Task}
 use Rattle.dossier_terms.specs.Dossier.{below, skills_of}
-use Rattle.dossier_terms.specs.Lines.{size_of, place_line, travel_line, team_line, task_line, head_lines}
+use Rattle.dossier_terms.specs.Lines.{size_of, size_line, place_line, travel_line, team_line, task_line, head_lines}
 use Rattle.text_laws.specs.Texts.{AreLine}
 use Rattle.text_laws.proofs.Lists.{rec-append, rec-map, rec_weaker, rec-filter, filter_shorter, below_less, length-below}
 use Rattle.text_laws.proofs.Spellings.{IsFew, form_is_line, size_is_line, place_is_line, travel_is_line, team_is_line, task_is_line}
@@ -35,21 +35,24 @@ skills_few mask = less_few 64 (skills_of mask) (omega arith) (picked_less 64 (ha
 skills_count : (mask : ℕ) → length (skills_of mask) ≤ 64
 skills_count mask = picked_few 64 (has mask)
 
-team_good : (places : ℕ) → places ≤ 200 → (t : Team) → IsTeam places t → AreLine (team_line t)
+pub team_good : (places : ℕ) → places ≤ 200 → (t : Team) → IsTeam places t → AreLine (team_line t)
 team_good places few t h = team_is_line (record t { skills = 0 }, skills_of t.skills) h.name (omega (arith, h.home)) (omega (arith, h.shift, h.day)) (omega (arith, h.day))
     (skills_count t.skills) (skills_few t.skills)
 
-task_good : (places : ℕ) → places ≤ 200 → (t : Task) → IsTask places t → AreLine (task_line t)
+pub task_good : (places : ℕ) → places ≤ 200 → (t : Task) → IsTask places t → AreLine (task_line t)
 task_good places few t h = task_is_line (record t { skills = 0 }, skills_of t.skills) h.name (omega (arith, h.place)) (omega (arith, h.order, h.day)) (omega (arith, h.day)) (omega (arith, h.minutes)) (omega (arith, h.teams))
     (skills_count t.skills) (skills_few t.skills)
 
 -- a row of travel times
-record IsTravel (places : ℕ) (row : List ℕ) : Type 0 where
-  count : length row ≡ places
-  minutes : All (λ t. t ≤ 2880) row
+pub record IsTravel (places : ℕ) (row : List ℕ) : Type 0 where
+  pub count : length row ≡ places
+  pub minutes : All (λ t. t ≤ 2880) row
 
-travel_good : (places : ℕ) → places ≤ 200 → (row : List ℕ) → IsTravel places row → AreLine (travel_line row)
+pub travel_good : (places : ℕ) → places ≤ 200 → (row : List ℕ) → IsTravel places row → AreLine (travel_line row)
 travel_good places few row h = travel_is_line row (omega (arith, h.count)) (rec_weaker (λ t. t ≤ 2880) IsFew (λ t l. omega arith) row (recursion_from_All (λ t. t ≤ 2880) row h.minutes))
+
+pub size_good : (i : Instance) (budget : ℕ) → IsInstance i → budget ≤ 100000 → AreLine (size_line (size_of i budget))
+size_good i budget h spend = let few = h.few_places in size_is_line (size_of i budget) (omega (arith, h.few_teams)) (omega (arith, h.few_tasks)) (omega arith) (omega arith)
 
 pub head_good : (i : Instance) (budget : ℕ) → IsInstance i → budget ≤ 100000 → AllByRecursion AreLine (head_lines i budget)
 head_good i budget h spend =
@@ -62,7 +65,7 @@ head_good i budget h spend =
     let tasks = rec-map (IsTask n) AreLine task_line (task_good n few) i.tasks (recursion_from_All (IsTask n) i.tasks h.tasks) in (
       form_is_line,
       (
-        size_is_line (size_of i budget) (omega (arith, h.few_teams)) (omega (arith, h.few_tasks)) (omega arith) (omega arith),
+        size_good i budget h spend,
         rec-append AreLine (map place_line i.places ++ map travel_line i.travel ++ map team_line i.teams) (map task_line i.tasks)
             (rec-append AreLine (map place_line i.places ++ map travel_line i.travel) (map team_line i.teams)
             (rec-append AreLine (map place_line i.places) (map travel_line i.travel) places rows) teams) tasks,

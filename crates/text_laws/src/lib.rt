@@ -1,12 +1,13 @@
 // Laws about the bytes of a dossier's text: lines and their words, and that a text is read in one way.
 #![tactic(auto)]
 
-ghost use Rattle.std.specs.Prelude.{◌≡◌, ◌≢◌, ◌++◌, ◌⊎◌, List, [], ℕ, map, All};
+ghost use Rattle.std.specs.Prelude.{◌≡◌, ◌≢◌, ◌≤◌, ◌++◌, ◌⊎◌, List, [], ℕ, map, All};
 ghost use Rattle.std.specs.List.{flat_map};
 ghost use Rattle.crew_terms.specs.Words.{Words, words_of, line_of, with_feed, IsLine};
+ghost use Rattle.crew_terms.specs.Instance.{Instance, IsInstance};
 ghost use Rattle.dossier_terms.specs.Accepted.{IsAccepted};
 ghost use Rattle.dossier_terms.specs.Dossier.{Dossier, IsGood};
-ghost use Rattle.dossier_terms.specs.Lines.{lines_of, text_of};
+ghost use Rattle.dossier_terms.specs.Lines.{lines_of, text_of, size_of, size_line, place_line, travel_line, team_line, task_line};
 ghost use Rattle.text_laws.specs.Texts.{AreLine, HasMore, IsFront};
 
 use dossier_laws::one_dossier;
@@ -25,6 +26,15 @@ pub fn lines_in_text()
         → HasMore xs ys a b ⊎ HasMore ys xs b a }
     ensures last { (xs ys : List (List ℕ)) (a b : List ℕ) → All IsLine xs → All IsLine ys → All (λ c. c ≢ 10) a
         → flat_map with_feed xs ++ a ≡ flat_map with_feed ys ++ b → HasMore xs ys a b }
+{}
+
+/// Each line of an instance has words without a space and an LF, and is no longer than a line may be.
+pub fn instance_lines()
+    ensures size { (i : Instance) (budget : ℕ) → IsInstance i → budget ≤ 100000 → AreLine (size_line (size_of i budget)) }
+    ensures places { (i : Instance) → IsInstance i → All (λ name. AreLine (place_line name)) i.places }
+    ensures travel { (i : Instance) → IsInstance i → All (λ row. AreLine (travel_line row)) i.travel }
+    ensures teams { (i : Instance) → IsInstance i → All (λ t. AreLine (team_line t)) i.teams }
+    ensures tasks { (i : Instance) → IsInstance i → All (λ t. AreLine (task_line t)) i.tasks }
 {}
 
 /// Each line of a good dossier has words without a space and an LF, and is no longer than a line may be.

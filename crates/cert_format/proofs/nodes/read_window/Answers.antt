@@ -4,7 +4,7 @@ use Rattle.std.specs.Prelude.{codes}
 use Rattle.cert_format.specs.Lines.{WindowShape}
 use Rattle.cert_format.proofs.Accepted.{none_read, line_of_row, last_below}
 use Rattle.cert_format.proofs.Wrong.{below_fields, window_wrong}
-use Rattle.cert_format.proofs.body.read_window.Goals as goal
+use Rattle.cert_format.proofs.nodes.read_window.Goals as goal
 
 pub returns : goal.returns
 returns c = λ teams. (

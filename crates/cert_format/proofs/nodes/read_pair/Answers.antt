@@ -4,7 +4,7 @@ use Rattle.std.specs.Prelude.{codes}
 use Rattle.cert_format.specs.Lines.{PairShape}
 use Rattle.cert_format.proofs.Accepted.{number_field, none_read, line_of_row, last_below}
 use Rattle.cert_format.proofs.Wrong.{pair_wrong}
-use Rattle.cert_format.proofs.body.read_pair.Goals as goal
+use Rattle.cert_format.proofs.nodes.read_pair.Goals as goal
 
 pub returns : goal.returns
 returns c = (

@@ -1,0 +1,26 @@
+use Rattle.std.proofs.Common.{ap, ◌∙◌, arith, map, pos}
+use Rattle.std.specs.List.{flat_map}
+use Rattle.std.specs.Str.Parse.{signed_digits_value}
+use Rattle.cert_format.specs.Fields.{visit_numbers}
+use Rattle.cert_format.proofs.Rests.{values_back}
+use Rattle.cert_format.proofs.Visits.{visits_signed, visits_fit}
+use Rattle.cert_format.proofs.numbers.read_visits.Goals as goal
+
+pub invariant_of-result : goal.invariant_of-result
+invariant_of-result c =
+    let there = c.requires.pairs.1 in
+    let count = c.count.ensures in
+    let spelled = c.if-not-are_visits.ensures in
+    record {
+      whole = omega arith;
+      small = omega arith;
+      numbers = map pos (flat_map visit_numbers spelled.0);
+      fit = visits_fit c.args.tasks spelled.0 (omega arith) spelled.1.known spelled.1.starts;
+      spelled = spelled.1.spelled ∙ visits_signed spelled.0;
+    }
+
+pub returns : goal.returns
+returns c =
+    let vs = c.if-not-are_visits.ensures.0 in
+    let spelled = c.if-not-are_visits.ensures.1 in
+    (vs, ap (map (signed_digits_value 10)) (spelled.spelled ∙ visits_signed vs) ∙ values_back (map pos (flat_map visit_numbers vs)) (visits_fit c.args.tasks vs (omega arith) spelled.known spelled.starts), spelled)

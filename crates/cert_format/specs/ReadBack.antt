@@ -1,0 +1,56 @@
+-- what the lines of an instance are read as
+use Rattle.std.specs.Prelude.{◌≡◌, ◌<◌, ◌^◌, ℕ, pos, List, Result, Ok, map}
+use Rattle.crew_terms.specs.Words.{Words, words_of, line_of, IsLine}
+use Rattle.crew_terms.specs.declared.Team.{Team}
+use Rattle.crew_terms.specs.declared.Task.{Task}
+use Rattle.dossier_terms.specs.declared.Size.{Size}
+use Rattle.dossier_terms.specs.Dossier.{skills_of}
+use Rattle.cert_format.specs.declared.kinds.Expect.{Expect}
+use Rattle.cert_format.specs.declared.kinds.Expect.TheVariants as expected
+use Rattle.cert_format.specs.declared.kinds.LineKind.{LineKind}
+use Rattle.cert_format.specs.declared.kinds.LineKind.TheVariants as kinds
+use Rattle.cert_format.specs.declared.kinds.LineFault.{LineFault}
+use Rattle.cert_format.specs.Lines.{ReadsLine}
+
+-- each count is one of 32 bits
+abbrev pub HasCounts : Expect → Type 0
+HasCounts expected.Form = Unit {0}
+HasCounts expected.Size = Unit {0}
+HasCounts expected.Place = Unit {0}
+HasCounts (expected.Travel places) = places < 2 ^ 32
+HasCounts (expected.Team places) = places < 2 ^ 32
+HasCounts (expected.Task places) = places < 2 ^ 32
+HasCounts expected.Pool = Unit {0}
+HasCounts (expected.Route teams tasks) = (teams < 2 ^ 32) × (tasks < 2 ^ 32)
+HasCounts (expected.Plan tasks) = tasks < 2 ^ 32
+HasCounts (expected.Job teams tasks) = (teams < 2 ^ 32) × (tasks < 2 ^ 32)
+HasCounts expected.Tree = Unit {0}
+HasCounts (expected.Node teams tasks) = (teams < 2 ^ 32) × (tasks < 2 ^ 32)
+HasCounts (expected.Price tasks) = tasks < 2 ^ 32
+HasCounts (expected.Extra task count) = (task < 2 ^ 32) × (count < 2 ^ 32)
+HasCounts expected.Worth = Unit {0}
+HasCounts (expected.Phi task count) = (task < 2 ^ 32) × (count < 2 ^ 32)
+HasCounts expected.End = Unit {0}
+
+-- the line of these words, cut at its spaces, is read as this where this kind is due, and as nothing else
+pub record IsReadAs (expect : Expect) (words : Words) (kind : LineKind) : Type 0 where
+  pub line : IsLine (line_of words)
+  pub read : ReadsLine expect (words_of (line_of words)) (Ok kind)
+  pub only : (answer : Result LineKind LineFault) → ReadsLine expect (words_of (line_of words)) answer → answer ≡ Ok kind
+
+-- ---- what the lines of an instance say
+
+abbrev pub size_kind : Size → LineKind
+size_kind z = kinds.Size z.teams z.tasks z.places z.nodes
+
+abbrev pub place_kind : List ℕ → LineKind
+place_kind name = kinds.Place name
+
+abbrev pub travel_kind : List ℕ → LineKind
+travel_kind row = kinds.Travel (map pos row)
+
+abbrev pub team_kind : Team → LineKind
+team_kind t = kinds.Team t.name t.home t.from t.until (map pos (skills_of t.skills))
+
+abbrev pub task_kind : Task → LineKind
+task_kind t = kinds.Task t.name t.place t.earliest t.latest t.minutes t.teams (map pos (skills_of t.skills))
