@@ -1,0 +1,6 @@
+pub mod Followers
+pub mod Prices
+pub mod Table
+pub mod Kept
+pub mod Rules
+pub mod Sums
