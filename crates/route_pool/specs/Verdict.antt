@@ -1,0 +1,22 @@
+-- what is told of a route that is to be added to a pool, and the pool after it
+use Rattle.std.specs.Prelude.{◌≡◌, ◌≢◌, List, [], ◌∷◌, ◌++◌, All, Contains}
+use Rattle.crew_terms.specs.Limits.{Limits, IsRoute}
+use Rattle.dossier_terms.specs.Dossier.{Route}
+use Rattle.route_pool.specs.declared.pool.PoolVerdict.{PoolVerdict}
+use Rattle.route_pool.specs.declared.pool.PoolVerdict.TheVariants.{Added, NotRoute, Repeated}
+
+-- no route of the pool equals this one
+abbrev pub IsNew : List Route → Route → Type 0
+IsNew pool route = All (λ (o : Route). o ≢ route) pool
+
+-- added where it is a route of its team and new, or else the first of the two that fails
+abbrev pub IsVerdict : Limits → List Route → Route → PoolVerdict → Type 0
+IsVerdict n pool r Added = IsRoute n r.team r.visits × IsNew pool r
+IsVerdict n pool r NotRoute = IsRoute n r.team r.visits → ⊥
+IsVerdict n pool r Repeated = IsRoute n r.team r.visits × Contains pool r
+
+-- the pool has the route last where it was added, and else is as before
+abbrev pub pool_after : List Route → Route → List Route → PoolVerdict → Type 0
+pool_after old r new Added = new ≡ old ++ r ∷ []
+pool_after old r new NotRoute = new ≡ old
+pool_after old r new Repeated = new ≡ old

@@ -1,0 +1,11 @@
+// The routes of a dossier's pool.
+#![tactic(auto)]
+
+mod pool;
+mod routes;
+#[cfg(test)]
+mod tests;
+
+pub use node_limits::{Limits, Visit};
+pub use pool::{Pool, PoolVerdict};
+pub use routes::Route;
