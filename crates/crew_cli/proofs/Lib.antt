@@ -1,13 +1,6 @@
 pub mod Refusals
 pub mod LineByLine
 pub mod Said
-pub mod Steps
-pub mod Faults
-pub mod Listed
-pub mod SetRow
-pub mod HeadRows
-pub mod HeadSteps
-pub mod BodyRows
 pub mod Days
 pub mod Applies
 pub mod Top

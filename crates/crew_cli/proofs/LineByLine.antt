@@ -1,10 +1,10 @@
 -- the input line by line, as the reader hands its lines out and the checker judges them
-use Rattle.std.proofs.Common.{◌≡◌, ◌≢◌, ◌≤◌, ◌<◌, ◌+◌, ◌^◌, ◌++◌, ℕ, zero, suc, Bool, true, false, List, [], ◌∷◌, length, map, Option, Some, ap, subst, sym, refl, ◌∙◌, arith, inl, inr, length-append, append_assoc, append-nil}
+use Rattle.std.proofs.Common.{◌≡◌, ◌≢◌, ◌≤◌, ◌<◌, ◌+◌, ◌^◌, ◌++◌, ℕ, zero, suc, List, [], ◌∷◌, length, map, Option, None, Some, ap, subst, sym, refl, ◌∙◌, arith, inl, inr, length-append, append_assoc, append-nil}
 use Rattle.std.specs.List.{flat_map}
 use Rattle.std.proofs.lemmas.List.{map-append, length-map}
 use Rattle.std.proofs.lemmas.List.Concat.{flat_map-append}
 use Rattle.std.proofs.lemmas.List.Elements.{All-nil, All-push}
-use Rattle.crew_terms.specs.Words.{IsLine, words_of, with_feed}
+use Rattle.crew_terms.specs.Words.{Words, IsLine, words_of, with_feed}
 use Rattle.crew_io.specs.Io.{Rose}
 use Rattle.crew_io.specs.Lines.{Reader, Advances, AnswersTold, Answers as Finds, IsPartial, rest_of, allowance}
 use Rattle.crew_io.specs.declared.lines.Progress.{Progress}
@@ -12,16 +12,18 @@ use Rattle.crew_io.specs.declared.lines.Progress.TheVariants as progress
 use Rattle.dossier_terms.specs.declared.Reason.{Reason}
 use Rattle.dossier_terms.specs.Dossier.{Dossier, IsGood}
 use Rattle.dossier_terms.specs.Lines.{lines_of, text_of}
-use Rattle.dossier_terms.specs.Reading.{Reading, Form as FormDue}
-use Rattle.dossier_terms.specs.Today.{IsSimple}
+use Rattle.dossier_terms.specs.Reading.{Reading, Form, Said as Answer, More as Goes, Whole as Ends, No as Refuses}
+use Rattle.dossier_terms.specs.Today.{Answers, IsSimple, IsSimpleInput}
 use Rattle.dossier_laws.specs.Path.{Leads, Answered}
-use Rattle.crew_cli.specs.Due.{Holds, IsStep, reading_of, dossier_of}
-use Rattle.crew_cli.specs.Input.{HasRead, IsBetween, IsOpen, IsRefusal, BadLine, NoLine, Stops, LineTooLong, InputTooLong, IsEnd, IsOutcome, OpensNext, outcome_at_stop_of, text_of_lines, text_before, lines_before, room_after}
-use Rattle.crew_cli.specs.declared.due.Draft.{Draft}
-use Rattle.crew_cli.specs.declared.due.Due.{Due}
-use Rattle.crew_cli.specs.declared.due.Due.TheVariants.{Form}
-use Rattle.crew_cli.specs.declared.due.Step.TheVariants.{More, Whole, No}
-use Rattle.crew_cli.specs.declared.input.Outcome.TheVariants.{ReadFault}
+use Rattle.cert_checker.specs.Checked.{Checked, Due, Ended, IsEnded, IsJudged, due_at, said_of, standing_after, stop_reason_of}
+use Rattle.cert_checker.specs.declared.checker.Verdict.{Verdict}
+use Rattle.cert_checker.specs.declared.checker.Said.{Said}
+use Rattle.cert_checker.specs.declared.checker.Said.TheVariants.{More, Whole, No}
+use Rattle.cert_checker.specs.declared.checker.Stop.{Stop}
+use Rattle.cert_checker.specs.declared.checker.Stop.TheVariants as stop
+use Rattle.crew_cli.specs.Input.{HasRead, IsBetween, IsGoing, IsAtFirst, Fresh, Behind as AtFirst, IsOpen, IsRefusal, BadLine, NoLine, Stops, LineTooLong, InputTooLong, IsEnd, IsOutcome, IsOutcomeAtStop, Over, Short, Fault, OpensNext, told_of, text_of_lines, text_before, lines_before, room_after}
+use Rattle.crew_cli.specs.declared.input.Outcome.{Outcome}
+use Rattle.crew_cli.specs.declared.input.Outcome.TheVariants as outcomes
 use Rattle.crew_cli.proofs.Refusals.{leads_on, ends}
 
 -- the lines of the next dossier that the reader has handed out lead to what is due
@@ -33,13 +35,20 @@ pub record ReadTo (input : List ℕ) (done : List Dossier) (reader : Reader) (le
   pub handed : reader.handed ≡ length (text_before done lines)
   pub number : count ≡ lines_before done lines
 
+-- where the checker stands, behind so many lines of whole dossiers
+pub data StandsAt (from : ℕ) (checker : Checked) (due : Reading) : Type 0 where
+  AtStart : (none : from ≡ 0) (at : checker.at ≡ Due Form) (is : due ≡ Form) → StandsAt from checker due
+  Behind : (some : 0 < from) (here : checker.lines ≡ from) (d : Dossier) (at : checker.at ≡ Ended d) (is : due ≡ Form) → StandsAt from checker due
+  Amid : (more : from < checker.lines) (at : checker.at ≡ Due due) → StandsAt from checker due
+
 -- what holds before each line of the next dossier
-pub record IsSoFar (old : Reader) (left0 : Option (List ℕ)) (from : ℕ) (reader : Reader) (left : Option (List ℕ)) (due : Due) (count : ℕ) : Type 0 where
-  pub going : IsOpen reader count
-  pub begun : from ≤ count
-  pub grows : old.handed + count ≤ reader.handed + from
-  pub holds : Holds due
-  pub read : (input : List ℕ) (done : List Dossier) → IsBetween input done old left0 from → ReadTo input done reader left (reading_of due) count
+pub record IsSoFar (old : Reader) (left0 : Option (List ℕ)) (start : Checked) (reader : Reader) (left : Option (List ℕ)) (checker : Checked) : Type 0 where
+  pub going : IsGoing reader checker.lines
+  pub begun : start.lines ≤ checker.lines
+  pub grows : old.handed + checker.lines ≤ reader.handed + start.lines
+  pub due : Reading
+  pub stands : StandsAt start.lines checker due
+  pub read : (input : List ℕ) (done : List Dossier) → IsBetween input done old left0 start.lines → ReadTo input done reader left due checker.lines
 
 one_more : (lines : List (List ℕ)) (line : List ℕ) → text_of_lines (lines ++ line ∷ []) ≡ text_of_lines lines ++ with_feed line
 one_more lines line = flat_map-append with_feed lines (line ∷ []) ∙ ap (λ x. text_of_lines lines ++ x) (append-nil (with_feed line))
@@ -47,12 +56,17 @@ one_more lines line = flat_map-append with_feed lines (line ∷ []) ∙ ap (λ x
 before_more : (done : List Dossier) (lines : List (List ℕ)) (line : List ℕ) → text_before done (lines ++ line ∷ []) ≡ text_before done lines ++ with_feed line
 before_more done lines line = ap (λ x. flat_map text_of done ++ x) (one_more lines line) ∙ sym (append_assoc (flat_map text_of done) (text_of_lines lines) (with_feed line))
 
-pub starts : (reader : Reader) (left : Option (List ℕ)) (from : ℕ) → IsOpen reader from → IsSoFar reader left from reader left Form from
-starts reader left from open_ = record {
-  going = open_;
+first_stands : (checker : Checked) → IsAtFirst checker → StandsAt checker.lines checker Form
+first_stands checker (Fresh is) = AtStart (ap (λ c. c.lines) is) (ap (λ c. c.at) is) refl
+first_stands checker (AtFirst some ended) = Behind some refl ended.0 ended.1 refl
+
+pub starts : (reader : Reader) (left : Option (List ℕ)) (checker : Checked) → IsOpen reader checker → IsSoFar reader left checker reader left checker
+starts reader left checker open_ = record {
+  going = open_.going;
   begun = omega arith;
   grows = omega arith;
-  holds = tt;
+  due = Form;
+  stands = first_stands checker open_.first;
   read = λ input done b. record {
     lines = [];
     rest = b.rest;
@@ -62,6 +76,16 @@ starts reader left from open_ = record {
     number = (let n = b.number in omega arith);
   };
 }
+
+-- the line that is due is the one of the table
+due_of : (from : ℕ) (checker : Checked) (due : Reading) → StandsAt from checker due → due_at checker.at ≡ Some due
+due_of from checker due (AtStart none at is) = ap due_at at ∙ ap Some (sym is)
+due_of from checker due (Behind some here d at is) = ap due_at at ∙ ap Some (sym is)
+due_of from checker due (Amid more at) = ap due_at at
+
+pub is_due : (first : Reader) (left0 : Option (List ℕ)) (start : Checked) (old : Reader) (left : Option (List ℕ)) (checker : Checked)
+    → (s : IsSoFar first left0 start old left checker) → due_at checker.at ≡ Some s.due
+is_due first left0 start old left checker s = due_of start.lines checker s.due s.stands
 
 -- what an answer finds of the rest
 found : (input : List ℕ) (done : List Dossier) (old new : Reader) (left later : Option (List ℕ)) (answer : Progress) (due : Reading) (count : ℕ) → old.limit ≡ 2 ^ 62
@@ -85,28 +109,67 @@ handed_more done lines line old new e f = e ∙ ap (λ n. n + length (with_feed 
 words_more : (lines : List (List ℕ)) (line : List ℕ) → map words_of (lines ++ line ∷ []) ≡ map words_of lines ++ words_of line ∷ []
 words_more lines line = map-append words_of lines (line ∷ [])
 
-opens : (old new : Reader) (left later : Option (List ℕ)) (count : ℕ) → IsOpen old count → Advances old left progress.Line new later → IsOpen new (count + 1)
-opens old new left later count o a = record {
+opens : (old new : Reader) (left later : Option (List ℕ)) (count more : ℕ) → IsGoing old count → Advances old left progress.Line new later → more ≡ count + 1 → IsGoing new more
+opens old new left later count more o a is = record {
   going = a.stopped;
   limit = a.limit ∙ o.limit;
   within = (let w = a.within in let l = a.limit in let m = o.limit in omega arith);
   few = (let h = a.handed in let f = o.few in let n = length-append new.line (10 ∷ []) in omega arith);
 }
 
+-- fewer lines were judged than a checker may judge
+pub few_lines : (first : Reader) (left0 : Option (List ℕ)) (start : Checked) (old new : Reader) (left later : Option (List ℕ)) (checker : Checked) → IsSoFar first left0 start old left checker
+    → Advances old left progress.Line new later → checker.lines < 2 ^ 62
+few_lines first left0 start old new left later checker s a =
+    let g = opens old new left later checker.lines (checker.lines + 1) s.going a refl in
+    let w = g.within in let f = g.few in omega arith
+
+-- what the table says where the checker says this
+
+goes : (lines : ℕ) (said : Said) (new : Checked) (due : Reading) (ws : Words) (answer : Answer) → Answers due ws answer → said ≡ said_of (lines + 1) answer
+    → new ≡ record { lines = lines + 1; at = standing_after (lines + 1) answer } → said ≡ More
+    → (next : Reading) × Answers due ws (Goes next) × (new ≡ record { lines = lines + 1; at = Due next })
+goes lines said new due ws (Goes next) a e n is = (next, a, n)
+goes lines said new due ws (Ends d) a e n is = absurd (let f = sym is ∙ e in cc)
+goes lines said new due ws (Refuses reason) a e n is = absurd (let f = sym is ∙ e in cc)
+
+whole : (lines : ℕ) (said : Said) (new : Checked) (due : Reading) (ws : Words) (verdict : Verdict) (answer : Answer) → Answers due ws answer → said ≡ said_of (lines + 1) answer
+    → new ≡ record { lines = lines + 1; at = standing_after (lines + 1) answer } → said ≡ Whole verdict
+    → (d : Dossier) × Answers due ws (Ends d) × (new ≡ record { lines = lines + 1; at = Ended d })
+whole lines said new due ws verdict (Goes next) a e n is = absurd (let f = sym is ∙ e in cc)
+whole lines said new due ws verdict (Ends d) a e n is = (d, a, n)
+whole lines said new due ws verdict (Refuses reason) a e n is = absurd (let f = sym is ∙ e in cc)
+
+refused_for : (lines : ℕ) (said : Said) (due : Reading) (ws : Words) (number : ℕ) (reason : Reason) (answer : Answer) → Answers due ws answer → said ≡ said_of (lines + 1) answer
+    → said ≡ No number reason → Answers due ws (Refuses reason) × (number ≡ lines + 1)
+refused_for lines said due ws number reason (Goes next) a e is = absurd (let f = sym is ∙ e in cc)
+refused_for lines said due ws number reason (Ends d) a e is = absurd (let f = sym is ∙ e in cc)
+refused_for lines said due ws number reason (Refuses r) a e is =
+    let f = sym is ∙ e in
+    let g : r ≡ reason = cc in
+    let h : number ≡ lines + 1 = cc in
+    (subst (λ x. Answers due ws (Refuses x)) g a, h)
+
 -- one line more
-pub goes_on : (first : Reader) (left0 : Option (List ℕ)) (from : ℕ) (old new : Reader) (left later : Option (List ℕ)) (due next : Due) (count : ℕ) → IsSoFar first left0 from old left due count
-    → Advances old left progress.Line new later → IsStep due (words_of new.line) (More next) → IsSoFar first left0 from new later next (count + 1)
-goes_on first left0 from old new left later due next count s a step = record {
-  going = opens old new left later count s.going a;
-  begun = (let b = s.begun in omega arith);
-  grows = (let g = s.grows in let h = a.handed in let n = length-append new.line (10 ∷ []) in omega arith);
-  holds = step.holds;
-  read = λ input done b. more input done (s.read input done b);
-}
+pub goes_on : (first : Reader) (left0 : Option (List ℕ)) (start : Checked) (old new : Reader) (left later : Option (List ℕ)) (checker next : Checked) (said : Said)
+    → (s : IsSoFar first left0 start old left checker) → Advances old left progress.Line new later → IsJudged checker.lines s.due (words_of new.line) said next → said ≡ More
+    → IsSoFar first left0 start new later next
+goes_on first left0 start old new left later checker next said s a j is =
+    let g = goes checker.lines said next s.due (words_of new.line) j.answer j.is j.says j.stands is in
+    let count : next.lines ≡ checker.lines + 1 = ap (λ c. c.lines) g.2 in
+    record {
+      going = opens old new left later checker.lines next.lines s.going a count;
+      begun = (let b = s.begun in omega arith);
+      grows = (let b = s.grows in let h = a.handed in let n = length-append new.line (10 ∷ []) in omega arith);
+      due = g.0;
+      stands = Amid (let b = s.begun in omega arith) (ap (λ c. c.at) g.2);
+      read = λ input done b. more g.0 g.1 count input done (s.read input done b);
+    }
   where
-    more : (input : List ℕ) (done : List Dossier) → ReadTo input done old left (reading_of due) count → ReadTo input done new later (reading_of next) (count + 1)
-    more input done r =
-        let f = found input done old new left later progress.Line (reading_of due) count s.going.limit r a in
+    more : (due : Reading) → Answers s.due (words_of new.line) (Goes due) → next.lines ≡ checker.lines + 1 → (input : List ℕ) (done : List Dossier) → ReadTo input done old left s.due checker.lines
+        → ReadTo input done new later due next.lines
+    more due answer count input done r =
+        let f = found input done old new left later progress.Line s.due checker.lines s.going.limit r a in
         record {
           lines = r.lines ++ new.line ∷ [];
           rest = f.0;
@@ -117,22 +180,23 @@ goes_on first left0 from old new left later due next count s a step = record {
             good = r.read.good;
             simple = r.read.simple;
             each = All-push IsLine r.lines new.line r.read.each a.line;
-            leads = subst (λ ws. Leads FormDue ws (reading_of next)) (sym (words_more r.lines new.line))
-                (leads_on FormDue (map words_of r.lines) (words_of new.line) (reading_of due) (reading_of next) r.read.leads step.answer);
+            leads = subst (λ ws. Leads Form ws due) (sym (words_more r.lines new.line))
+                (leads_on Form (map words_of r.lines) (words_of new.line) s.due due r.read.leads answer);
           };
           handed = handed_more done r.lines new.line old.handed new.handed a.handed r.handed;
           number = (let n = r.number in let m = length-append r.lines (new.line ∷ []) in omega arith);
         }
 
-pub refuses : (first : Reader) (left0 : Option (List ℕ)) (from : ℕ) (old new : Reader) (left later : Option (List ℕ)) (due : Due) (reason : Reason) (count : ℕ) → IsSoFar first left0 from old left due count
-    → Advances old left progress.Line new later → IsStep due (words_of new.line) (No reason)
-    → (input : List ℕ) (done : List Dossier) → IsBetween input done first left0 from → IsRefusal input done (count + 1) reason
-refuses first left0 from old new left later due reason count s a step input done b =
+pub refuses : (first : Reader) (left0 : Option (List ℕ)) (start : Checked) (old new : Reader) (left later : Option (List ℕ)) (checker next : Checked) (said : Said) (number : ℕ) (reason : Reason)
+    → (s : IsSoFar first left0 start old left checker) → Advances old left progress.Line new later → IsJudged checker.lines s.due (words_of new.line) said next → said ≡ No number reason
+    → (input : List ℕ) (done : List Dossier) → IsBetween input done first left0 start.lines → IsRefusal input done number reason
+refuses first left0 start old new left later checker next said number reason s a j is input done b =
     let r = s.read input done b in
-    let f = found input done old new left later progress.Line (reading_of due) count s.going.limit r a in
-    BadLine r.lines new.line f.0 (reading_of due)
+    let f = found input done old new left later progress.Line s.due checker.lines s.going.limit r a in
+    let g = refused_for checker.lines said s.due (words_of new.line) number reason j.answer j.is j.says is in
+    BadLine r.lines new.line f.0 s.due
     (record { text = r.read.text ∙ ap (λ x. text_before done r.lines ++ x) f.2.parts; within = r.read.within; good = r.read.good; simple = r.read.simple; each = r.read.each; leads = r.read.leads })
-    f.2.plain f.2.fits step.answer (let n = r.number in omega arith)
+    f.2.plain f.2.fits g.0 (let n = r.number in let m = g.1 in omega arith)
 
 no_bytes : (rest : List ℕ) → length rest ≡ 0 → rest ≡ []
 no_bytes [] e = refl
@@ -149,59 +213,115 @@ some_lines (d ∷ done) h = let n = length-append (lines_of d) (flat_map lines_o
     has_lines : (d : Dossier) → 0 < length (lines_of d)
     has_lines d = omega arith
 
-pub stops : (first : Reader) (left0 : Option (List ℕ)) (from : ℕ) (old new : Reader) (left later : Option (List ℕ)) (answer : Progress) (due : Due) (count : ℕ) (between : Bool)
-    → (between ≡ true → (count ≡ from) × (0 < from)) → (between ≡ false → (count ≡ from) × (0 < from) → ⊥)
-    → IsSoFar first left0 from old left due count → Advances old left answer new later → answer ≢ progress.Line
-    → (input : List ℕ) (done : List Dossier) → IsBetween input done first left0 from → IsOutcome input done new later (outcome_at_stop_of answer between (count + 1))
-stops first left0 from old new left later answer due count between is not s a stopped input done b =
-    let r = s.read input done b in
-    let f = found input done old new left later answer (reading_of due) count s.going.limit r a in
-    refused r answer stopped between is not f.0 f.1 f.2 (λ e. subst (λ room. IsPartial room new.held (length new.held)) (let h = r.handed in let l = s.going.limit in omega arith) (a.fault e))
-  where
-    no_end : (r : ReadTo input done old left (reading_of due) count) → 0 < length r.rest → IsEnd done r.lines r.rest → ⊥
-    no_end r l e = let n = ap length e.none in absurd (omega arith)
+-- a dossier is whole just where no line of the next one was read
+ended_here : (from : ℕ) (checker : Checked) (due : Reading) → StandsAt from checker due → IsEnded checker.at → (checker.lines ≡ from) × (0 < from)
+ended_here from checker due (AtStart none at is) e = absurd (let f = sym at ∙ e.1 in cc)
+ended_here from checker due (Behind some here d at is) e = (here, some)
+ended_here from checker due (Amid more at) e = absurd (let f = sym at ∙ e.1 in cc)
 
-    refused : (r : ReadTo input done old left (reading_of due) count) (answer : Progress) → answer ≢ progress.Line
-        → (between : Bool) → (between ≡ true → (count ≡ from) × (0 < from)) → (between ≡ false → (count ≡ from) × (0 < from) → ⊥) → (after : List ℕ)
-        → rest_of new later ≡ Some after → Finds (room_after done r.lines) r.rest answer new.line after
-        → (answer ≡ progress.ReadFault → IsPartial (room_after done r.lines) new.held (length new.held)) → IsOutcome input done new later (outcome_at_stop_of answer between (count + 1))
-    refused r progress.Line stopped between is not after left_is f fault = absurd (stopped refl)
-    refused r progress.TooLong stopped between is not after left_is f fault = NoLine r.lines r.rest (reading_of due) r.read (LineTooLong f.0 refl) (no_end r (let m = f.0.more in omega arith)) (let n = r.number in omega arith)
-    refused r progress.TooMuch stopped between is not after left_is f fault = NoLine r.lines r.rest (reading_of due) r.read (InputTooLong f.0 refl) (no_end r (let m = f.0.more in omega arith)) (let n = r.number in omega arith)
-    refused r (progress.End (suc partial)) stopped between is not after left_is f fault = NoLine r.lines r.rest (reading_of due) r.read (Stops (suc partial) f.0 refl) (no_end r (let m = f.0.count in omega arith)) (let n = r.number in omega arith)
-    refused r (progress.End zero) stopped true is not after left_is f fault =
-        let at = is refl in
-        let n = r.number in
-        let m = b.number in
-        let e : r.lines ≡ [] = no_lines r.lines (omega arith) in
-        let none : r.rest ≡ [] = no_bytes r.rest (sym f.0.count) in
-        let text : input ≡ flat_map text_of done = r.read.text ∙ ap (λ x. text_before done r.lines ++ x) none ∙ append-nil (text_before done r.lines)
-        ∙ ap (text_before done) e ∙ append-nil (flat_map text_of done) in
-        let w = s.going.within in
-        let h = b.handed in
-        let small : length input ≤ 2 ^ 62 = (let i = ap length text in let g = r.handed in let k = ap (λ x. length (text_before done x)) e in let j = ap length (append-nil (flat_map text_of done)) in omega arith) in
-        record {
-          accepted = record { size = small; some = λ x. absurd (let k = ap (λ y. length (flat_map lines_of y)) x in omega arith); good = r.read.good; text = text };
-          simple = r.read.simple;
-        }
-    refused r (progress.End zero) stopped false is not after left_is f fault = NoLine r.lines r.rest (reading_of due) r.read (Stops 0 f.0 refl)
-        (λ e. not refl ((let n = r.number in let m = b.number in let k = ap length e.between in omega arith), (let m = b.number in let l = some_lines done e.some in omega arith)))
-        (let n = r.number in omega arith)
-    refused r progress.ReadFault stopped between is not after left_is f fault =
-        record { lines = r.lines; rest = r.rest; due = reading_of due; is = left_is ∙ ap Some f; read = r.read; front = fault refl }
+here_ended : (from : ℕ) (checker : Checked) (due : Reading) → StandsAt from checker due → checker.lines ≡ from → 0 < from → IsEnded checker.at
+here_ended from checker due (AtStart none at is) e l = absurd (omega arith)
+here_ended from checker due (Behind some here d at is) e l = (d, at)
+here_ended from checker due (Amid more at) e l = absurd (omega arith)
 
-pub ends_whole : (first : Reader) (left0 : Option (List ℕ)) (from : ℕ) (old new : Reader) (left later : Option (List ℕ)) (due : Due) (draft : Draft) (count : ℕ)
-    → ((lines : List (List ℕ)) (d : Dossier) → Answered FormDue (map words_of lines) d → IsGood d × IsSimple d × (text_of d ≡ text_of_lines lines) × (lines_of d ≡ map words_of lines))
-    → IsSoFar first left0 from old left due count → Advances old left progress.Line new later → IsStep due (words_of new.line) (Whole draft)
-    → (input : List ℕ) (done : List Dossier) → IsBetween input done first left0 from → IsBetween input (done ++ dossier_of draft ∷ []) new later (count + 1)
-ends_whole first left0 from old new left later due draft count law s a step input done b =
+is_fault : (answer : Progress) → answer ≢ progress.Line → told_of answer ≡ None → answer ≡ progress.ReadFault
+is_fault progress.Line stopped told = absurd (stopped refl)
+is_fault progress.TooLong stopped told = absurd (cc)
+is_fault progress.TooMuch stopped told = absurd (cc)
+is_fault (progress.End partial) stopped told = absurd (cc)
+is_fault progress.ReadFault stopped told = refl
+
+-- where no line comes whole
+module _ (first : Reader) (left0 : Option (List ℕ)) (start : Checked) (old new : Reader) (left later : Option (List ℕ)) (checker : Checked)
+    (s : IsSoFar first left0 start old left checker) (input : List ℕ) (done : List Dossier) (b : IsBetween input done first left0 start.lines) where
+  accepts : (r : ReadTo input done old left s.due checker.lines) → IsEnded checker.at → IsPartial (room_after done r.lines) r.rest 0 → IsSimpleInput input done
+  accepts r ended p =
+      let at = ended_here start.lines checker s.due s.stands ended in
+      let n = r.number in
+      let m = b.number in
+      let e : r.lines ≡ [] = no_lines r.lines (omega arith) in
+      let none : r.rest ≡ [] = no_bytes r.rest (sym p.count) in
+      let text : input ≡ flat_map text_of done = r.read.text ∙ ap (λ x. text_before done r.lines ++ x) none ∙ append-nil (text_before done r.lines)
+      ∙ ap (text_before done) e ∙ append-nil (flat_map text_of done) in
+      let w = s.going.within in
+      let h = b.handed in
+      let small : length input ≤ 2 ^ 62 = (let i = ap length text in let g = r.handed in let k = ap (λ x. length (text_before done x)) e in let j = ap length (append-nil (flat_map text_of done)) in omega arith) in
+      record {
+        accepted = record { size = small; some = λ x. absurd (let k = ap (λ y. length (flat_map lines_of y)) x in omega arith); good = r.read.good; text = text };
+        simple = r.read.simple;
+      }
+
+  not_over : (r : ReadTo input done old left s.due checker.lines) → IsEnd done r.lines r.rest → IsEnded checker.at
+  not_over r e = here_ended start.lines checker s.due s.stands (let n = r.number in let m = b.number in let k = ap length e.between in omega arith) (let m = b.number in let l = some_lines done e.some in omega arith)
+
+  no_end : (r : ReadTo input done old left s.due checker.lines) → 0 < length r.rest → IsEnd done r.lines r.rest → ⊥
+  no_end r l e = let n = ap length e.none in absurd (omega arith)
+
+  falls_short : (r : ReadTo input done old left s.due checker.lines) (answer : Progress) (why : Stop) → told_of answer ≡ Some why → (IsEnded checker.at → why ≡ stop.End 0 → ⊥)
+      → (after : List ℕ) → Finds (room_after done r.lines) r.rest answer new.line after → IsRefusal input done (checker.lines + 1) (stop_reason_of why)
+  falls_short r progress.Line why told more after f = absurd (cc)
+  falls_short r progress.ReadFault why told more after f = absurd (cc)
+  falls_short r progress.TooLong why told more after f =
+      let e : stop.TooLong ≡ why = cc in
+      subst (λ w. IsRefusal input done (checker.lines + 1) (stop_reason_of w)) e
+      (NoLine r.lines r.rest s.due r.read (LineTooLong f.0 refl) (no_end r (let m = f.0.more in omega arith)) (let n = r.number in omega arith))
+  falls_short r progress.TooMuch why told more after f =
+      let e : stop.TooMuch ≡ why = cc in
+      subst (λ w. IsRefusal input done (checker.lines + 1) (stop_reason_of w)) e
+      (NoLine r.lines r.rest s.due r.read (InputTooLong f.0 refl) (no_end r (let m = f.0.more in omega arith)) (let n = r.number in omega arith))
+  falls_short r (progress.End (suc partial)) why told more after f =
+      let e : stop.End (suc partial) ≡ why = cc in
+      subst (λ w. IsRefusal input done (checker.lines + 1) (stop_reason_of w)) e
+      (NoLine r.lines r.rest s.due r.read (Stops (suc partial) f.0 refl) (no_end r (let m = f.0.count in omega arith)) (let n = r.number in omega arith))
+  falls_short r (progress.End zero) why told more after f =
+      let e : stop.End 0 ≡ why = cc in
+      subst (λ w. IsRefusal input done (checker.lines + 1) (stop_reason_of w)) e
+      (NoLine r.lines r.rest s.due r.read (Stops 0 f.0 refl) (λ x. more (not_over r x) (sym e)) (let n = r.number in omega arith))
+
+  stops_so : (answer : Progress) (outcome : Outcome) (after : Checked) → Advances old left answer new later → answer ≢ progress.Line → IsOutcomeAtStop checker answer outcome
+      → IsOutcome input done new later after outcome
+  stops_so answer outcome after a stopped (Over end ended is) =
+      let r = s.read input done b in
+      let f = found input done old new left later answer s.due checker.lines s.going.limit r a in
+      subst (IsOutcome input done new later after) (sym is)
+      (accepts r ended (let g = subst (λ x. Finds (room_after done r.lines) r.rest x new.line f.0) end f.2 in g.0))
+  stops_so answer outcome after a stopped (Short why told more is) =
+      let r = s.read input done b in
+      let f = found input done old new left later answer s.due checker.lines s.going.limit r a in
+      subst (IsOutcome input done new later after) (sym is) (falls_short r answer why told more f.0 f.2)
+  stops_so answer outcome after a stopped (Fault told is) =
+      let r = s.read input done b in
+      let f = found input done old new left later answer s.due checker.lines s.going.limit r a in
+      let e = is_fault answer stopped told in
+      let g = subst (λ x. Finds (room_after done r.lines) r.rest x new.line f.0) e f.2 in
+      subst (IsOutcome input done new later after) (sym is) (record {
+        lines = r.lines;
+        rest = r.rest;
+        due = s.due;
+        is = f.1 ∙ ap Some g;
+        read = r.read;
+        front = subst (λ room. IsPartial room new.held (length new.held)) (let h = r.handed in let l = s.going.limit in omega arith) (a.fault e);
+      })
+
+pub stops : (first : Reader) (left0 : Option (List ℕ)) (start : Checked) (old new : Reader) (left later : Option (List ℕ)) (checker after : Checked) (answer : Progress) (outcome : Outcome)
+    → IsSoFar first left0 start old left checker → Advances old left answer new later → answer ≢ progress.Line → IsOutcomeAtStop checker answer outcome
+    → (input : List ℕ) (done : List Dossier) → IsBetween input done first left0 start.lines → IsOutcome input done new later after outcome
+stops first left0 start old new left later checker after answer outcome s a stopped is input done b =
+    stops_so first left0 start old new left later checker s input done b answer outcome after a stopped is
+
+pub ends_whole : (first : Reader) (left0 : Option (List ℕ)) (start : Checked) (old new : Reader) (left later : Option (List ℕ)) (checker next : Checked) (said : Said) (verdict : Verdict)
+    → ((lines : List (List ℕ)) (d : Dossier) → Answered Form (map words_of lines) d → IsGood d × IsSimple d × (text_of d ≡ text_of_lines lines) × (lines_of d ≡ map words_of lines))
+    → (s : IsSoFar first left0 start old left checker) → Advances old left progress.Line new later → IsJudged checker.lines s.due (words_of new.line) said next → said ≡ Whole verdict
+    → (input : List ℕ) (done : List Dossier) → IsBetween input done first left0 start.lines → (d : Dossier) → next.at ≡ Ended d → IsBetween input (done ++ d ∷ []) new later next.lines
+ends_whole first left0 start old new left later checker next said verdict law s a j is input done b d at =
+    let g = whole checker.lines said next s.due (words_of new.line) verdict j.answer j.is j.says j.stands is in
+    let same : g.0 ≡ d = (let x = sym (ap (λ c. c.at) g.2) ∙ at in cc) in
     let r = s.read input done b in
-    let d = dossier_of draft in
     let lines = r.lines ++ new.line ∷ [] in
-    let f = found input done old new left later progress.Line (reading_of due) count s.going.limit r a in
-    let whole : Answered FormDue (map words_of lines) d = subst (λ ws. Answered FormDue ws d) (sym (words_more r.lines new.line))
-    (ends FormDue (map words_of r.lines) (words_of new.line) (reading_of due) d r.read.leads step.answer) in
-    let good = law lines d whole in
+    let f = found input done old new left later progress.Line s.due checker.lines s.going.limit r a in
+    let answered : Answered Form (map words_of lines) d = subst (λ ws. Answered Form ws d) (sym (words_more r.lines new.line))
+    (ends Form (map words_of r.lines) (words_of new.line) s.due d r.read.leads (subst (λ x. Answers s.due (words_of new.line) (Ends x)) same g.1)) in
+    let good = law lines d answered in
     let texts : flat_map text_of (done ++ d ∷ []) ≡ text_before done lines = flat_map-append text_of done (d ∷ []) ∙ ap (λ x. flat_map text_of done ++ x) (append-nil (text_of d) ∙ good.2) in
     record {
       rest = f.0;
@@ -218,40 +338,50 @@ ends_whole first left0 from old new left later due draft count law s a step inpu
       handed = handed_more done r.lines new.line old.handed new.handed a.handed r.handed ∙ ap length (sym texts);
       number = (let n = r.number in
           let e = ap length (flat_map-append lines_of done (d ∷ [])) in
-          let g = length-append (flat_map lines_of done) (flat_map lines_of (d ∷ [])) in
+          let g1 = length-append (flat_map lines_of done) (flat_map lines_of (d ∷ [])) in
           let h = ap length (append-nil (lines_of d)) in
           let i = ap length good.3 in
-          let j = length-map lines words_of in
+          let jj = length-map lines words_of in
+          let c = ap (λ c. c.lines) g.2 in
           let k = length-append r.lines (new.line ∷ []) in omega arith);
     }
 
--- after a dossier the reader can go on, and has handed out more
-pub opens_next : (first : Reader) (left0 : Option (List ℕ)) (from : ℕ) (old new : Reader) (left later : Option (List ℕ)) (due : Due) (count : ℕ) → IsSoFar first left0 from old left due count
-    → Advances old left progress.Line new later → IsOpen new (count + 1) × (first.handed < new.handed)
-opens_next first left0 from old new left later due count s a = (
-  opens old new left later count s.going a,
-  (let g = s.grows in let h = a.handed in let n = length-append new.line (10 ∷ []) in let b = s.begun in omega arith),
-)
+-- after a dossier the reader and the checker can go on, and more was handed out
+pub opens_next : (first : Reader) (left0 : Option (List ℕ)) (start : Checked) (old new : Reader) (left later : Option (List ℕ)) (checker next : Checked) (said : Said) (verdict : Verdict)
+    → (s : IsSoFar first left0 start old left checker) → Advances old left progress.Line new later → IsJudged checker.lines s.due (words_of new.line) said next → said ≡ Whole verdict
+    → IsOpen new next × (first.handed < new.handed)
+opens_next first left0 start old new left later checker next said verdict s a j is =
+    let g = whole checker.lines said next s.due (words_of new.line) verdict j.answer j.is j.says j.stands is in
+    let count : next.lines ≡ checker.lines + 1 = ap (λ c. c.lines) g.2 in (
+      record {
+        going = opens old new left later checker.lines next.lines s.going a count;
+        first = AtFirst (omega arith) (g.0, ap (λ c. c.at) g.2);
+      },
+      (let x = s.grows in let h = a.handed in let n = length-append new.line (10 ∷ []) in let b = s.begun in omega arith),
+    )
+
+pub no_none : (said : Said) → Some said ≡ None → ⊥
+no_none said e = cc
+
+-- the checker is told why no line comes, and refuses the one that is due
+pub stop_refuses : (checker : Checked) (answer : Progress) (why : Stop) (number : ℕ) (reason : Reason) → told_of answer ≡ Some why → (IsEnded checker.at → why ≡ stop.End 0 → ⊥)
+    → No number reason ≡ No (checker.lines + 1) (stop_reason_of why) → IsOutcomeAtStop checker answer (outcomes.No number reason)
+stop_refuses checker answer why number reason told more is =
+    let n : number ≡ checker.lines + 1 = cc in
+    let r : reason ≡ stop_reason_of why = cc in
+    Short why told more (ap (λ x. outcomes.No x reason) n ∙ ap (λ x. outcomes.No (checker.lines + 1) x) r)
 
 -- only a fault of the source stops a reading without a line that is refused and without an end
-pub stop_is_fault : (answer : Progress) (between : Bool) (number : ℕ) → answer ≢ progress.Line → outcome_at_stop_of answer between number ≡ ReadFault → answer ≡ progress.ReadFault
-stop_is_fault progress.Line between number stopped e = absurd (stopped refl)
-stop_is_fault progress.TooLong between number stopped e = absurd (cc)
-stop_is_fault progress.TooMuch between number stopped e = absurd (cc)
-stop_is_fault (progress.End zero) true number stopped e = absurd (cc)
-stop_is_fault (progress.End zero) false number stopped e = absurd (cc)
-stop_is_fault (progress.End (suc partial)) between number stopped e = absurd (cc)
-stop_is_fault progress.ReadFault between number stopped e = refl
+pub stop_is_fault : (checker : Checked) (answer : Progress) (outcome : Outcome) → answer ≢ progress.Line → IsOutcomeAtStop checker answer outcome → outcome ≡ outcomes.ReadFault → answer ≡ progress.ReadFault
+stop_is_fault checker answer outcome stopped (Over end ended is) e = absurd (let f = sym is ∙ e in cc)
+stop_is_fault checker answer outcome stopped (Short why told more is) e = absurd (let f = sym is ∙ e in cc)
+stop_is_fault checker answer outcome stopped (Fault told is) e = is_fault answer stopped told
 
 -- and only a dossier's end lets the reader go on
-pub stop_opens : (old new : Reader) (answer : Progress) (between : Bool) (number : ℕ) → OpensNext old new (outcome_at_stop_of answer between number)
-stop_opens old new progress.Line between number = tt
-stop_opens old new progress.TooLong between number = tt
-stop_opens old new progress.TooMuch between number = tt
-stop_opens old new (progress.End zero) true number = tt
-stop_opens old new (progress.End zero) false number = tt
-stop_opens old new (progress.End (suc partial)) between number = tt
-stop_opens old new progress.ReadFault between number = tt
+pub stop_opens : (old new : Reader) (checker after : Checked) (answer : Progress) (outcome : Outcome) → IsOutcomeAtStop checker answer outcome → OpensNext old new after outcome
+stop_opens old new checker after answer outcome (Over end ended is) = subst (OpensNext old new after) (sym is) tt
+stop_opens old new checker after answer outcome (Short why told more is) = subst (OpensNext old new after) (sym is) tt
+stop_opens old new checker after answer outcome (Fault told is) = subst (OpensNext old new after) (sym is) tt
 
 pub rose_from : (a b c : ℕ) → a ≤ b → Rose b c → Rose a c
 rose_from a b c le (inl l) = inl (omega arith)

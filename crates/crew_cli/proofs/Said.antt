@@ -1,21 +1,21 @@
 -- what is written for the dossiers of an input, one after another
-use Rattle.std.proofs.Common.{◌≡◌, ◌≤◌, ◌^◌, ◌+◌, ◌++◌, ℕ, List, [], ◌∷◌, length, take, Option, None, Some, Result, Ok, Err, ap, subst, sym, refl, ◌∙◌, arith, append_assoc, append-nil}
+use Rattle.std.proofs.Common.{◌≡◌, ◌^◌, ◌++◌, ℕ, List, [], ◌∷◌, length, take, Option, None, Some, Result, Ok, Err, ap, subst, sym, refl, ◌∙◌, arith, append_assoc, append-nil}
 use Rattle.std.proofs.Math.Seq.{take-length}
-use Rattle.std.specs.Prelude.{All, IfSome, OnErr}
+use Rattle.std.specs.Prelude.{All, IfSome, OnErr, OnOk}
 use Rattle.std.specs.List.{flat_map}
 use Rattle.std.proofs.lemmas.List.Concat.{flat_map-append}
-use Rattle.std.proofs.lemmas.List.Elements.{All-nil, All-push, All-contains, Contains-push}
-use Rattle.crew_terms.specs.Plan.{Plan, IsLegal, unassigned_count}
+use Rattle.std.proofs.lemmas.List.Elements.{All-nil, All-push}
 use Rattle.crew_io.specs.Io.{Appended, AppendedPart}
 use Rattle.crew_io.specs.Lines.{Reader, fresh_reader, rest_of}
 use Rattle.dossier_terms.specs.declared.Reason.{Reason}
-use Rattle.dossier_terms.specs.Dossier.{Dossier, IsGood}
+use Rattle.dossier_terms.specs.Dossier.{Dossier}
 use Rattle.dossier_terms.specs.Lines.{text_of}
 use Rattle.dossier_terms.specs.Reading.{Form}
 use Rattle.dossier_terms.specs.Texts.{yes_line, no_line}
 use Rattle.dossier_terms.specs.Today.{IsSimpleInput}
-use Rattle.crew_cli.specs.Input.{IsBetween, IsOpen, IsRefusal, IsInterrupted, HasRead}
-use Rattle.crew_cli.specs.Run.{OfBytes, IsTrueYes, SaysYes, SaysNo, SaysFront, SaysReadFault, SaysYesLines, Nothing, YesFront, NoFront}
+use Rattle.cert_checker.specs.Checked.{Checked, IsTrueYes, fresh_checker}
+use Rattle.crew_cli.specs.Input.{Fresh, IsBetween, IsOpen, IsRefusal, IsInterrupted, HasRead}
+use Rattle.crew_cli.specs.Run.{OfBytes, SaysYes, SaysNo, SaysFront, SaysReadFault, SaysYesLines, Nothing, YesFront, NoFront}
 
 -- these dossiers are read, and their yes lines are written
 pub record HasSaid (input : List ℕ) (before : Option (List ℕ)) (reader : Reader) (left got : Option (List ℕ)) (count : ℕ) : Type 0 where
@@ -28,12 +28,11 @@ pub record HasSaid (input : List ℕ) (before : Option (List ℕ)) (reader : Rea
 abbrev pub HasSaidOf : Option (List ℕ) → Option (List ℕ) → Reader → Option (List ℕ) → Option (List ℕ) → ℕ → Type 0
 HasSaidOf left0 got0 reader left got count = IfSome left0 (λ input. HasSaid input got0 reader left got count)
 
--- every legal plan of a good dossier's instance leaves at least its bound unassigned
-abbrev pub GoodBounds : Type 0
-GoodBounds = (d : Dossier) (p : Plan) → IsGood d → IsLegal d.instance p → d.bound ≤ unassigned_count p
-
-pub opens : (reader : Reader) → reader ≡ fresh_reader (2 ^ 62) → IsOpen reader 0
-opens reader e = subst (λ r. IsOpen r 0) (sym e) (record { going = refl; limit = refl; within = omega arith; few = omega arith })
+pub opens : (reader : Reader) (checker : Checked) → reader ≡ fresh_reader (2 ^ 62) → checker ≡ fresh_checker → IsOpen reader checker
+opens reader checker e f = subst (λ r. IsOpen r checker) (sym e) (subst (IsOpen (fresh_reader (2 ^ 62))) (sym f) (record {
+  going = record { going = refl; limit = refl; within = omega arith; few = omega arith };
+  first = Fresh refl;
+}))
 
 pub appended_none : (got : Option (List ℕ)) → Appended got got []
 appended_none None = refl
@@ -53,30 +52,29 @@ appended_front (Some bytes) mid new xs ys p q =
 none_read : (input : List ℕ) → HasRead input [] [] input Form
 none_read input = record { text = refl; within = omega arith; good = All-nil _; simple = All-nil _; each = All-nil _; leads = refl }
 
-pub begins : (left got : Option (List ℕ)) (reader : Reader) → reader ≡ fresh_reader (2 ^ 62) → HasSaidOf left got reader left got 0
-begins None got reader e = tt
-begins (Some input) got reader e = subst (λ r. HasSaid input got r (Some input) got 0) (sym e) (record {
+pub begins : (left got : Option (List ℕ)) (reader : Reader) (checker : Checked) → reader ≡ fresh_reader (2 ^ 62) → checker ≡ fresh_checker → HasSaidOf left got reader left got checker.lines
+begins None got reader checker e f = tt
+begins (Some input) got reader checker e f = subst (λ c. HasSaid input got reader (Some input) got c.lines) (sym f) (subst (λ r. HasSaid input got r (Some input) got 0) (sym e) (record {
   done = [];
   between = record { rest = input; is = refl; read = none_read input; handed = refl; number = refl };
   written = appended_none got;
   each = All-nil IsTrueYes;
-})
+}))
 
 -- one dossier more, and its yes line
-pub says_one_more : (left0 got0 : Option (List ℕ)) (old new : Reader) (left later got added : Option (List ℕ)) (count more : ℕ) (d : Dossier) → GoodBounds
+pub says_one_more : (left0 got0 : Option (List ℕ)) (old new : Reader) (left later got added : Option (List ℕ)) (count more : ℕ) (d : Dossier) → IsTrueYes d
     → ((input : List ℕ) (done : List Dossier) → IsBetween input done old left count → IsBetween input (done ++ d ∷ []) new later more)
     → Appended got added (yes_line d) → HasSaidOf left0 got0 old left got count → HasSaidOf left0 got0 new later added more
-says_one_more None got0 old new left later got added count more d bounds next wrote so = tt
-says_one_more (Some input) got0 old new left later got added count more d bounds next wrote so =
+says_one_more None got0 old new left later got added count more d true_yes next wrote so = tt
+says_one_more (Some input) got0 old new left later got added count more d true_yes next wrote so =
     let b = next input so.done so.between in
-    let good : IsGood d = All-contains IsGood (so.done ++ d ∷ []) d b.read.good (Contains-push so.done d) in
     let lines : flat_map yes_line so.done ++ yes_line d ≡ flat_map yes_line (so.done ++ d ∷ []) =
     ap (λ x. flat_map yes_line so.done ++ x) (sym (append-nil (yes_line d))) ∙ sym (flat_map-append yes_line so.done (d ∷ [])) in
     record {
       done = so.done ++ d ∷ [];
       between = b;
       written = subst (λ bytes. Appended got0 added bytes) lines (appended_both got0 got added (flat_map yes_line so.done) (yes_line d) so.written wrote);
-      each = All-push IsTrueYes so.done d so.each (record { good = good; legal = good.plan; bound = λ p legal. bounds d p good legal });
+      each = All-push IsTrueYes so.done d so.each true_yes;
     }
 
 -- the input has ended behind a dossier
@@ -113,6 +111,14 @@ says_no (Some input) got0 reader left got added count number reason law refused 
 pub on_err : {X E : Type 0} (r : Result X E) (P : Type 0) → P → OnErr r P
 on_err (Ok x) P p = tt
 on_err (Err e) P p = p
+
+pub on_ok_goes : {X E P Q : Type 0} (r : Result X E) → (P → Q) → OnOk r P → OnOk r Q
+on_ok_goes (Ok x) f p = f p
+on_ok_goes (Err e) f p = tt
+
+pub on_err_goes : {X E P Q : Type 0} (r : Result X E) → (P → Q) → OnErr r P → OnErr r Q
+on_err_goes (Ok x) f p = tt
+on_err_goes (Err e) f p = f p
 
 -- all of a piece is a front of it
 pub all_is_part : (got added : Option (List ℕ)) (piece : List ℕ) → Appended got added piece → AppendedPart got added piece
@@ -194,14 +200,13 @@ says_read_fault (Some input) got0 old new left later got count stopped so =
     )
 
 -- the front of one more yes line was written
-pub front_yes : (left0 got0 : Option (List ℕ)) (old new : Reader) (left later got added : Option (List ℕ)) (count more : ℕ) (d : Dossier) → GoodBounds
+pub front_yes : (left0 got0 : Option (List ℕ)) (old new : Reader) (left later got added : Option (List ℕ)) (count more : ℕ) (d : Dossier) → IsTrueYes d
     → ((input : List ℕ) (done : List Dossier) → IsBetween input done old left count → IsBetween input (done ++ d ∷ []) new later more)
     → AppendedPart got added (yes_line d) → HasSaidOf left0 got0 old left got count → OfBytes left0 got0 added SaysFront
-front_yes None got0 old new left later got added count more d bounds next wrote so = tt
-front_yes (Some input) got0 old new left later got added count more d bounds next wrote so =
+front_yes None got0 old new left later got added count more d true_yes next wrote so = tt
+front_yes (Some input) got0 old new left later got added count more d true_yes next wrote so =
     let w = appended_front got0 got added (flat_map yes_line so.done) (yes_line d) so.written wrote in
     let b = next input so.done so.between in
-    let good : IsGood d = All-contains IsGood (so.done ++ d ∷ []) d b.read.good (Contains-push so.done d) in
     let text : input ≡ flat_map text_of (so.done ++ d ∷ []) ++ b.rest = b.read.text ∙ ap (λ x. x ++ b.rest) (append-nil (flat_map text_of (so.done ++ d ∷ []))) in (
       flat_map yes_line so.done ++ take w.0 (yes_line d),
       w.1,
@@ -212,7 +217,7 @@ front_yes (Some input) got0 old new left later got added count more d bounds nex
         each = so.each;
         part = take w.0 (yes_line d);
         lines = refl;
-        next = YesFront d b.rest text (record { good = good; legal = good.plan; bound = λ p legal. bounds d p good legal }) w.0 refl;
+        next = YesFront d b.rest text true_yes w.0 refl;
       },
     )
 

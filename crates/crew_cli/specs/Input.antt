@@ -1,5 +1,5 @@
 -- an input as a reading finds it: dossiers that are whole, and the first line that is refused
-use Rattle.std.specs.Prelude.{◌≡◌, ◌≢◌, ◌≤◌, ◌<◌, ◌+◌, ◌-◌, ◌^◌, ◌++◌, ℕ, zero, suc, Bool, true, false, List, [], ◌∷◌, Option, None, Some, length, map, All}
+use Rattle.std.specs.Prelude.{◌≡◌, ◌≢◌, ◌≤◌, ◌<◌, ◌+◌, ◌-◌, ◌^◌, ◌++◌, ℕ, suc, List, [], ◌∷◌, Option, None, Some, length, map, All}
 use Rattle.std.specs.List.{flat_map}
 use Rattle.crew_terms.specs.Words.{IsLine, words_of, with_feed}
 use Rattle.crew_io.specs.Lines.{Reader, IsPartial, BeginsTooLong, IsTooMuch, rest_of}
@@ -12,7 +12,9 @@ use Rattle.dossier_terms.specs.Lines.{lines_of, text_of}
 use Rattle.dossier_terms.specs.Reading.{Reading, No as Refuses, Form}
 use Rattle.dossier_terms.specs.Today.{Answers, IsSimple, IsSimpleInput}
 use Rattle.dossier_laws.specs.Path.{Leads}
-use Rattle.crew_cli.specs.Due.{dossier_of}
+use Rattle.cert_checker.specs.Checked.{Checked, Ended, IsEnded, IsTrueVerdict, fresh_checker, stop_reason_of}
+use Rattle.cert_checker.specs.declared.checker.Stop.{Stop}
+use Rattle.cert_checker.specs.declared.checker.Stop.TheVariants as stops
 use Rattle.crew_cli.specs.declared.input.Outcome.{Outcome}
 use Rattle.crew_cli.specs.declared.input.Outcome.TheVariants.{Yes, End, No, ReadFault}
 
@@ -66,11 +68,21 @@ pub data IsRefusal (input : List ℕ) (done : List Dossier) (number : ℕ) (reas
       (is : number ≡ suc (lines_before done lines)) → IsRefusal input done number reason
 
 -- what holds of a reader that has handed out so many lines
-pub record IsOpen (reader : Reader) (count : ℕ) : Type 0 where
+pub record IsGoing (reader : Reader) (count : ℕ) : Type 0 where
   pub going : reader.stopped ≡ None
   pub limit : reader.limit ≡ 2 ^ 62
   pub within : reader.handed ≤ 2 ^ 62
   pub few : count ≤ reader.handed
+
+-- a checker has read nothing yet, or its last line ended a dossier
+pub data IsAtFirst (checker : Checked) : Type 0 where
+  Fresh : (is : checker ≡ fresh_checker) → IsAtFirst checker
+  Behind : (some : 0 < checker.lines) (ended : IsEnded checker.at) → IsAtFirst checker
+
+-- the reader can go on, and the checker has judged the lines that it handed out, to the end of a dossier
+pub record IsOpen (reader : Reader) (checker : Checked) : Type 0 where
+  pub going : IsGoing reader checker.lines
+  pub first : IsAtFirst checker
 
 -- the reader has handed out these dossiers, and is to hand out the next one
 pub record IsBetween (input : List ℕ) (done : List Dossier) (reader : Reader) (left : Option (List ℕ)) (count : ℕ) : Type 0 where
@@ -89,26 +101,32 @@ pub record IsInterrupted (input : List ℕ) (done : List Dossier) (reader : Read
   pub read : HasRead input done lines rest due
   pub front : IsPartial (room_after done lines) reader.held (length reader.held)
 
+-- why no line comes, as the checker is told it
+abbrev pub told_of : Progress → Option Stop
+told_of progress.Line = None
+told_of progress.TooLong = Some stops.TooLong
+told_of progress.TooMuch = Some stops.TooMuch
+told_of (progress.End partial) = Some (stops.End partial)
+told_of progress.ReadFault = None
+
 -- the outcome where no line comes whole
-abbrev pub outcome_at_stop_of : Progress → Bool → ℕ → Outcome
-outcome_at_stop_of (progress.End zero) true number = End
-outcome_at_stop_of (progress.End zero) false number = No number EndReason
-outcome_at_stop_of (progress.End (suc partial)) is_between number = No number EndReason
-outcome_at_stop_of progress.TooLong is_between number = No number TooLong
-outcome_at_stop_of progress.TooMuch is_between number = No number TooMuch
-outcome_at_stop_of progress.ReadFault is_between number = ReadFault
-outcome_at_stop_of progress.Line is_between number = ReadFault
+pub data IsOutcomeAtStop (checker : Checked) (answer : Progress) (outcome : Outcome) : Type 0 where
+  Over : (end : answer ≡ progress.End 0) (ended : IsEnded checker.at) (is : outcome ≡ End) → IsOutcomeAtStop checker answer outcome
+  Short : (why : Stop) (told : told_of answer ≡ Some why) (more : IsEnded checker.at → why ≡ stops.End 0 → ⊥)
+      (is : outcome ≡ No (checker.lines + 1) (stop_reason_of why)) → IsOutcomeAtStop checker answer outcome
+  Fault : (told : told_of answer ≡ None) (is : outcome ≡ ReadFault) → IsOutcomeAtStop checker answer outcome
 
 -- what a reading behind these dossiers found
-abbrev pub IsOutcome : List ℕ → List Dossier → Reader → Option (List ℕ) → Outcome → Type 0
-IsOutcome input done reader left (Yes draft count) = IsBetween input (done ++ dossier_of draft ∷ []) reader left count
-IsOutcome input done reader left End = IsSimpleInput input done
-IsOutcome input done reader left (No line reason) = IsRefusal input done line reason
-IsOutcome input done reader left ReadFault = IsInterrupted input done reader left
+abbrev pub IsOutcome : List ℕ → List Dossier → Reader → Option (List ℕ) → Checked → Outcome → Type 0
+IsOutcome input done reader left checker (Yes verdict) = (d : Dossier) → checker.at ≡ Ended d → IsBetween input (done ++ d ∷ []) reader left checker.lines
+IsOutcome input done reader left checker End = IsSimpleInput input done
+IsOutcome input done reader left checker (No line reason) = IsRefusal input done line reason
+IsOutcome input done reader left checker ReadFault = IsInterrupted input done reader left
 
--- after a dossier the reader can go on, and has handed out more
-abbrev pub OpensNext : Reader → Reader → Outcome → Type 0
-OpensNext old new (Yes draft count) = IsOpen new count × (old.handed < new.handed)
-OpensNext old new End = Unit {0}
-OpensNext old new (No line reason) = Unit {0}
-OpensNext old new ReadFault = Unit {0}
+-- after a dossier, of which a true verdict is told, the reader and the checker can go on, and more was handed out; after
+-- nothing else
+abbrev pub OpensNext : Reader → Reader → Checked → Outcome → Type 0
+OpensNext old new checker (Yes verdict) = IsTrueVerdict checker.at verdict × IsOpen new checker × (old.handed < new.handed)
+OpensNext old new checker End = Unit {0}
+OpensNext old new checker (No line reason) = Unit {0}
+OpensNext old new checker ReadFault = Unit {0}

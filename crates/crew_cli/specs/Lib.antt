@@ -1,6 +1,3 @@
-pub mod Numbers
-pub mod Due
-pub mod Rows
 pub mod Input
 pub mod Refused
 pub mod Rounds

@@ -1,16 +1,16 @@
 -- what the program writes for what it reads
 use Rattle.std.specs.Prelude.{◌≡◌, ◌≤◌, ◌++◌, ℕ, Bool, true, false, List, [], ◌∷◌, length, take, Option, None, Some, IfSome, All, codes}
 use Rattle.std.specs.List.{flat_map}
-use Rattle.crew_terms.specs.Plan.{Plan, IsLegal, unassigned_count}
 use Rattle.crew_io.specs.Io.{Appended}
 use Rattle.crew_io.specs.Lines.{IsPartial}
 use Rattle.dossier_terms.specs.declared.Reason.{Reason}
-use Rattle.dossier_terms.specs.Dossier.{Dossier, IsGood}
+use Rattle.dossier_terms.specs.Dossier.{Dossier}
 use Rattle.dossier_terms.specs.Lines.{text_of}
 use Rattle.dossier_terms.specs.Texts.{yes_line, no_line}
 use Rattle.dossier_terms.specs.Reading.{Reading, Form}
 use Rattle.dossier_terms.specs.Today.{IsSimpleInput}
 use Rattle.day_terms.specs.Rounds.{Round}
+use Rattle.cert_checker.specs.Checked.{IsTrueYes}
 use Rattle.crew_cli.specs.Input.{IsRefusal, HasRead, room_after}
 use Rattle.crew_cli.specs.Rounds.{DAY, ComesTo, SaysRounds, IsRefusedOutput, SaysOutputPart, SaysFirstRounds, SaysNothingRead}
 use Rattle.crew_cli.specs.declared.run.Command.{Command}
@@ -22,13 +22,6 @@ use Rattle.crew_cli.specs.declared.status.Status.TheVariants.{Done, No, Words, R
 -- tells that
 abbrev pub OfBytes : Option (List ℕ) → Option (List ℕ) → Option (List ℕ) → (List ℕ → List ℕ → Type 0) → Type 0
 OfBytes left got later Fact = IfSome left (λ input. (written : List ℕ) × Appended got later written × Fact input written)
-
--- a good dossier is what it says: its plan is legal, and every legal plan of its instance leaves at least its bound
--- unassigned
-pub record IsTrueYes (d : Dossier) : Type 0 where
-  pub good : IsGood d
-  pub legal : IsLegal d.instance d.plan
-  pub bound : (p : Plan) → IsLegal d.instance p → d.bound ≤ unassigned_count p
 
 -- the input is accepted as these dossiers, whose yes lines were written
 pub record SaysYes (input written : List ℕ) : Type 0 where

@@ -8,12 +8,11 @@ use crate::input::{INPUT, Outcome, next_dossier};
 use crate::laws::refused_is_not_accepted;
 use crate::status::Status;
 use crate::texts::{put_no, put_yes};
+use cert_checker::Checker;
 use crew_io::lines::LineReader;
 use crew_io::sink::{Sink, WriteFault};
 use crew_io::source::Source;
-use dossier_laws::good_bounds;
 use dossier_terms::Reason;
-use field_table::Cuts;
 use std::alloc::{AllocError, Global};
 
 /// Reads one dossier after another, and writes the yes line of each, or the no line of the first line that
@@ -38,17 +37,14 @@ pub(crate) fn check<S: Source, K: Sink>(
     ensures steady_sink { K.steady out.old → K.steady out.new × IfOk result (λ status. status ≡ Status.WriteFault → K.full out.new) }
 {
     let mut reader = LineReader::open(alloc, INPUT)?;
-    let mut cuts = Cuts::new(alloc)?;
-    let mut from = 0;
+    let mut checker = Checker::open(alloc)?;
     refused_is_not_accepted();
-    good_bounds();
     'dossiers: loop {
-        match next_dossier(alloc, &mut reader, &mut cuts, src, from)? {
-            Outcome::Yes { draft, lines } => {
-                if let Err(WriteFault) = put_yes(out, &draft) {
+        match next_dossier(&mut reader, &mut checker, src)? {
+            Outcome::Yes(verdict) => {
+                if let Err(WriteFault) = put_yes(out, verdict) {
                     return Ok(Status::WriteFault);
                 }
-                from = lines;
             }
             Outcome::End => return Ok(Status::Done),
             Outcome::No { line, reason } => return Ok(refuse(out, line, reason)),

@@ -1,26 +1,25 @@
 // An input, dossier by dossier and line by line.
-ghost use Rattle.std.specs.Prelude.{◌≡◌, ◌≢◌, ◌≤◌, ◌<◌, ◌↔◌, ℕ, List, IfOk, IsTrue};
+ghost use Rattle.std.specs.Prelude.{◌≡◌, ◌≢◌, ◌≤◌, ℕ, List, IfOk};
 ghost use Rattle.crew_io.specs.Io.{Rose};
 ghost use Rattle.dossier_terms.specs.Dossier.{Dossier};
-ghost use Rattle.crew_cli.specs.Input.{IsBetween, IsOpen, IsOutcome, OpensNext, outcome_at_stop_of};
+ghost use Rattle.cert_checker.specs.Checked.{IsOpen as IsDue};
+ghost use Rattle.crew_cli.specs.Input.{IsBetween, IsOpen, IsOutcome, IsOutcomeAtStop, OpensNext, told_of};
 
-use crate::checker::judge;
-use crate::due::{Draft, Due, Step};
 use crate::laws::whole_is_good;
+use cert_checker::{Checker, Said, Stop, Verdict};
 use crew_io::lines::{LineReader, Progress};
 use crew_io::source::Source;
 use dossier_terms::Reason;
-use field_table::Cuts;
-use std::alloc::{AllocError, Global};
+use std::alloc::AllocError;
 
 /// The most bytes that an input may have.
 pub const INPUT: u64 = 1 << 62;
 
 /// What comes next in an input.
-#[derive(Drop)]
+#[derive(Clone, Copy, Debug, PartialEq, Eq)]
 pub enum Outcome {
-    /// A good dossier; so many lines of the input are read now.
-    Yes { draft: Draft, lines: u64 },
+    /// A good dossier, which says this.
+    Yes(Verdict),
     /// The input has ended behind a dossier.
     End,
     /// The first line that is refused, from 1, and why.
@@ -29,61 +28,59 @@ pub enum Outcome {
     ReadFault,
 }
 
-/// Whether a dossier was whole just before, where the dossier that is read begins behind the first `from` lines
-/// of the input, and `line` lines are read.
-fn is_between(line: u64, from: u64) -> bool
-    ensures { IsTrue result ↔ ((line ≡ from) × (0 < from)) }
+/// Why no line comes, as the checker is told it; None where a line comes, or where a read failed.
+fn stop_of(progress: Progress) -> Option<Stop>
+    ensures { result ≡ told_of progress }
 {
-    line == from && from > 0
+    match progress {
+        Progress::End { partial } => Some(Stop::End { partial }),
+        Progress::TooLong => Some(Stop::TooLong),
+        Progress::TooMuch => Some(Stop::TooMuch),
+        Progress::Line | Progress::ReadFault => None,
+    }
 }
 
-/// The outcome where no line comes whole; `is_between` says that a dossier was whole just before.
-fn outcome_at_stop(stop: Progress, is_between: bool, line: u64) -> Outcome
-    ensures { result ≡ outcome_at_stop_of stop is_between line }
+/// The outcome where no line comes whole.
+fn outcome_at_stop(checker: &mut Checker, progress: Progress) -> Outcome
+    requires { IsDue checker.old.at }
+    ensures { IsOutcomeAtStop checker.old progress result }
 {
-    let reason = match stop {
-        Progress::End { partial: 0 } if is_between => return Outcome::End,
-        Progress::End { .. } => Reason::End,
-        Progress::TooLong => Reason::TooLong,
-        Progress::TooMuch => Reason::TooMuch,
-        Progress::ReadFault | Progress::Line => return Outcome::ReadFault,
+    let Some(why) = stop_of(progress) else {
+        return Outcome::ReadFault;
     };
-    Outcome::No { line, reason }
+    match checker.stopped(why) {
+        Some(Said::No { line, reason }) => Outcome::No { line, reason },
+        Some(_) => unreachable!(),
+        None => Outcome::End,
+    }
 }
 
-/// Reads the next dossier to its end, behind the first `from` lines of the input.
+/// Reads the next dossier to its end.
 pub fn next_dossier<S: Source>(
-    alloc: Global,
     reader: &mut LineReader,
-    cuts: &mut Cuts,
+    checker: &mut Checker,
     src: &mut S,
-    from: u64,
 ) -> Result<Outcome, AllocError>
-    requires { IsOpen reader.old from }
-    ensures outcome { IfOk result (λ outcome. (input : List ℕ) (done : List Dossier) → IsBetween input done reader.old (S.left src.old) from
-        → IsOutcome input done reader.new (S.left src.new) outcome) }
-    ensures next { IfOk result (OpensNext reader.old reader.new) }
+    requires { IsOpen reader.old checker.old }
+    ensures outcome { IfOk result (λ outcome. (input : List ℕ) (done : List Dossier) → IsBetween input done reader.old (S.left src.old) checker.old.lines
+        → IsOutcome input done reader.new (S.left src.new) checker.new outcome) }
+    ensures next { IfOk result (OpensNext reader.old reader.new checker.new) }
     ensures fault { IfOk result (λ outcome. outcome ≡ Outcome.ReadFault → Rose (S.faults src.old) (S.faults src.new)) }
     ensures later { S.faults src.old ≤ S.faults src.new }
     ensures steady { S.steady src.old → S.steady src.new × IfOk result (λ outcome. outcome ≢ Outcome.ReadFault) }
 {
-    let mut due = Due::Form;
-    let mut line = from;
     whole_is_good();
     'lines: loop {
         let progress = reader.advance(src);
         let Progress::Line = progress else {
-            drop(due);
-            let outcome = outcome_at_stop(progress, is_between(line, from), line + 1);
+            let outcome = outcome_at_stop(checker, progress);
             return Ok(outcome);
         };
-        line += 1;
-        let words = cuts.split(reader.line());
-        let step = judge(alloc, due, words)?;
-        match step {
-            Step::More(next) => due = next,
-            Step::Whole(draft) => return Ok(Outcome::Yes { draft, lines: line }),
-            Step::No(reason) => return Ok(Outcome::No { line, reason }),
+        let said = checker.line(reader.line())?;
+        match said {
+            Said::More => {}
+            Said::Whole(verdict) => return Ok(Outcome::Yes(verdict)),
+            Said::No { line, reason } => return Ok(Outcome::No { line, reason }),
         }
     }
 }

@@ -4,18 +4,13 @@
 pub mod apply;
 #[cfg(test)]
 mod apply_tests;
-pub mod body;
 mod check;
-pub mod checker;
-pub mod due;
 #[cfg(test)]
 mod fault_tests;
-pub mod head;
 pub mod input;
 pub mod laws;
 #[cfg(test)]
 mod line_tests;
-pub mod numbers;
 pub mod refused;
 pub mod run;
 pub mod status;

@@ -4,19 +4,19 @@ ghost use Rattle.std.specs.Fmt.{decimal};
 ghost use Rattle.crew_terms.specs.Words.{line_text};
 ghost use Rattle.crew_io.specs.Io.{Rose, Appended, AppendedPart};
 ghost use Rattle.dossier_terms.specs.Texts.{yes_line, no_line};
-ghost use Rattle.crew_cli.specs.Due.{dossier_of};
+ghost use Rattle.dossier_terms.specs.Dossier.{Dossier};
+ghost use Rattle.cert_checker.specs.Checked.{verdict_of};
 
-use crate::due::Draft;
+use cert_checker::Verdict;
 use cert_format::{Part, put_line};
 use crew_io::sink::{Sink, WriteFault};
 use crew_terms::PlanVerdict;
 use dossier_terms::Reason;
-use plan_check::unassigned;
 
-/// Writes the yes line of a dossier whose tree is one bare leaf. A fault leaves a front of it.
-pub fn put_yes<K: Sink>(out: &mut K, draft: &Draft) -> Result<(), WriteFault>
-    ensures all { OnOk result (Appended (K.got out.old) (K.got out.new) (yes_line (dossier_of draft.now))) }
-    ensures part { OnErr result (AppendedPart (K.got out.old) (K.got out.new) (yes_line (dossier_of draft.now))) }
+/// Writes the yes line of a dossier that says this. A fault leaves a front of it.
+pub fn put_yes<K: Sink>(out: &mut K, verdict: Verdict) -> Result<(), WriteFault>
+    ensures all { OnOk result ((d : Dossier) → verdict ≡ verdict_of d → Appended (K.got out.old) (K.got out.new) (yes_line d)) }
+    ensures part { OnErr result ((d : Dossier) → verdict ≡ verdict_of d → AppendedPart (K.got out.old) (K.got out.new) (yes_line d)) }
     ensures later { K.faults out.old ≤ K.faults out.new }
     ensures cause { IsErr result → Rose (K.faults out.old) (K.faults out.new) }
     ensures steady { K.steady out.old → K.steady out.new × (IsErr result → K.full out.new) }
@@ -24,15 +24,15 @@ pub fn put_yes<K: Sink>(out: &mut K, draft: &Draft) -> Result<(), WriteFault>
     let parts = [
         Part::Word(b"yes"),
         Part::Word(b"unassigned"),
-        Part::Number(unassigned(&draft.plan) as u64),
+        Part::Number(verdict.unassigned as u64),
         Part::Word(b"bound"),
-        Part::Number(draft.bound as u64),
+        Part::Number(verdict.bound as u64),
         Part::Word(b"splits"),
-        Part::Number(0),
+        Part::Number(verdict.splits as u64),
         Part::Word(b"closed"),
-        Part::Number(0),
+        Part::Number(verdict.closed as u64),
         Part::Word(b"open"),
-        Part::Number(1),
+        Part::Number(verdict.left_open as u64),
     ];
     put_line(out, &parts)
 }
@@ -51,7 +51,7 @@ fn put_word<K: Sink>(out: &mut K, line: u64, reason: &[u8]) -> Result<(), WriteF
     )
 }
 
-/// The number of a team or a task as a part of a line.
+/// A number as a part of a line.
 fn number(n: u32) -> Part<'static>
     ensures { result ≡ Part.Number n }
 {

@@ -5,8 +5,8 @@ use Rattle.crew_cli.proofs.check.check.Given as goal
 
 abbrev pub invariant-dossiers : goal.invariant-dossiers
 invariant-dossiers g l = record {
-  going : IsOpen l.reader l.from;
-  so_far : HasSaidOf (g.S.Source.left l.fn.src) (g.K.Sink.got l.fn.out) l.reader (g.S.Source.left l.src) (g.K.Sink.got l.out) l.from;
+  going : IsOpen l.reader l.checker;
+  so_far : HasSaidOf (g.S.Source.left l.fn.src) (g.K.Sink.got l.fn.out) l.reader (g.S.Source.left l.src) (g.K.Sink.got l.out) l.checker.lines;
   source_later : g.S.Source.faults l.fn.src ≤ g.S.Source.faults l.src;
   sink_later : g.K.Sink.faults l.fn.out ≤ g.K.Sink.faults l.out;
   steady_source : g.S.Source.steady l.fn.src → g.S.Source.steady l.src;

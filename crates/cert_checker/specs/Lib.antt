@@ -1,0 +1,5 @@
+pub mod Numbers
+pub mod Due
+pub mod Rows
+pub mod Checked
+pub mod Kept

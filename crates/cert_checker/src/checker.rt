@@ -1,0 +1,258 @@
+// The checker: what it has read, and what it says of one more line.
+ghost use Rattle.std.specs.Prelude.{◌≡◌, ◌≤◌, ◌<◌, ◌+◌, ◌^◌, ◌↔◌, ℕ, Some, None, Ok, IfOk, OnErr, IsErr, IsTrue, IfSome};
+ghost use Rattle.crew_terms.specs.Words.{IsLine, words_of};
+ghost use Rattle.dossier_terms.specs.declared.Reason.{Reason};
+ghost use Rattle.dossier_terms.specs.Dossier.{Dossier};
+ghost use Rattle.dossier_terms.specs.Reading.{Reading};
+ghost use Rattle.cert_checker.specs.Checked.{Ended, IsEnded, IsJudged, IsOpen, IsTrueVerdict, IsTrueYes, Refused, Spent, due_at, fresh_checker, refused_at, said_of, stop_reason_of, verdict_of};
+ghost use Rattle.cert_checker.specs.Due.{Holds, answer_of, dossier_of, reading_of};
+ghost use Rattle.cert_checker.specs.Kept.{IsReached, state_in};
+
+use crate::due::{Draft, Due, Step};
+use crate::judge::judge;
+use crate::laws::{one_answer, reached_goes_on, whole_is_true};
+use crew_instance::Instance;
+use dossier_terms::Reason;
+use field_table::Cuts;
+use plan_check::{Plan, unassigned};
+use std::alloc::{AllocError, Global};
+use std::marker::Model;
+use std::mem;
+
+/// What a whole dossier says: how many tasks its plan leaves unassigned, its bound, and the numbers of splits, of
+/// closed leaves and of other leaves in its tree.
+#[derive(Clone, Copy, Debug, PartialEq, Eq)]
+pub struct Verdict {
+    pub unassigned: u32,
+    pub bound: u32,
+    pub splits: u32,
+    pub closed: u32,
+    pub left_open: u32,
+}
+
+/// What the checker says of a line.
+#[derive(Clone, Copy, Debug, PartialEq, Eq)]
+pub enum Said {
+    /// It breaks no rule, and one more line is due.
+    More,
+    /// It ends a good dossier, which says this.
+    Whole(Verdict),
+    /// The line of this number, from 1, breaks a rule, or does not come whole.
+    No { line: u64, reason: Reason },
+}
+
+/// Why no line comes any more.
+#[derive(Clone, Copy, Debug, PartialEq, Eq)]
+pub enum Stop {
+    /// The input has ended, after this many bytes without an LF.
+    End { partial: usize },
+    /// The next line is longer than a line may be.
+    TooLong,
+    /// The input is longer than it may be.
+    TooMuch,
+}
+
+// Where the checker stands.
+#[derive(Drop)]
+enum State {
+    Due(Due),
+    Whole(Draft),
+    Refused { line: u64, reason: Reason },
+    Spent,
+}
+
+/// Reads dossiers, one line after another.
+#[derive(Drop)]
+pub struct Checker {
+    alloc: Global,
+    cuts: Cuts,
+    lines: u64,
+    state: State,
+}
+
+impl Model for Checker {
+    ghost use Rattle.std.specs.Coded.{codes};
+    ghost use Rattle.dossier_terms.specs.Code.{written_code};
+    ghost use Rattle.cert_checker.specs.Checked.{Checked};
+
+    ghost Value = { Checked };
+
+    ghost coded = { Prim.hlevel (codes, written_code) };
+
+    ghost use Rattle.cert_checker.specs.Kept.{checked, IsKept};
+
+    ghost view = { checked };
+
+    ghost invariant = { IsKept };
+}
+
+/// What a whole dossier says, whose tree is one bare leaf.
+fn whole_verdict(draft: &Draft) -> Verdict
+    ensures { result ≡ verdict_of (dossier_of draft.now) }
+{
+    Verdict {
+        unassigned: unassigned(&draft.plan),
+        bound: draft.bound,
+        splits: 0,
+        closed: 0,
+        left_open: 1,
+    }
+}
+
+/// What is said of the line of this number after a step.
+fn said_after(step: &Step, number: u64) -> Said
+    ensures { result ≡ said_of number (answer_of step.now) }
+{
+    match step {
+        Step::More(_) => Said::More,
+        Step::Whole(draft) => Said::Whole(whole_verdict(draft)),
+        Step::No(reason) => Said::No {
+            line: number,
+            reason: *reason,
+        },
+    }
+}
+
+/// Where the checker stands after a step at the line of this number.
+fn state_after(step: Step, number: u64) -> State
+    ensures { result ≡ state_in number step }
+{
+    match step {
+        Step::More(due) => State::Due(due),
+        Step::Whole(draft) => State::Whole(draft),
+        Step::No(reason) => State::Refused {
+            line: number,
+            reason,
+        },
+    }
+}
+
+/// The reason that tells why no line comes.
+fn stop_reason(why: Stop) -> Reason
+    ensures { result ≡ stop_reason_of why }
+{
+    match why {
+        Stop::End { .. } => Reason::End,
+        Stop::TooLong => Reason::TooLong,
+        Stop::TooMuch => Reason::TooMuch,
+    }
+}
+
+impl Checker {
+    /// A checker that has read nothing yet.
+    pub fn open(alloc: Global) -> Result<Checker, AllocError>
+        ensures { IfOk result (λ c. c ≡ fresh_checker) }
+    {
+        let cuts = Cuts::new(alloc)?;
+        Ok(Checker {
+            alloc,
+            cuts,
+            lines: 0,
+            state: State::Due(Due::Form),
+        })
+    }
+
+    /// How many lines are judged so far; those after a line that is refused are not.
+    pub fn lines(&self) -> u64
+        ensures count { result ≡ self.now.lines }
+        ensures few { result ≤ 2 ^ 62 }
+    {
+        self.lines
+    }
+
+    /// Judges the line that is due, which was taken out of the state.
+    fn judge_line(&mut self, due: Due, line: &[u8]) -> Result<Said, AllocError>
+        requires taken { self.old.at ≡ Spent }
+        requires holds { Holds due }
+        requires reached { IsReached (reading_of due) }
+        requires plain { IsLine line.now }
+        requires few { self.old.lines < 2 ^ 62 }
+        ensures judged { IfOk result (λ said. IsJudged self.old.lines (reading_of due) (words_of line.now) said self.new) }
+        ensures whole { IfOk result (λ said. (verdict : Verdict) → said ≡ Said.Whole verdict → IsTrueVerdict self.new.at verdict) }
+        ensures memory { OnErr result (self.new.at ≡ Spent) }
+    {
+        one_answer();
+        reached_goes_on();
+        whole_is_true();
+        self.lines += 1;
+        let words = self.cuts.split(line);
+        let step = judge(self.alloc, due, words)?;
+        let said = said_after(&step, self.lines);
+        self.state = state_after(step, self.lines);
+        Ok(said)
+    }
+
+    /// Judges one more line, without its LF. After a line that is refused every later call gives that answer again,
+    /// and after want of memory every later call does that.
+    pub fn line(&mut self, line: &[u8]) -> Result<Said, AllocError>
+        requires plain { IsLine line.now }
+        requires few { self.old.lines < 2 ^ 62 }
+
+        // The line that was due is judged by the table of lines.
+        ensures judged { (due : Reading) → due_at self.old.at ≡ Some due → IfOk result (λ said. IsJudged self.old.lines due (words_of line.now) said self.new) }
+
+        // What a whole dossier says is so.
+        ensures whole { IfOk result (λ said. (verdict : Verdict) → said ≡ Said.Whole verdict → IsTrueVerdict self.new.at verdict) }
+
+        ensures refused { (number : ℕ) (reason : Reason) → self.old.at ≡ Refused number reason → (result ≡ Ok (Said.No number reason)) × (self.new ≡ self.old) }
+        ensures spent { self.old.at ≡ Spent → IsErr result }
+        ensures memory { OnErr result (self.new.at ≡ Spent) }
+    {
+        match mem::replace(&mut self.state, State::Spent) {
+            State::Due(due) => self.judge_line(due, line),
+            State::Whole(_) => self.judge_line(Due::Form, line),
+            State::Refused { line, reason } => {
+                self.state = State::Refused { line, reason };
+                Ok(Said::No { line, reason })
+            }
+            State::Spent => Err(AllocError),
+        }
+    }
+
+    /// Whether a dossier is whole, and no line was read after it.
+    fn is_between(&self) -> bool
+        ensures { IsTrue result ↔ IsEnded self.now.at }
+    {
+        matches!(self.state, State::Whole(_))
+    }
+
+    /// Is told that no line comes any more. None exactly where the input has ended behind a whole dossier; else the
+    /// line that is due is refused.
+    pub fn stopped(&mut self, why: Stop) -> Option<Said>
+        requires { IsOpen self.old.at }
+        ensures over { (result ≡ None) ↔ (IsEnded self.old.at × (why ≡ Stop.End 0)) }
+        ensures same { result ≡ None → self.new ≡ self.old }
+        ensures refused { IfSome result (λ said. (said ≡ Said.No (self.old.lines + 1) (stop_reason_of why)) × (self.new ≡ refused_at self.old (stop_reason_of why))) }
+    {
+        if why == (Stop::End { partial: 0 }) && self.is_between() {
+            return None;
+        }
+        let line = self.lines + 1;
+        let reason = stop_reason(why);
+        self.state = State::Refused { line, reason };
+        Some(Said::No { line, reason })
+    }
+
+    /// The instance of the dossier that is whole.
+    pub fn instance(&self) -> &Instance
+        requires { IsEnded self.now.at }
+        ensures { (d : Dossier) → self.now.at ≡ Ended d → result.now ≡ d.instance }
+    {
+        match &self.state {
+            State::Whole(draft) => &draft.base.instance,
+            _ => unreachable!(),
+        }
+    }
+
+    /// The plan of the dossier that is whole.
+    pub fn plan(&self) -> &Plan
+        requires { IsEnded self.now.at }
+        ensures plan { (d : Dossier) → self.now.at ≡ Ended d → result.now ≡ d.plan }
+        ensures true_yes { (d : Dossier) → self.now.at ≡ Ended d → IsTrueYes d }
+    {
+        match &self.state {
+            State::Whole(draft) => &draft.plan,
+            _ => unreachable!(),
+        }
+    }
+}
