@@ -8,8 +8,6 @@ mod head;
 mod judge;
 mod laws;
 mod numbers;
-#[cfg(test)]
-mod tests;
 
 pub use checker::{Checker, Said, Stop, Verdict};
 pub use crew_instance::Instance;
