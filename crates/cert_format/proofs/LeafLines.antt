@@ -1,5 +1,5 @@
 -- the lines of a leaf and of a route, from the numbers that are read
-use Rattle.std.proofs.Common.{◌≡◌, ◌≤◌, ◌<◌, ◌+◌, ◌*◌, ◌^◌, ◌++◌, [], ◌∷◌, ℕ, suc, ℤ, pos, negsuc, ◌≤ℤ◌, ◌+ℤ◌, List, length, map, take, drop, get_or, ap, sym, refl, ◌∙◌, subst, arith}
+use Rattle.std.proofs.Common.{◌≡◌, ◌<◌, ◌+◌, ◌*◌, ◌^◌, [], ◌∷◌, ℕ, suc, ℤ, pos, negsuc, ◌≤ℤ◌, ◌+ℤ◌, List, length, map, take, drop, get_or, ap, sym, refl, ◌∙◌, subst, arith}
 use Rattle.std.proofs.lemmas.Int.{ints}
 use Rattle.std.proofs.lemmas.List.{length-map}
 use Rattle.std.specs.Prelude.{codes, FitsSigned}
@@ -9,10 +9,10 @@ use Rattle.std.specs.Fmt.{decimal, signed_decimal}
 use Rattle.crew_terms.specs.Words.{Words}
 use Rattle.crew_terms.specs.Leaf.{IsPrice}
 use Rattle.crew_terms.specs.declared.Visit.{Visit}
-use Rattle.dossier_terms.specs.Dossier.{Route, IsWorthNumber, IsSigned}
+use Rattle.dossier_terms.specs.Dossier.{IsWorthNumber, IsSigned}
 use Rattle.dossier_terms.specs.Rules.{IsShape, Begins}
 use Rattle.dossier_terms.specs.Table.{AreNumbers, IsPairs}
-use Rattle.dossier_terms.specs.Lines.{price_line, extra_line, phi_line, worth_line, route_line, visit_words}
+use Rattle.dossier_terms.specs.Lines.{route_line, visit_words}
 use Rattle.field_table.specs.Fields.{AreValues}
 use Rattle.field_table.specs.declared.fields.Field.{Field}
 use Rattle.field_table.specs.declared.fields.Kind.TheVariants.{Number}

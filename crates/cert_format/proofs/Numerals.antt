@@ -1,10 +1,6 @@
 -- words and the numbers that they spell
-use Rattle.std.proofs.Common.{◌≡◌, ◌≢◌, ◌≤◌, [], ◌∷◌, ℕ, zero, suc, List, get_or, sym, refl, ◌∙◌, arith, ℤ, pos, negsuc, ◌<ℤ◌, ◌≤ℤ◌, Some}
-use Rattle.std.specs.Prelude.{FitsSigned, slice_get}
-use Rattle.std.specs.Int.{w64}
-use Rattle.std.specs.Fmt.{decimal, signed_decimal}
-use Rattle.std.proofs.lemmas.Fmt.{signed_decimal_injective}
-use Rattle.std.proofs.lemmas.Int.{ints}
+use Rattle.std.proofs.Common.{◌≡◌, [], ◌∷◌, ℕ, zero, suc, List, get_or, Some}
+use Rattle.std.specs.Prelude.{slice_get}
 use Rattle.crew_terms.specs.Words.{Words}
 
 pub word_is : (ws : Words) (n : ℕ) (w : List ℕ) → slice_get ws n ≡ Some w → get_or ws n [] ≡ w
