@@ -11,4 +11,4 @@ even first ws n true count some begins h = let none = eqb-true (n % 2) 0 h in (b
 even first ws n false count some begins h = λ (b, pairs). let all = pairs.1 in let same : true ≡ false = sym (eq-eqb (n % 2) 0 (omega arith)) ∙ h in cc
 
 pub returns : goal.returns
-returns c = even c.args.first.now c.args.words.now c.count-count.result _ c.count-count.ensures c.if-count-lt4.false c.if-not-begins.ensures refl
+returns c = even c.args.first.now c.args.words.now c.count-count.result _ c.count-count.ensures (omega arith) c.if-not-begins.ensures refl
