@@ -7,10 +7,8 @@ use Rattle.std.proofs.lemmas.Int.{to_z-of_z}
 use Rattle.std.proofs.lemmas.List.{take_more, take_all}
 use Rattle.std.proofs.lemmas.List.Elements.{All-from_recursion}
 use Rattle.crew_terms.specs.declared.Visit.{Visit}
+use Rattle.route_pool.specs.KeyLaws.{visit_at}
 use Rattle.route_pool.specs.Numbers.{AreNumbersOf}
-
-abbrev pub visit_at : ℕ → ℕ → Visit
-visit_at task start = record { task = task; start = start }
 
 abbrev none : Visit
 none = record { task = 0; start = 0 }

@@ -17,7 +17,7 @@ same_route_equiv = and_equiv (on_equiv (λ (r : Route). r.team) nat_eq_equiv) (o
 pub same_route_per : IsPartialEquivalence same_route
 same_route_per = partial_equiv_from_equiv same_route_equiv
 
-abbrev visit_at : ℕ → ℕ → Visit
+abbrev pub visit_at : ℕ → ℕ → Visit
 visit_at task start = record { task = task; start = start }
 
 same_visit_decides : (a b : Visit) → Decides (same_visit a b) (a ≡ b)

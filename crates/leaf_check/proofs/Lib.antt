@@ -1,0 +1,7 @@
+pub mod Listed
+pub mod Priced
+pub mod Tabled
+pub mod Minutes
+pub mod Read
+pub mod Lines
+pub mod Told

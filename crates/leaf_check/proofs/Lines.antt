@@ -1,0 +1,70 @@
+-- the rows of the lines of a leaf, behind what is read of a line
+use Rattle.std.proofs.Common.{◌≡◌, ℕ, List, [], ◌∷◌, ◌++◌, length, map, refl, ◌∙◌}
+use Rattle.std.specs.Prelude.{ℤ}
+use Rattle.std.specs.Fmt.{signed_decimal}
+use Rattle.std.proofs.lemmas.List.{length-map}
+use Rattle.crew_terms.specs.Words.{Words}
+use Rattle.crew_terms.specs.Limits.{tasks_in}
+use Rattle.crew_terms.specs.Leaf.{IsPrice}
+use Rattle.dossier_terms.specs.Dossier.{Potentials, IsWorthNumber, IsSigned, minute_count, open_tasks, priced, required_teams}
+use Rattle.dossier_terms.specs.Lines.{price_line, extra_line, worth_line, phi_line}
+use Rattle.dossier_terms.specs.Reading.{Said, Place, No as Refuses, limits_of}
+use Rattle.dossier_terms.specs.Rules.{Holds, Fails, Spelled, Unspelled}
+use Rattle.dossier_terms.specs.Table.{AreNumbers, after_extra, after_phi, price_row, extra_row, worth_row, phi_row}
+use Rattle.cert_format.specs.Lines.{IsFaultOf}
+use Rattle.cert_format.specs.declared.kinds.Expect.TheVariants as expected
+use Rattle.cert_format.specs.declared.kinds.LineKind.TheVariants as kinds
+use Rattle.cert_format.specs.declared.kinds.LineFault.{LineFault}
+use Rattle.cert_format.specs.declared.kinds.LineFault.TheVariants.{Shape, Number, Name}
+use Rattle.leaf_check.specs.Reader.{reason_for}
+
+-- ---- faults
+
+pub price_fault : (a : Place) (ws : Words) (fault : LineFault) → IsFaultOf (expected.Price (tasks_in (limits_of a))) ws fault → price_row a ws (Refuses (reason_for fault))
+price_fault a ws Shape h = Fails h refl
+price_fault a ws Number h = Holds h.0 (Unspelled (λ vs fits is. h.2 (kinds.Price vs) (fits, is)) refl)
+price_fault a ws Name h = absurd (h.1 tt)
+
+pub extra_fault : (a : Place) (prices : List ℤ) (rows : List (List ℤ)) (j : ℕ) (js : List ℕ) (ws : Words) (fault : LineFault)
+    → IsFaultOf (expected.Extra j (length (required_teams (limits_of a) j))) ws fault → extra_row a prices rows j js ws (Refuses (reason_for fault))
+extra_fault a prices rows j js ws Shape h = Fails h refl
+extra_fault a prices rows j js ws Number h = Holds h.0 (Unspelled (λ vs fits is. h.2 (kinds.Extra j vs) (refl, fits, is)) refl)
+extra_fault a prices rows j js ws Name h = absurd (h.1 tt)
+
+pub worth_fault : (a : Place) (prices : List ℤ) (extras : List (List ℤ)) (tables : List Potentials) (left : ℕ) (ws : Words) (fault : LineFault)
+    → IsFaultOf expected.Worth ws fault → worth_row a prices extras tables left ws (Refuses (reason_for fault))
+worth_fault a prices extras tables left ws Shape h = Fails h refl
+worth_fault a prices extras tables left ws Number h = Holds h.0 (Unspelled (λ v fits is. h.2 (kinds.Worth v) (fits, is)) refl)
+worth_fault a prices extras tables left ws Name h = absurd (h.1 tt)
+
+pub phi_fault : (a : Place) (prices : List ℤ) (extras : List (List ℤ)) (tables : List Potentials) (left : ℕ) (worth : ℤ) (rows : List (List ℤ)) (j : ℕ) (js : List ℕ) (ws : Words) (fault : LineFault)
+    → IsFaultOf (expected.Phi j (minute_count (limits_of a) (length tables) j)) ws fault → phi_row a prices extras tables left worth rows j js ws (Refuses (reason_for fault))
+phi_fault a prices extras tables left worth rows j js ws Shape h = Fails h refl
+phi_fault a prices extras tables left worth rows j js ws Number h = Holds h.0 (Unspelled (λ vs fits is. h.2 (kinds.Phi j vs) (refl, fits, is)) refl)
+phi_fault a prices extras tables left worth rows j js ws Name h = absurd (h.1 tt)
+
+-- ---- numbers
+
+spelled_length : (vs : List ℤ) (n : ℕ) → length vs ≡ n → length (map signed_decimal vs) ≡ n
+spelled_length vs n e = length-map vs signed_decimal ∙ e
+
+pub price_read : (a : Place) (ws : Words) (vs : List ℤ) (said : Said) → AreNumbers IsPrice (tasks_in (limits_of a)) vs → ws ≡ price_line vs
+    → after_extra a vs [] (priced (limits_of a)) said → price_row a ws said
+price_read a ws vs said fits is others = Holds (map signed_decimal vs, is, spelled_length vs (tasks_in (limits_of a)) fits.count) (Spelled vs fits is others)
+
+pub extra_read : (a : Place) (prices : List ℤ) (rows : List (List ℤ)) (j : ℕ) (js : List ℕ) (ws : Words) (vs : List ℤ) (said : Said)
+    → AreNumbers IsPrice (length (required_teams (limits_of a) j)) vs → ws ≡ extra_line j vs
+    → after_extra a prices (rows ++ vs ∷ []) js said → extra_row a prices rows j js ws said
+extra_read a prices rows j js ws vs said fits is others =
+    Holds (map signed_decimal vs, is, spelled_length vs (length (required_teams (limits_of a) j)) fits.count) (Spelled vs fits is others)
+
+pub worth_read : (a : Place) (prices : List ℤ) (extras : List (List ℤ)) (tables : List Potentials) (left : ℕ) (ws : Words) (v : ℤ) (said : Said)
+    → IsWorthNumber v → ws ≡ worth_line v
+    → after_phi a prices extras tables left v [] (open_tasks (limits_of a) (length tables)) said → worth_row a prices extras tables left ws said
+worth_read a prices extras tables left ws v said fits is others = Holds (signed_decimal v ∷ [], is, refl) (Spelled v fits is others)
+
+pub phi_read : (a : Place) (prices : List ℤ) (extras : List (List ℤ)) (tables : List Potentials) (left : ℕ) (worth : ℤ) (rows : List (List ℤ)) (j : ℕ) (js : List ℕ) (ws : Words) (vs : List ℤ) (said : Said)
+    → AreNumbers IsSigned (minute_count (limits_of a) (length tables) j) vs → ws ≡ phi_line j vs
+    → after_phi a prices extras tables left worth (rows ++ vs ∷ []) js said → phi_row a prices extras tables left worth rows j js ws said
+phi_read a prices extras tables left worth rows j js ws vs said fits is others =
+    Holds (map signed_decimal vs, is, spelled_length vs (minute_count (limits_of a) (length tables) j) fits.count) (Spelled vs fits is others)

@@ -1,0 +1,41 @@
+use Rattle.std.proofs.Common.{◌≡◌, ◌++◌, suc, [], ◌∷◌, length, ap, sym, subst, refl, ◌∙◌, add-one}
+use Rattle.crew_terms.specs.Limits.{has_required, tasks_in}
+use Rattle.crew_terms.specs.Leaf.{IsPrice}
+use Rattle.cert_format.specs.Lines.{IsFaultOf, IsExtraLine}
+use Rattle.cert_format.specs.declared.kinds.Expect.TheVariants as expected
+use Rattle.dossier_terms.specs.Dossier.{required_teams}
+use Rattle.dossier_terms.specs.Reading.{No as Refuses, limits_of}
+use Rattle.dossier_terms.specs.Table.{AreNumbers, after_extra, extra_row}
+use Rattle.leaf_check.specs.Keys.{IsNextKey}
+use Rattle.leaf_check.specs.Reader.{HasRead, TellsNo, priced_leaf}
+use Rattle.leaf_check.specs.declared.reader.LeafReader.{LeafReader}
+use Rattle.leaf_check.proofs.Listed.{left_after}
+use Rattle.leaf_check.proofs.Lines.{extra_fault, extra_read}
+use Rattle.leaf_check.proofs.Read.{more_prices}
+use Rattle.leaf_check.proofs.Told.{tells_rest}
+use Rattle.leaf_check.proofs.reader.LeafReader.extra_line.Goals as goal
+
+pub returns-in-Err-clause-tells : goal.returns-in-Err-clause-tells
+returns-in-Err-clause-tells c = λ a prices rows js g read row.
+    let up : c.required_count-count.result ≡ length (required_teams (limits_of a) c.args.task) = c.required_count-count.ensures ∙ ap (λ m. length (required_teams m c.args.task)) (sym g.limits) in
+    TellsNo c.reason_of.result (subst (λ r. extra_row a prices rows c.args.task js c.args.words (Refuses r)) (sym c.reason_of.ensures)
+    (extra_fault a prices rows c.args.task js c.args.words c.in-Err.fault (subst (λ m. IsFaultOf (expected.Extra c.args.task m) c.args.words c.in-Err.fault) up c.in-Err.ensures))) refl
+
+pub returns-clause-tells : goal.returns-clause-tells
+returns-clause-tells c = λ a prices rows js g read row.
+    let n = c.args.limits.now.limits in
+    let task = c.args.task in
+    let vs = c.in-Extra.prices in
+    let h = subst (IsExtraLine task c.required_count-count.result c.args.words) c.in-Extra.is c.in-Ok.ensures in
+    let up : c.required_count-count.result ≡ length (required_teams (limits_of a) task) = c.required_count-count.ensures ∙ ap (λ m. length (required_teams m task)) (sym g.limits) in
+    let fits : AreNumbers IsPrice (length (required_teams (limits_of a) task)) vs = subst (λ m. AreNumbers IsPrice m vs) up h.1 in
+    let r : LeafReader = record c.args.self.now { prices = c.set_extras.new.prices } in
+    let set = c.set_extras.ensures in
+    let more : HasRead n r (priced_leaf prices (rows ++ vs ∷ [])) = record {
+      prices = more_prices n c.args.self.now.prices c.set_extras.new.prices prices rows task js vs read.prices row set.prices set.others set.given;
+      worths = refl;
+    } in
+    let next : IsNextKey (has_required n) (tasks_in n) (suc task) c.next_priced.result = subst (λ m. IsNextKey (has_required n) (tasks_in n) m c.next_priced.result) (add-one task) c.next_priced.ensures in
+    tells_rest a (after_extra a prices (rows ++ vs ∷ []) js) (extra_row a prices rows task js c.args.words) c.after_extra.result c.after_extra.new.self
+    (λ said others. extra_read a prices rows task js c.args.words vs said fits h.2 others)
+    (c.after_extra.ensures.tells a prices (rows ++ vs ∷ []) js g more (left_after (has_required n) (tasks_in n) rows task js row vs c.next_priced.result next))

@@ -1,0 +1,50 @@
+use Rattle.std.proofs.Common.{◌≡◌, ◌<◌, ℤ, [], length, ap, sym, subst, refl, ◌∙◌, arith, FitsSigned, rules, to_z, of_z, w64, get_or-set_same}
+use Rattle.std.specs.Prelude.{pos}
+use Rattle.std.specs.Vec.{with_item}
+use Rattle.std.proofs.lemmas.Int.{to_z-of_z}
+use Rattle.crew_terms.specs.Limits.{tasks_in}
+use Rattle.cert_format.specs.Lines.{IsWorthLine}
+use Rattle.dossier_terms.specs.Dossier.{Potentials, open_tasks}
+use Rattle.dossier_terms.specs.Reading.{No as Refuses, limits_of}
+use Rattle.dossier_terms.specs.Table.{after_phi, worth_row}
+use Rattle.leaf_check.specs.Keys.{has_minutes}
+use Rattle.leaf_check.specs.Reader.{HasRead, HasPotentials, Tells, TellsNo, below_next}
+use Rattle.leaf_check.specs.declared.reader.LeafReader.{LeafReader}
+use Rattle.leaf_check.proofs.Listed.{left_first}
+use Rattle.leaf_check.proofs.Lines.{worth_fault, worth_read}
+use Rattle.leaf_check.proofs.Minutes.{none_yet}
+use Rattle.leaf_check.proofs.Read.{more_worths}
+use Rattle.leaf_check.proofs.Told.{tells_rest}
+use Rattle.leaf_check.proofs.reader.LeafReader.worth_line.Goals as goal
+
+pub returns-in-Err-clause-tells : goal.returns-in-Err-clause-tells
+returns-in-Err-clause-tells c = λ a leaf left g read count teams.
+    TellsNo c.reason_of.result (subst (λ r. worth_row a leaf.prices leaf.extras leaf.tables left c.args.words (Refuses r)) (sym c.reason_of.ensures)
+    (worth_fault a leaf.prices leaf.extras leaf.tables left c.args.words c.in-Err.fault c.in-Err.ensures)) refl
+
+pub returns-clause-tells : goal.returns-clause-tells
+returns-clause-tells c = λ a leaf left g read count teams.
+    let n = c.args.limits.now.limits in
+    let team = c.args.team in
+    let sigma = c.in-Worth.sigma in
+    let old = c.args.self.now.worths in
+    let h = subst (IsWorthLine c.args.words) c.in-Worth.is c.in-Ok.ensures in
+    let fits : FitsSigned w64 sigma = search rules in
+    let v : ℤ = to_z w64 (of_z w64 sigma) in
+    let is : v ≡ sigma = to_z-of_z w64 sigma fits in
+    let all = c.requires.ready.worths in
+    let known = c.requires.team in
+    let short : team < length old.items = omega arith in
+    let r : LeafReader = record c.args.self.now { worths = with_item old team v } in
+    let table : Potentials = record { worth = sigma; phi = [] } in
+    let kept : HasRead n r leaf = record { prices = read.prices; worths = more_worths leaf old.items team v count read.worths } in
+    let holds : HasPotentials n r team table (below_next n c.next_open.result) = record {
+      worth = get_or-set_same old.items team v (pos 0) short ∙ is;
+      phi = none_yet c.minutes_are_permitted.ensures n team c.next_open.result c.args.self.now.table table c.next_open.ensures;
+    } in
+    tells_rest a (after_phi a leaf.prices leaf.extras leaf.tables left sigma [] (open_tasks (limits_of a) (length leaf.tables)))
+    (worth_row a leaf.prices leaf.extras leaf.tables left c.args.words) c.after_phi.result c.after_phi.new.self
+    (λ said others. worth_read a leaf.prices leaf.extras leaf.tables left c.args.words sigma said h.0 h.1 others)
+    (subst (λ ks. Tells a (after_phi a leaf.prices leaf.extras leaf.tables left sigma [] ks) c.after_phi.result c.after_phi.new.self)
+    (ap (λ m. open_tasks m team) (sym g.limits) ∙ ap (λ k. open_tasks (limits_of a) k) (sym count))
+    (c.after_phi.ensures.tells a leaf left table (open_tasks n team) g kept count teams holds (left_first (has_minutes n team) (tasks_in n) c.next_open.result c.next_open.ensures)))

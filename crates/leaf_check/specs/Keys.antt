@@ -1,0 +1,35 @@
+-- keys of rows: the numbers below a count of which a test holds, in order
+use Rattle.std.specs.Prelude.{◌≡◌, ◌≤◌, ◌<◌, nat_lt, ℕ, suc, ℤ, Bool, true, false, List, [], ◌∷◌, length, filter, drop, Option, None, Some}
+use Rattle.crew_terms.specs.Limits.{Limits}
+use Rattle.dossier_terms.specs.Dossier.{below, first_minute, minute_count}
+
+-- team k may begin the task at some minute
+abbrev pub has_minutes : Limits → ℕ → ℕ → Bool
+has_minutes n k j = nat_lt 0 (minute_count n k j)
+
+-- the first minute at which team k may begin task j, and how many such minutes there are
+pub record AreCounted (n : Limits) (k j first count : ℕ) : Type 0 where
+  pub some : 0 < count
+  pub opens : first ≡ first_minute n k j
+  pub counted : count ≡ minute_count n k j
+
+-- the first key from a number on, of those below a count
+abbrev pub IsNextKey : (ℕ → Bool) → ℕ → ℕ → Option ℕ → Type 0
+IsNextKey test count from None = (i : ℕ) → from ≤ i → i < count → test i ≡ false
+IsNextKey test count from (Some j) = (from ≤ j) × (j < count) × (test j ≡ true) × ((i : ℕ) → from ≤ i → i < j → test i ≡ false)
+
+-- the keys from a number on, of those below a count
+abbrev pub keys_from : (ℕ → Bool) → ℕ → ℕ → List ℕ
+keys_from test count from = filter test (drop from (below count))
+
+-- the row of key j is due: those of the keys before it are read, and these keys come after it
+pub record IsRowDue (test : ℕ → Bool) (count : ℕ) (rows : List (List ℤ)) (j : ℕ) (js : List ℕ) : Type 0 where
+  pub known : j < count
+  pub key : test j ≡ true
+  pub read : length rows ≡ length (filter test (below j))
+  pub later : js ≡ keys_from test count (suc j)
+
+-- these keys are left where this is the next one
+abbrev pub AreLeft : (ℕ → Bool) → ℕ → List (List ℤ) → Option ℕ → List ℕ → Type 0
+AreLeft test count rows None js = js ≡ []
+AreLeft test count rows (Some j) js = (later : List ℕ) × (js ≡ j ∷ later) × IsRowDue test count rows j later

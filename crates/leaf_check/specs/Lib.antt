@@ -1,0 +1,4 @@
+pub mod Keys
+pub mod Prices
+pub mod Rows
+pub mod Reader

@@ -1,0 +1,104 @@
+-- what a reader of a leaf keeps, and what it says of a line
+use Rattle.std.specs.Prelude.{◌≡◌, ◌<◌, ◌+◌, ℕ, suc, ℤ, pos, List, [], length, take, slice_index_or, Option, None, Some}
+use Rattle.crew_terms.specs.Words.{Words}
+use Rattle.crew_terms.specs.Plan.{unassigned_count}
+use Rattle.crew_terms.specs.Limits.{Limits, IsPermittedVisit, has_required, tasks_in, teams_in}
+use Rattle.potentials.specs.Table.{IsTableOf, phi}
+use Rattle.dossier_terms.specs.declared.Reason.{Reason}
+use Rattle.dossier_terms.specs.Dossier.{Leaf, Potentials, minute_count, phi_in, prices_of, worths_of}
+use Rattle.dossier_terms.specs.Reading.{Reading, Said, More as Goes, No as Refuses, Place, Prices, Extras, Worths, Phis, limits_of, leaf_done}
+use Rattle.dossier_terms.specs.Table.{Says}
+use Rattle.dossier_terms.specs.declared.Reason.TheVariants as reasons
+use Rattle.cert_format.specs.declared.kinds.LineFault.{LineFault}
+use Rattle.cert_format.specs.declared.kinds.LineFault.TheVariants as faults
+use Rattle.leaf_check.specs.Keys.{IsRowDue, has_minutes}
+use Rattle.leaf_check.specs.Prices.{ArePricesIn}
+use Rattle.leaf_check.specs.declared.reader.Goal.{Goal}
+use Rattle.leaf_check.specs.declared.reader.LeafDue.{LeafDue}
+use Rattle.leaf_check.specs.declared.reader.LeafDue.TheVariants as due
+use Rattle.leaf_check.specs.declared.reader.LeafReader.{LeafReader}
+use Rattle.leaf_check.specs.declared.reader.LeafStep.{LeafStep}
+use Rattle.leaf_check.specs.declared.reader.LeafStep.TheVariants.{More, Done, No}
+
+-- ---- the room of a reader
+
+-- the task and the team of the line that is due have one
+abbrev pub IsDue : Limits → LeafDue → Type 0
+IsDue n due.Price = Unit {0}
+IsDue n (due.Extra task) = task < tasks_in n
+IsDue n (due.Worth team) = team < teams_in n
+IsDue n (due.Phi team task) = (team < teams_in n) × (task < tasks_in n) × (0 < minute_count n team task)
+
+-- the reader has room for the numbers of a leaf of these limits, and its next line is one of such a leaf
+pub record IsReady (n : Limits) (r : LeafReader) : Type 0 where
+  pub prices : ArePricesIn n r.prices
+  pub table : IsTableOf n.instance r.table
+  pub worths : length r.worths.items ≡ teams_in n
+  pub due : IsDue n r.due
+
+-- ---- what a reader keeps of a leaf
+
+-- the prices and the worths are those of the leaf so far
+pub record HasRead (n : Limits) (r : LeafReader) (leaf : Leaf) : Type 0 where
+  pub prices : r.prices ≡ prices_of n leaf
+  pub worths : take (length leaf.tables) r.worths.items ≡ worths_of leaf
+
+-- the worth of team k is the one of the table, and so are its potentials at the tasks below a number
+pub record HasPotentials (n : Limits) (r : LeafReader) (k : ℕ) (table : Potentials) (below : ℕ) : Type 0 where
+  pub worth : slice_index_or r.worths.items k (pos 0) ≡ table.worth
+  pub phi : (j t : ℕ) → j < below → IsPermittedVisit n k j t → phi r.table j t ≡ phi_in n k table j t
+
+-- the tasks before the next one, or all
+abbrev pub below_next : Limits → Option ℕ → ℕ
+below_next n None = tasks_in n
+below_next n (Some j) = j
+
+-- the leaf with no table yet
+abbrev pub priced_leaf : List ℤ → List (List ℤ) → Leaf
+priced_leaf prices extras = record { prices = prices; extras = extras; tables = [] }
+
+-- the reader stands for a state of the table of lines at a place
+pub data StandsFor (a : Place) (r : LeafReader) (s : Reading) : Type 0 where
+  AtPrices : (line : r.due ≡ due.Price) (is : s ≡ Prices a) → StandsFor a r s
+  AtExtras : (prices : List ℤ) (rows : List (List ℤ)) (j : ℕ) (js : List ℕ)
+      (line : r.due ≡ due.Extra j)
+      (read : HasRead (limits_of a) r (priced_leaf prices rows))
+      (row : IsRowDue (has_required (limits_of a)) (tasks_in (limits_of a)) rows j js)
+      (is : s ≡ Extras a prices rows j js) → StandsFor a r s
+  AtWorths : (leaf : Leaf) (left : ℕ)
+      (line : r.due ≡ due.Worth (length leaf.tables))
+      (read : HasRead (limits_of a) r leaf)
+      (teams : length leaf.tables + suc left ≡ teams_in (limits_of a))
+      (is : s ≡ Worths a leaf.prices leaf.extras leaf.tables left) → StandsFor a r s
+  AtPhis : (leaf : Leaf) (left : ℕ) (table : Potentials) (j : ℕ) (js : List ℕ)
+      (line : r.due ≡ due.Phi (length leaf.tables) j)
+      (read : HasRead (limits_of a) r leaf)
+      (teams : length leaf.tables + suc left ≡ teams_in (limits_of a))
+      (potentials : HasPotentials (limits_of a) r (length leaf.tables) table j)
+      (row : IsRowDue (has_minutes (limits_of a) (length leaf.tables)) (tasks_in (limits_of a)) table.phi j js)
+      (is : s ≡ Phis a leaf.prices leaf.extras leaf.tables left table.worth table.phi j js) → StandsFor a r s
+
+-- ---- what a reader says of a line
+
+-- the reason that tells a fault of a line
+abbrev pub reason_for : LineFault → Reason
+reason_for faults.Shape = reasons.Shape
+reason_for faults.Number = reasons.Number
+reason_for faults.Name = reasons.Name
+
+-- the limits are those of the place, and the leaf has to prove what the place asks for
+pub record IsGoalAt (a : Place) (n : Limits) (goal : Goal) : Type 0 where
+  pub limits : limits_of a ≡ n
+  pub bound : goal.bound ≡ a.draft.bound
+  pub unassigned : goal.unassigned ≡ unassigned_count a.draft.plan
+  pub is_closed : goal.is_closed ≡ a.is_closed
+
+-- the step is what the rules say, and the reader stands for the state that they lead to
+pub data Tells (a : Place) (Rules : Said → Type 0) (step : LeafStep) (new : LeafReader) : Type 0 where
+  TellsMore : (next : Reading) (says : Rules (Goes next)) (stands : StandsFor a new next) (is : step ≡ More) → Tells a Rules step new
+  TellsDone : (leaf : Leaf) (says : Rules (Goes (leaf_done a leaf))) (is : step ≡ Done) → Tells a Rules step new
+  TellsNo : (reason : Reason) (says : Rules (Refuses reason)) (is : step ≡ No reason) → Tells a Rules step new
+
+-- the step is what the table says of the line, at each state that the reader stands for
+abbrev pub IsJudged : Limits → Goal → Words → LeafReader → LeafReader → LeafStep → Type 0
+IsJudged n goal words old new step = (a : Place) (s : Reading) → IsGoalAt a n goal → StandsFor a old s → Tells a (Says s words) step new

@@ -1,0 +1,83 @@
+// The tasks that have a row of numbers in a leaf: which comes next, and at which minutes a team may begin it.
+ghost use Rattle.std.specs.Prelude.{◌≡◌, ◌≤◌, ◌<◌, ◌+◌, length, MatchOption, IfSome};
+ghost use Rattle.crew_terms.specs.Instance.{task_of};
+ghost use Rattle.crew_terms.specs.Limits.{has_required, tasks_in, teams_in};
+ghost use Rattle.dossier_terms.specs.Dossier.{minute_count, required_teams};
+ghost use Rattle.leaf_check.specs.Keys.{AreCounted, IsNextKey, has_minutes};
+
+use dossier_laws::minutes_are_permitted;
+use node_limits::Limits;
+
+/// The first minute at which team `k` may begin task `j`, and how many such minutes there are; None where there is
+/// no such minute.
+pub fn counted_minutes(limits: &Limits<'_>, k: u32, j: u32) -> Option<(u32, u32)>
+    requires team { k < teams_in limits.now.limits }
+    requires task { j < tasks_in limits.now.limits }
+    ensures minutes { MatchOption result (minute_count limits.now.limits k j ≡ 0) (λ m. AreCounted limits.now.limits k j m.0 m.1) }
+    ensures early { IfSome result (λ m. (task_of limits.now.limits.instance j).earliest ≤ m.0) }
+    ensures late { IfSome result (λ m. m.0 + m.1 ≤ (task_of limits.now.limits.instance j).latest + 1) }
+    ensures day { IfSome result (λ m. m.0 + m.1 ≤ 2881) }
+{
+    minutes_are_permitted();
+    // What holds of its tasks: no minute is past 2880.
+    let _day = limits.instance();
+    match limits.minutes(k, j) {
+        Some((first, last)) => Some((first, last + 1 - first)),
+        None => None,
+    }
+}
+
+/// Whether there is a minute at which team `k` may begin task `j`.
+fn is_open(limits: &Limits<'_>, k: u32, j: u32) -> bool
+    requires team { k < teams_in limits.now.limits }
+    requires task { j < tasks_in limits.now.limits }
+    ensures { result ≡ has_minutes limits.now.limits k j }
+{
+    match counted_minutes(limits, k, j) {
+        Some(_) => true,
+        None => false,
+    }
+}
+
+/// The first task from this one on that team `k` may begin at some minute.
+pub fn next_open(limits: &Limits<'_>, k: u32, from: usize) -> Option<u32>
+    requires { k < teams_in limits.now.limits }
+    ensures { IsNextKey (has_minutes limits.now.limits k) (tasks_in limits.now.limits) from result }
+{
+    for j in from..limits.instance().tasks() {
+        if is_open(limits, k, j as u32) {
+            return Some(j as u32);
+        }
+    }
+    None
+}
+
+/// How many teams the node requires at the task.
+pub fn required_count(limits: &Limits<'_>, j: u32) -> u32
+    requires { j < tasks_in limits.now.limits }
+    ensures { result ≡ length (required_teams limits.now.limits j) }
+{
+    // What holds of the limits: they have a row for each team.
+    let _day = limits.instance();
+    limits.required(j)
+}
+
+/// Whether the node requires a team at the task.
+fn is_priced(limits: &Limits<'_>, j: u32) -> bool
+    requires { j < tasks_in limits.now.limits }
+    ensures { result ≡ has_required limits.now.limits j }
+{
+    limits.required(j) > 0
+}
+
+/// The first task from this one on at which the node requires a team.
+pub fn next_priced(limits: &Limits<'_>, from: usize) -> Option<u32>
+    ensures { IsNextKey (has_required limits.now.limits) (tasks_in limits.now.limits) from result }
+{
+    for j in from..limits.instance().tasks() {
+        if is_priced(limits, j as u32) {
+            return Some(j as u32);
+        }
+    }
+    None
+}

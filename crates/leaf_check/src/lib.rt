@@ -1,0 +1,11 @@
+// The lines of a leaf with prices: each is judged by the row of the table that is due.
+#![tactic(auto)]
+
+mod keys;
+mod prices;
+mod reader;
+mod rows;
+#[cfg(test)]
+mod tests;
+
+pub use reader::{Goal, LeafReader, LeafStep};

@@ -1,0 +1,326 @@
+// A reader of the lines of one leaf, from its prices to its last potentials.
+ghost use Rattle.std.specs.Prelude.{◌≡◌, ◌≤◌, ◌<◌, ◌+◌, ℕ, suc, ℤ, List, [], length, IfOk, IfSome};
+ghost use Rattle.crew_terms.specs.Limits.{Limits as Bounds, has_required, tasks_in, teams_in};
+ghost use Rattle.dossier_terms.specs.Dossier.{Leaf, Potentials, minute_count};
+ghost use Rattle.dossier_terms.specs.Reading.{Place, Prices as PriceDue};
+ghost use Rattle.dossier_terms.specs.Table.{after_extra, after_phi, after_table, extra_row, phi_row, price_row, worth_row};
+ghost use Rattle.leaf_check.specs.Keys.{AreLeft, IsRowDue, has_minutes};
+ghost use Rattle.leaf_check.specs.Reader.{HasPotentials, HasRead, IsGoalAt, IsJudged, IsReady, StandsFor, Tells, below_next, priced_leaf, reason_for};
+
+use crate::keys::{counted_minutes, next_open, next_priced, required_count};
+use crate::prices::{set_extras, set_prices};
+use crate::rows::set_potentials;
+use cert_format::{Expect, LineFault, LineKind, read_line};
+use dossier_laws::minutes_are_permitted;
+use dossier_terms::Reason;
+use field_table::LineWords;
+use node_limits::Limits;
+use potentials::{LocalVerdict, Prices, Table, bound, local, proves};
+use std::alloc::{AllocError, Global};
+
+/// What a leaf has to prove: that every plan of its node leaves at least `bound` tasks unassigned and, where it is
+/// closed, at least `unassigned`.
+#[derive(Clone, Copy, Debug, PartialEq, Eq)]
+pub struct Goal {
+    pub bound: u32,
+    pub unassigned: u32,
+    pub is_closed: bool,
+}
+
+// The line of a leaf that is due.
+#[derive(Clone, Copy)]
+enum LeafDue {
+    // The prices of the tasks.
+    Price,
+    // The prices of a task's required pairs.
+    Extra { task: u32 },
+    // A team's worth.
+    Worth { team: u32 },
+    // A team's potentials of a task.
+    Phi { team: u32, task: u32 },
+}
+
+/// What is said of a line.
+#[derive(Clone, Copy, Debug, PartialEq, Eq)]
+pub enum LeafStep {
+    /// It breaks no rule, and one more line of the leaf is due.
+    More,
+    /// It breaks no rule, and it is the last one of the leaf.
+    Done,
+    /// It breaks a rule.
+    No(Reason),
+}
+
+/// Reads the lines of one leaf with prices after another. It keeps the potentials of one team at a time.
+///
+/// In contracts: it is ready for the leaves of some limits, and it stands for a state of the table of lines.
+#[derive(Drop)]
+pub struct LeafReader {
+    prices: Prices,
+    table: Table,
+    // A worth for each team; those of the teams so far are the leaf's.
+    worths: Vec<i64>,
+    due: LeafDue,
+}
+
+/// The reason that tells a fault of a line.
+fn reason_of(fault: LineFault) -> Reason
+    ensures { result ≡ reason_for fault }
+{
+    match fault {
+        LineFault::Shape => Reason::Shape,
+        LineFault::Number => Reason::Number,
+        LineFault::Name => Reason::Name,
+    }
+}
+
+impl LeafReader {
+    /// A reader with room for each leaf over the instance; no other call takes memory.
+    pub fn open(alloc: Global, limits: &Limits<'_>) -> Result<LeafReader, AllocError>
+        ensures { IfOk result (IsReady limits.now.limits) }
+    {
+        let prices = Prices::zero(alloc, limits)?;
+        let table = Table::reserve(alloc, limits.instance())?;
+        let worths = vec![in alloc; 0; limits.instance().teams()]?;
+        Ok(LeafReader {
+            prices,
+            table,
+            worths,
+            due: LeafDue::Price,
+        })
+    }
+
+    /// Begins a leaf: its line of prices is due. The limits may be others than before, over the same instance.
+    pub fn begin(&mut self)
+        ensures ready { (n m : Bounds) → m.instance ≡ n.instance → IsReady n self.old → IsReady m self.new }
+        ensures stands { (a : Place) → StandsFor a self.new (PriceDue a) }
+    {
+        self.due = LeafDue::Price;
+    }
+
+    /// Judges the line that is due, by the table of lines. A team's rules are tested at its last line: `Potential` tells
+    /// the first task whose potentials are too low, and then `Worth` that the worth is; `Bound` is told at the last line
+    /// of the leaf, where it does not prove what it has to.
+    pub fn line(&mut self, limits: &Limits<'_>, goal: Goal, words: LineWords<'_>) -> LeafStep
+        requires { IsReady limits.now.limits self.old }
+        ensures ready { IsReady limits.now.limits self.new }
+        ensures judged { IsJudged limits.now.limits goal words.entry self.old self.new result }
+    {
+        match self.due {
+            LeafDue::Price => self.price_line(limits, goal, words),
+            LeafDue::Extra { task } => self.extra_line(limits, goal, task, words),
+            LeafDue::Worth { team } => self.worth_line(limits, goal, team, words),
+            LeafDue::Phi { team, task } => self.phi_line(limits, goal, team, task, words),
+        }
+    }
+
+    /// The line `price`.
+    fn price_line(&mut self, limits: &Limits<'_>, goal: Goal, words: LineWords<'_>) -> LeafStep
+        requires { IsReady limits.now.limits self.old }
+        ensures ready { IsReady limits.now.limits self.new }
+        ensures tells { (a : Place) → IsGoalAt a limits.now.limits goal → Tells a (price_row a words.entry) result self.new }
+    {
+        let tasks = limits.instance().tasks() as u32;
+        let kind = match read_line(Expect::Price { tasks }, words) {
+            Ok(kind) => kind,
+            Err(fault) => return LeafStep::No(reason_of(fault)),
+        };
+        let LineKind::Price { prices } = kind else {
+            unreachable!()
+        };
+        set_prices(&mut self.prices, limits, &prices);
+        self.after_extra(limits, goal, next_priced(limits, 0))
+    }
+
+    /// A line `extra`.
+    fn extra_line(
+        &mut self,
+        limits: &Limits<'_>,
+        goal: Goal,
+        task: u32,
+        words: LineWords<'_>,
+    ) -> LeafStep
+        requires ready { IsReady limits.now.limits self.old }
+        requires task { task < tasks_in limits.now.limits }
+        ensures ready { IsReady limits.now.limits self.new }
+        ensures tells { (a : Place) (prices : List ℤ) (rows : List (List ℤ)) (js : List ℕ) → IsGoalAt a limits.now.limits goal
+            → HasRead limits.now.limits self.old (priced_leaf prices rows)
+            → IsRowDue (has_required limits.now.limits) (tasks_in limits.now.limits) rows task js
+            → Tells a (extra_row a prices rows task js words.entry) result self.new }
+    {
+        let count = required_count(limits, task);
+        let kind = match read_line(Expect::Extra { task, count }, words) {
+            Ok(kind) => kind,
+            Err(fault) => return LeafStep::No(reason_of(fault)),
+        };
+        let LineKind::Extra { prices, .. } = kind else {
+            unreachable!()
+        };
+        set_extras(&mut self.prices, limits, task, &prices);
+        self.after_extra(limits, goal, next_priced(limits, task as usize + 1))
+    }
+
+    /// What is said after a line of prices, where this is the next task with required pairs.
+    fn after_extra(&mut self, limits: &Limits<'_>, goal: Goal, next: Option<u32>) -> LeafStep
+        requires ready { IsReady limits.now.limits self.old }
+        requires next { IfSome next (λ j. j < tasks_in limits.now.limits) }
+        ensures ready { IsReady limits.now.limits self.new }
+        ensures tells { (a : Place) (prices : List ℤ) (rows : List (List ℤ)) (js : List ℕ) → IsGoalAt a limits.now.limits goal
+            → HasRead limits.now.limits self.old (priced_leaf prices rows)
+            → AreLeft (has_required limits.now.limits) (tasks_in limits.now.limits) rows next js
+            → Tells a (after_extra a prices rows js) result self.new }
+    {
+        match next {
+            Some(task) => {
+                self.due = LeafDue::Extra { task };
+                LeafStep::More
+            }
+            None => self.after_table(limits, goal, 0),
+        }
+    }
+
+    /// A line `worth`.
+    fn worth_line(
+        &mut self,
+        limits: &Limits<'_>,
+        goal: Goal,
+        team: u32,
+        words: LineWords<'_>,
+    ) -> LeafStep
+        requires ready { IsReady limits.now.limits self.old }
+        requires team { team < teams_in limits.now.limits }
+        ensures ready { IsReady limits.now.limits self.new }
+        ensures tells { (a : Place) (leaf : Leaf) (left : ℕ) → IsGoalAt a limits.now.limits goal
+            → HasRead limits.now.limits self.old leaf → length leaf.tables ≡ team → team + suc left ≡ teams_in limits.now.limits
+            → Tells a (worth_row a leaf.prices leaf.extras leaf.tables left words.entry) result self.new }
+    {
+        minutes_are_permitted();
+        let kind = match read_line(Expect::Worth, words) {
+            Ok(kind) => kind,
+            Err(fault) => return LeafStep::No(reason_of(fault)),
+        };
+        let LineKind::Worth { sigma } = kind else {
+            unreachable!()
+        };
+        self.worths[team as usize] = sigma;
+        self.after_phi(limits, goal, team, next_open(limits, team, 0))
+    }
+
+    /// A line `phi`.
+    fn phi_line(
+        &mut self,
+        limits: &Limits<'_>,
+        goal: Goal,
+        team: u32,
+        task: u32,
+        words: LineWords<'_>,
+    ) -> LeafStep
+        requires ready { IsReady limits.now.limits self.old }
+        requires team { team < teams_in limits.now.limits }
+        requires task { task < tasks_in limits.now.limits }
+        requires minutes { 0 < minute_count limits.now.limits team task }
+        ensures ready { IsReady limits.now.limits self.new }
+        ensures tells { (a : Place) (leaf : Leaf) (left : ℕ) (table : Potentials) (js : List ℕ) → IsGoalAt a limits.now.limits goal
+            → HasRead limits.now.limits self.old leaf → length leaf.tables ≡ team → team + suc left ≡ teams_in limits.now.limits
+            → HasPotentials limits.now.limits self.old team table task
+            → IsRowDue (has_minutes limits.now.limits team) (tasks_in limits.now.limits) table.phi task js
+            → Tells a (phi_row a leaf.prices leaf.extras leaf.tables left table.worth table.phi task js words.entry) result self.new }
+    {
+        minutes_are_permitted();
+        let Some((first, count)) = counted_minutes(limits, team, task) else {
+            unreachable!()
+        };
+        let kind = match read_line(Expect::Phi { task, count }, words) {
+            Ok(kind) => kind,
+            Err(fault) => return LeafStep::No(reason_of(fault)),
+        };
+        let LineKind::Phi { values, .. } = kind else {
+            unreachable!()
+        };
+        set_potentials(&mut self.table, task, first, &values);
+        self.after_phi(
+            limits,
+            goal,
+            team,
+            next_open(limits, team, task as usize + 1),
+        )
+    }
+
+    /// What is said after a line of a team, where this is the next task that it may begin.
+    fn after_phi(
+        &mut self,
+        limits: &Limits<'_>,
+        goal: Goal,
+        team: u32,
+        next: Option<u32>,
+    ) -> LeafStep
+        requires ready { IsReady limits.now.limits self.old }
+        requires team { team < teams_in limits.now.limits }
+        requires next { IfSome next (λ j. (j < tasks_in limits.now.limits) × (0 < minute_count limits.now.limits team j)) }
+        ensures ready { IsReady limits.now.limits self.new }
+        ensures tells { (a : Place) (leaf : Leaf) (left : ℕ) (table : Potentials) (js : List ℕ) → IsGoalAt a limits.now.limits goal
+            → HasRead limits.now.limits self.old leaf → length leaf.tables ≡ team → team + suc left ≡ teams_in limits.now.limits
+            → HasPotentials limits.now.limits self.old team table (below_next limits.now.limits next)
+            → AreLeft (has_minutes limits.now.limits team) (tasks_in limits.now.limits) table.phi next js
+            → Tells a (after_phi a leaf.prices leaf.extras leaf.tables left table.worth table.phi js) result self.new }
+    {
+        match next {
+            Some(task) => {
+                self.due = LeafDue::Phi { team, task };
+                LeafStep::More
+            }
+            None => self.judge_team(limits, goal, team),
+        }
+    }
+
+    /// What is said after the last line of a team: its rules are tested.
+    fn judge_team(&mut self, limits: &Limits<'_>, goal: Goal, team: u32) -> LeafStep
+        requires ready { IsReady limits.now.limits self.old }
+        requires team { team < teams_in limits.now.limits }
+        ensures ready { IsReady limits.now.limits self.new }
+        ensures tells { (a : Place) (leaf : Leaf) (left : ℕ) (table : Potentials) → IsGoalAt a limits.now.limits goal
+            → HasRead limits.now.limits self.old leaf → length leaf.tables ≡ team → team + suc left ≡ teams_in limits.now.limits
+            → HasPotentials limits.now.limits self.old team table (tasks_in limits.now.limits)
+            → Tells a (after_phi a leaf.prices leaf.extras leaf.tables left table.worth table.phi []) result self.new }
+    {
+        let worth = self.worths[team as usize];
+        match local(limits, team, &self.prices, &self.table, worth) {
+            LocalVerdict::Holds => self.after_table(limits, goal, team as usize + 1),
+            LocalVerdict::Low { task } => LeafStep::No(Reason::Potential(team, task)),
+            LocalVerdict::Worth => LeafStep::No(Reason::Worth(team)),
+        }
+    }
+
+    /// What is said after the lines of so many teams.
+    fn after_table(&mut self, limits: &Limits<'_>, goal: Goal, teams: usize) -> LeafStep
+        requires ready { IsReady limits.now.limits self.old }
+        requires teams { teams ≤ teams_in limits.now.limits }
+        ensures ready { IsReady limits.now.limits self.new }
+        ensures tells { (a : Place) (leaf : Leaf) (left : ℕ) → IsGoalAt a limits.now.limits goal
+            → HasRead limits.now.limits self.old leaf → length leaf.tables ≡ teams → teams + left ≡ teams_in limits.now.limits
+            → Tells a (after_table a leaf left) result self.new }
+    {
+        if teams < limits.instance().teams() {
+            self.due = LeafDue::Worth { team: teams as u32 };
+            return LeafStep::More;
+        }
+        self.judge_bound(limits, goal)
+    }
+
+    /// What is said after the last line of a leaf: what it proves is tested.
+    fn judge_bound(&self, limits: &Limits<'_>, goal: Goal) -> LeafStep
+        requires { IsReady limits.now.limits self.now }
+        ensures { (a : Place) (leaf : Leaf) → IsGoalAt a limits.now.limits goal
+            → HasRead limits.now.limits self.now leaf → length leaf.tables ≡ teams_in limits.now.limits
+            → Tells a (after_table a leaf 0) result self.now }
+    {
+        let proved = bound(limits, &self.prices, &self.worths);
+        if !proves(proved, goal.bound) {
+            return LeafStep::No(Reason::Bound);
+        }
+        if goal.is_closed && !proves(proved, goal.unassigned) {
+            return LeafStep::No(Reason::Bound);
+        }
+        LeafStep::Done
+    }
+}
