@@ -1,8 +1,8 @@
 -- what the statuses of a call say
 use Rattle.std.proofs.Common.{◌≡◌, ◌≢◌, ◌⊎◌, inl, inr, List, ℕ, [], ◌∷◌, Option, None, Some, ap, subst, sym, refl, ◌∙◌, arith}
-use Rattle.std.specs.Prelude.{IfSome, slice_index, slice_index_or}
+use Rattle.std.specs.Prelude.{IfSome, IsTrue, slice_index, slice_index_or}
 use Rattle.crew_cli.specs.Rounds.{SaysFirstRounds}
-use Rattle.crew_cli.specs.Run.{OfBytes, AskFor, Says, IsFine, SaysYes, SaysNo, SaysFront, SaysReadFault, SaysYesLines}
+use Rattle.crew_cli.specs.Run.{OfBytes, AskFor, Says, IsFine, SaysYes, SaysNo, SaysFront, SaysReadFault, SaysYesLines, ends_with}
 use Rattle.crew_cli.specs.declared.run.Command.{Command}
 use Rattle.crew_cli.specs.declared.run.Command.TheVariants.{Check, Apply}
 use Rattle.crew_cli.specs.declared.status.Status.{Status}
@@ -79,3 +79,35 @@ fault_complete command (Some input) Read Write w = λ fine nr nw. absurd (nw w)
 
 pub apply_part : (answer : Status) (left unseen got later : Option (List ℕ)) → OfBytes left got later (Says Apply answer unseen) → OfBytes left got later (Says Apply status.WriteFault unseen)
 apply_part answer left unseen got later says = of_bytes_weaker left got later (Says Apply answer unseen) (Says Apply status.WriteFault unseen) (part_of answer unseen) says
+
+-- the statuses of a command
+pub check_ends : (answer : Status) → (answer ≢ status.Words) × (answer ≢ status.Refused) × (answer ≢ status.Memory) → IsTrue (ends_with Check answer)
+check_ends status.Done others = refl
+check_ends status.No others = refl
+check_ends status.Words others = absurd (others.0 refl)
+check_ends status.Refused others = absurd (others.1 refl)
+check_ends status.ReadFault others = refl
+check_ends status.WriteFault others = refl
+check_ends status.Memory others = refl
+
+pub apply_ends : (answer : Status) → (answer ≢ status.Words) × (answer ≢ status.No) × (answer ≢ status.Memory) → IsTrue (ends_with Apply answer)
+apply_ends status.Done others = refl
+apply_ends status.No others = absurd (others.1 refl)
+apply_ends status.Words others = absurd (others.0 refl)
+apply_ends status.Refused others = refl
+apply_ends status.ReadFault others = refl
+apply_ends status.WriteFault others = refl
+apply_ends status.Memory others = refl
+
+pub ends_with_write_fault : (command : Command) → IsTrue (ends_with command status.WriteFault)
+ends_with_write_fault Check = refl
+ends_with_write_fault Apply = refl
+
+pub ends_with_memory : (command : Command) → IsTrue (ends_with command status.Memory)
+ends_with_memory Check = refl
+ends_with_memory Apply = refl
+
+-- no command ends as other words do
+pub ends_knowing : (command : Command) (answer : Status) → IsTrue (ends_with command answer) → answer ≢ status.Words
+ends_knowing Check answer ends is = absurd (let e : IsTrue (ends_with Check status.Words) = subst (λ a. IsTrue (ends_with Check a)) is ends in cc)
+ends_knowing Apply answer ends is = absurd (let e : IsTrue (ends_with Apply status.Words) = subst (λ a. IsTrue (ends_with Apply a)) is ends in cc)

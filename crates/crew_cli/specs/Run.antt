@@ -105,6 +105,20 @@ Says Apply WriteFault unseen input written = SaysOutputPart input written
 Says Apply Memory unseen input written = SaysFirstRounds input written
 Says _ _ unseen input written = ⊥
 
+-- the statuses that a command can end with
+abbrev pub ends_with : Command → Status → Bool
+ends_with Check Done = true
+ends_with Check No = true
+ends_with Check ReadFault = true
+ends_with Check WriteFault = true
+ends_with Check Memory = true
+ends_with Apply Done = true
+ends_with Apply Refused = true
+ends_with Apply ReadFault = true
+ends_with Apply WriteFault = true
+ends_with Apply Memory = true
+ends_with _ _ = false
+
 -- what a command takes to its end: bytes that are accepted as dossiers, or a day of which no record is refused
 abbrev pub IsFine : Command → List ℕ → Type 0
 IsFine Check input = (dossiers : List Dossier) × IsSimpleInput input dossiers

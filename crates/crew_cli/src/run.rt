@@ -1,7 +1,7 @@
 // The top call.
 ghost use Rattle.std.specs.Prelude.{◌≡◌, ◌≢◌, ◌≤◌, ◌↔◌, ◌⊎◌, [], ◌∷◌, map, string_bytes, IfSome, IsTrue, MatchOption};
 ghost use Rattle.crew_io.specs.Io.{Rose};
-ghost use Rattle.crew_cli.specs.Run.{OfBytes, AskFor, Says, IsFine};
+ghost use Rattle.crew_cli.specs.Run.{OfBytes, AskFor, Says, IsFine, ends_with};
 
 use crate::apply::apply;
 use crate::check::check;
@@ -45,7 +45,7 @@ impl Command {
 fn answer<S: Source, K: Sink>(alloc: Global, command: Command, src: &mut S, out: &mut K) -> Status
     ensures says { OfBytes (S.left src.old) (K.got out.old) (K.got out.new) (Says command result (S.left src.new)) }
     ensures part { OfBytes (S.left src.old) (K.got out.old) (K.got out.new) (Says command Status.WriteFault (S.left src.new)) }
-    ensures others { result ≢ Status.Words }
+    ensures ends { IsTrue (ends_with command result) }
     ensures read_fault { result ≡ Status.ReadFault → Rose (S.faults src.old) (S.faults src.new) }
     ensures write_fault { result ≡ Status.WriteFault → Rose (K.faults out.old) (K.faults out.new) }
     ensures source_later { S.faults src.old ≤ S.faults src.new }
@@ -77,6 +77,9 @@ pub fn run<S: Source, K: Sink>(alloc: Global, words: &[String], src: &mut S, out
     // Each status tells what the input is and what was written, also at a fault.
     ensures says { (command : Command) → AskFor command (map (λ w. string_bytes w) words.now)
         → OfBytes (S.left src.old) (K.got out.old) (K.got out.new) (Says command result (S.left src.new)) }
+
+    // Each command ends with one of its own statuses, whatever the source and the sink tell.
+    ensures ends { (command : Command) → AskFor command (map (λ w. string_bytes w) words.now) → IsTrue (ends_with command result) }
 
     // Without a write fault, all that was written is passed on.
     ensures flushed { result ≢ Status.Words → result ≢ Status.WriteFault → K.held out.new ≡ [] }

@@ -142,6 +142,17 @@ fn the_first_rule_that_is_broken(rt: HostRuntime) -> Result<(), Fail> {
 }
 
 #[test]
+fn one_wrong_byte_anywhere_is_refused(rt: HostRuntime) -> Result<(), Fail> {
+    for at in 0..GOOD.len() {
+        let mut input = GOOD.to_vec(rt.alloc())?;
+        input[at] = b'#';
+        let (status, _) = check(rt.alloc(), input)?;
+        assert_eq!(rt; status, Status::No);
+    }
+    Ok(())
+}
+
+#[test]
 fn lines_are_numbered_over_the_whole_input(rt: HostRuntime) -> Result<(), Fail> {
     let late = with_line(rt.alloc(), GOOD, 11, b"do 0 451 0")?;
     let cases: [(&[u8], &[u8]); 6] = [
