@@ -20,6 +20,4 @@ pub mod Complete
 pub mod Spellings
 pub mod Single
 pub mod One
-pub mod Later
-pub mod Simple
 pub mod Sheet

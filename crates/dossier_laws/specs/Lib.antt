@@ -1,4 +1,3 @@
 pub mod Law
 pub mod Listed
-pub mod Path
 pub mod Sheet

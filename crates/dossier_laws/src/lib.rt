@@ -14,9 +14,7 @@ ghost use Rattle.dossier_terms.specs.Dossier.{Dossier, IsGood, skills_of, mask_o
 ghost use Rattle.dossier_terms.specs.Lines.{lines_of};
 ghost use Rattle.dossier_terms.specs.Reading.{Reading, Said, More, Whole, No, Form};
 ghost use Rattle.dossier_terms.specs.Table.{Says, Reaches, Ended};
-ghost use Rattle.dossier_terms.specs.Today.{IsSimple, Answers};
 ghost use Rattle.dossier_laws.specs.Sheet.{sheet, sheet_lines};
-ghost use Rattle.dossier_laws.specs.Path.{Leads, Answered, IsSimpleWhole};
 ghost use Rattle.dossier_laws.specs.Law.{IsWhole, IsRead};
 ghost use Rattle.dossier_laws.specs.Listed.{IsSkillList, IsListOf, IsMinuteOf};
 
@@ -81,58 +79,6 @@ pub fn reading_ends()
     ensures { (s : Reading) (lines : List Words) (m : Reading) (ws : Words) (d : Dossier) →
         Reaches s lines m → Says m ws (Whole d) → Ended s (lines ++ ws ∷ []) d }
 {}
-
-/// The lines of a good dossier that is simple are taken, and the last of them ends it.
-pub fn simple_is_answered()
-    ensures { (d : Dossier) → IsGood d → IsSimple d → Answered Form (lines_of d) d }
-{}
-
-/// Lines that are taken, with the last of them ending a dossier, are those of a good dossier that is simple.
-pub fn answered_is_simple()
-    ensures { (lines : List Words) (d : Dossier) → Answered Form lines d → IsSimpleWhole lines d }
-{}
-
-/// There is one answer to a line, where lines have led from the start to a state.
-pub fn answers_one_thing()
-    ensures { (lines : List Words) (s : Reading) (ws : Words) (a b : Said) → Reaches Form lines s → Answers s ws a → Answers s ws b → a ≡ b }
-{
-    one_verdict();
-}
-
-/// Lines that are taken lead where the table says.
-pub fn taken_is_reached()
-    ensures { (s : Reading) (lines : List Words) (after : Reading) → Leads s lines after → Reaches s lines after }
-{}
-
-/// A line that is taken goes on with the lines before it.
-pub fn taking_goes_on()
-    ensures { (s : Reading) (lines : List Words) (m : Reading) (ws : Words) (next : Reading) →
-        Leads s lines m → Answers m ws (More next) → Leads s (lines ++ ws ∷ []) next }
-{}
-
-/// A line that is answered by a dossier ends it with the lines before it.
-pub fn taking_ends()
-    ensures { (s : Reading) (lines : List Words) (m : Reading) (ws : Words) (d : Dossier) →
-        Leads s lines m → Answers m ws (Whole d) → Answered s (lines ++ ws ∷ []) d }
-{}
-
-/// Where lines are taken and the lines of a good dossier that is simple begin with them, the rest of its lines
-/// are taken too, and end it.
-pub fn rest_is_answered()
-    ensures { (lines more : List Words) (s : Reading) (d : Dossier) →
-        Leads Form lines s → IsGood d → IsSimple d → lines_of d ≡ lines ++ more → Answered s more d }
-{
-    one_verdict();
-}
-
-/// Where a line is refused, by a rule or as not taken yet, no good dossier that is simple begins with the lines
-/// so far and this one.
-pub fn refused_is_not_simple()
-    ensures { (lines more : List Words) (s : Reading) (ws : Words) (reason : Reason) (d : Dossier) →
-        Leads Form lines s → Answers s ws (No reason) → IsGood d → IsSimple d → lines_of d ≡ lines ++ ws ∷ more → ⊥ }
-{
-    one_verdict();
-}
 
 /// Every legal plan of a good dossier's instance leaves at least its bound unassigned.
 pub fn good_bounds()

@@ -6,4 +6,3 @@ pub mod Table
 pub mod Code
 pub mod Texts
 pub mod Accepted
-pub mod Today

@@ -38,8 +38,6 @@ pub enum Reason {
     TooLong,
     /// The input is longer than it may be.
     TooMuch,
-    /// The line breaks no rule, and what follows it is not taken yet.
-    Later,
 }
 
 /// The numbers of the line `size`.
