@@ -12,3 +12,4 @@ pub mod LeafLines
 pub mod NodeLines
 pub mod OneAnswer
 pub mod ReadBack
+pub mod Faults

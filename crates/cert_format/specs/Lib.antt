@@ -3,3 +3,4 @@ pub mod Numbers
 pub mod Lines
 pub mod Parts
 pub mod ReadBack
+pub mod Expected

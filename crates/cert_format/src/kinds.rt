@@ -1,6 +1,10 @@
 // The kinds of lines of a dossier.
+ghost use Rattle.std.specs.Prelude.{◌≡◌};
+ghost use Rattle.cert_format.specs.Expected.{reason_for};
+
 use crate::numbers::Rest;
 use crew_terms::Name;
+use dossier_terms::Reason;
 
 /// The kind of line that is due, with the counts that its ranges need.
 #[derive(Clone, Copy, Debug, PartialEq, Eq)]
@@ -125,4 +129,17 @@ pub enum LineFault {
     Number,
     /// A misspelled name.
     Name,
+}
+
+impl LineFault {
+    /// The reason for which a line with this fault is refused.
+    pub fn reason(self) -> Reason
+        ensures { result ≡ reason_for self }
+    {
+        match self {
+            LineFault::Shape => Reason::Shape,
+            LineFault::Number => Reason::Number,
+            LineFault::Name => Reason::Name,
+        }
+    }
 }

@@ -5,12 +5,15 @@ ghost use Rattle.crew_terms.specs.Instance.{Instance, IsInstance};
 ghost use Rattle.crew_terms.specs.declared.Team.{Team};
 ghost use Rattle.crew_terms.specs.declared.Task.{Task};
 ghost use Rattle.dossier_terms.specs.Dossier.{skills_of, mask_of};
+ghost use Rattle.dossier_terms.specs.Reading.{Reading, No};
+ghost use Rattle.dossier_terms.specs.Table.{Says};
 ghost use Rattle.dossier_terms.specs.Lines.{size_of, size_line, place_line, travel_line, team_line, task_line};
 ghost use Rattle.cert_format.specs.declared.kinds.Expect.{Expect};
 ghost use Rattle.cert_format.specs.declared.kinds.Expect.TheVariants as expected;
 ghost use Rattle.cert_format.specs.declared.kinds.LineKind.{LineKind};
 ghost use Rattle.cert_format.specs.declared.kinds.LineFault.{LineFault};
-ghost use Rattle.cert_format.specs.Lines.{ReadsLine};
+ghost use Rattle.cert_format.specs.Expected.{expect_of, reason_for};
+ghost use Rattle.cert_format.specs.Lines.{IsFaultOf, ReadsLine};
 ghost use Rattle.cert_format.specs.ReadBack.{HasCounts, IsReadAs, size_kind, place_kind, travel_kind, team_kind, task_kind};
 
 use dossier_laws::set_is_spelled;
@@ -20,6 +23,11 @@ use text_laws::{instance_lines, words_of_line};
 pub fn line_has_one_answer()
     ensures { (expect : Expect) (words : Words) (a b : Result LineKind LineFault) → HasCounts expect
         → ReadsLine expect words a → ReadsLine expect words b → a ≡ b }
+{}
+
+/// A law: a line with a fault is refused by the table of lines, and the fault tells the reason.
+pub fn fault_is_refused()
+    ensures { (due : Reading) (words : Words) (fault : LineFault) → IsFaultOf (expect_of due) words fault → Says due words (No (reason_for fault)) }
 {}
 
 /// A law: `read_line` reads each line that `write_head` writes as exactly what was written, where that kind of

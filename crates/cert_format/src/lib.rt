@@ -20,7 +20,7 @@ mod tests;
 use field_table::LineWords;
 pub use head_out::write_head;
 pub use kinds::{Expect, LineFault, LineKind};
-pub use laws::{instance_is_read_back, line_has_one_answer};
+pub use laws::{fault_is_refused, instance_is_read_back, line_has_one_answer};
 pub use lines_out::{Part, put_line};
 pub use numbers::Rest;
 

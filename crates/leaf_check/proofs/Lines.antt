@@ -18,31 +18,6 @@ use Rattle.cert_format.specs.declared.kinds.LineFault.{LineFault}
 use Rattle.cert_format.specs.declared.kinds.LineFault.TheVariants.{Shape, Number, Name}
 use Rattle.leaf_check.specs.Reader.{reason_for}
 
--- ---- faults
-
-pub price_fault : (a : Place) (ws : Words) (fault : LineFault) → IsFaultOf (expected.Price (tasks_in (limits_of a))) ws fault → price_row a ws (Refuses (reason_for fault))
-price_fault a ws Shape h = Fails h refl
-price_fault a ws Number h = Holds h.0 (Unspelled (λ vs fits is. h.2 (kinds.Price vs) (fits, is)) refl)
-price_fault a ws Name h = absurd (h.1 tt)
-
-pub extra_fault : (a : Place) (prices : List ℤ) (rows : List (List ℤ)) (j : ℕ) (js : List ℕ) (ws : Words) (fault : LineFault)
-    → IsFaultOf (expected.Extra j (length (required_teams (limits_of a) j))) ws fault → extra_row a prices rows j js ws (Refuses (reason_for fault))
-extra_fault a prices rows j js ws Shape h = Fails h refl
-extra_fault a prices rows j js ws Number h = Holds h.0 (Unspelled (λ vs fits is. h.2 (kinds.Extra j vs) (refl, fits, is)) refl)
-extra_fault a prices rows j js ws Name h = absurd (h.1 tt)
-
-pub worth_fault : (a : Place) (prices : List ℤ) (extras : List (List ℤ)) (tables : List Potentials) (left : ℕ) (ws : Words) (fault : LineFault)
-    → IsFaultOf expected.Worth ws fault → worth_row a prices extras tables left ws (Refuses (reason_for fault))
-worth_fault a prices extras tables left ws Shape h = Fails h refl
-worth_fault a prices extras tables left ws Number h = Holds h.0 (Unspelled (λ v fits is. h.2 (kinds.Worth v) (fits, is)) refl)
-worth_fault a prices extras tables left ws Name h = absurd (h.1 tt)
-
-pub phi_fault : (a : Place) (prices : List ℤ) (extras : List (List ℤ)) (tables : List Potentials) (left : ℕ) (worth : ℤ) (rows : List (List ℤ)) (j : ℕ) (js : List ℕ) (ws : Words) (fault : LineFault)
-    → IsFaultOf (expected.Phi j (minute_count (limits_of a) (length tables) j)) ws fault → phi_row a prices extras tables left worth rows j js ws (Refuses (reason_for fault))
-phi_fault a prices extras tables left worth rows j js ws Shape h = Fails h refl
-phi_fault a prices extras tables left worth rows j js ws Number h = Holds h.0 (Unspelled (λ vs fits is. h.2 (kinds.Phi j vs) (refl, fits, is)) refl)
-phi_fault a prices extras tables left worth rows j js ws Name h = absurd (h.1 tt)
-
 -- ---- numbers
 
 spelled_length : (vs : List ℤ) (n : ℕ) → length vs ≡ n → length (map signed_decimal vs) ≡ n

@@ -8,9 +8,6 @@ use Rattle.dossier_terms.specs.declared.Reason.{Reason}
 use Rattle.dossier_terms.specs.Dossier.{Leaf, Potentials, minute_count, phi_in, prices_of, worths_of}
 use Rattle.dossier_terms.specs.Reading.{Reading, Said, More as Goes, No as Refuses, Place, Prices, Extras, Worths, Phis, limits_of, leaf_done}
 use Rattle.dossier_terms.specs.Table.{Says}
-use Rattle.dossier_terms.specs.declared.Reason.TheVariants as reasons
-use Rattle.cert_format.specs.declared.kinds.LineFault.{LineFault}
-use Rattle.cert_format.specs.declared.kinds.LineFault.TheVariants as faults
 use Rattle.leaf_check.specs.Keys.{IsRowDue, has_minutes}
 use Rattle.leaf_check.specs.Prices.{ArePricesIn}
 use Rattle.leaf_check.specs.declared.reader.Goal.{Goal}
@@ -79,12 +76,6 @@ pub data StandsFor (a : Place) (r : LeafReader) (s : Reading) : Type 0 where
       (is : s ≡ Phis a leaf.prices leaf.extras leaf.tables left table.worth table.phi j js) → StandsFor a r s
 
 -- ---- what a reader says of a line
-
--- the reason that tells a fault of a line
-abbrev pub reason_for : LineFault → Reason
-reason_for faults.Shape = reasons.Shape
-reason_for faults.Number = reasons.Number
-reason_for faults.Name = reasons.Name
 
 -- the limits are those of the place, and the leaf has to prove what the place asks for
 pub record IsGoalAt (a : Place) (n : Limits) (goal : Goal) : Type 0 where

@@ -5,12 +5,12 @@ ghost use Rattle.dossier_terms.specs.Dossier.{Leaf, Potentials, minute_count};
 ghost use Rattle.dossier_terms.specs.Reading.{Place, Prices as PriceDue};
 ghost use Rattle.dossier_terms.specs.Table.{after_extra, after_phi, after_table, extra_row, phi_row, price_row, worth_row};
 ghost use Rattle.leaf_check.specs.Keys.{AreLeft, IsRowDue, has_minutes};
-ghost use Rattle.leaf_check.specs.Reader.{HasPotentials, HasRead, IsGoalAt, IsJudged, IsReady, StandsFor, Tells, below_next, priced_leaf, reason_for};
+ghost use Rattle.leaf_check.specs.Reader.{HasPotentials, HasRead, IsGoalAt, IsJudged, IsReady, StandsFor, Tells, below_next, priced_leaf};
 
 use crate::keys::{counted_minutes, next_open, next_priced, required_count};
 use crate::prices::{set_extras, set_prices};
 use crate::rows::set_potentials;
-use cert_format::{Expect, LineFault, LineKind, read_line};
+use cert_format::{Expect, LineKind, fault_is_refused, read_line};
 use dossier_laws::minutes_are_permitted;
 use dossier_terms::Reason;
 use field_table::LineWords;
@@ -63,17 +63,6 @@ pub struct LeafReader {
     due: LeafDue,
 }
 
-/// The reason that tells a fault of a line.
-fn reason_of(fault: LineFault) -> Reason
-    ensures { result ≡ reason_for fault }
-{
-    match fault {
-        LineFault::Shape => Reason::Shape,
-        LineFault::Number => Reason::Number,
-        LineFault::Name => Reason::Name,
-    }
-}
-
 impl LeafReader {
     /// A reader with room for each leaf over the instance; no other call takes memory.
     pub fn open(alloc: Global, limits: &Limits<'_>) -> Result<LeafReader, AllocError>
@@ -120,10 +109,11 @@ impl LeafReader {
         ensures ready { IsReady limits.now.limits self.new }
         ensures tells { (a : Place) → IsGoalAt a limits.now.limits goal → Tells a (price_row a words.entry) result self.new }
     {
+        fault_is_refused();
         let tasks = limits.instance().tasks() as u32;
         let kind = match read_line(Expect::Price { tasks }, words) {
             Ok(kind) => kind,
-            Err(fault) => return LeafStep::No(reason_of(fault)),
+            Err(fault) => return LeafStep::No(fault.reason()),
         };
         let LineKind::Price { prices } = kind else {
             unreachable!()
@@ -148,10 +138,11 @@ impl LeafReader {
             → IsRowDue (has_required limits.now.limits) (tasks_in limits.now.limits) rows task js
             → Tells a (extra_row a prices rows task js words.entry) result self.new }
     {
+        fault_is_refused();
         let count = required_count(limits, task);
         let kind = match read_line(Expect::Extra { task, count }, words) {
             Ok(kind) => kind,
-            Err(fault) => return LeafStep::No(reason_of(fault)),
+            Err(fault) => return LeafStep::No(fault.reason()),
         };
         let LineKind::Extra { prices, .. } = kind else {
             unreachable!()
@@ -194,10 +185,11 @@ impl LeafReader {
             → HasRead limits.now.limits self.old leaf → length leaf.tables ≡ team → team + suc left ≡ teams_in limits.now.limits
             → Tells a (worth_row a leaf.prices leaf.extras leaf.tables left words.entry) result self.new }
     {
+        fault_is_refused();
         minutes_are_permitted();
         let kind = match read_line(Expect::Worth, words) {
             Ok(kind) => kind,
-            Err(fault) => return LeafStep::No(reason_of(fault)),
+            Err(fault) => return LeafStep::No(fault.reason()),
         };
         let LineKind::Worth { sigma } = kind else {
             unreachable!()
@@ -226,13 +218,14 @@ impl LeafReader {
             → IsRowDue (has_minutes limits.now.limits team) (tasks_in limits.now.limits) table.phi task js
             → Tells a (phi_row a leaf.prices leaf.extras leaf.tables left table.worth table.phi task js words.entry) result self.new }
     {
+        fault_is_refused();
         minutes_are_permitted();
         let Some((first, count)) = counted_minutes(limits, team, task) else {
             unreachable!()
         };
         let kind = match read_line(Expect::Phi { task, count }, words) {
             Ok(kind) => kind,
-            Err(fault) => return LeafStep::No(reason_of(fault)),
+            Err(fault) => return LeafStep::No(fault.reason()),
         };
         let LineKind::Phi { values, .. } = kind else {
             unreachable!()

@@ -4,13 +4,13 @@ use Rattle.crew_terms.specs.Leaf.{IsPrice}
 use Rattle.cert_format.specs.Lines.{IsFaultOf, IsExtraLine}
 use Rattle.cert_format.specs.declared.kinds.Expect.TheVariants as expected
 use Rattle.dossier_terms.specs.Dossier.{required_teams}
-use Rattle.dossier_terms.specs.Reading.{No as Refuses, limits_of}
+use Rattle.dossier_terms.specs.Reading.{No as Refuses, limits_of, Extras}
 use Rattle.dossier_terms.specs.Table.{AreNumbers, after_extra, extra_row}
 use Rattle.leaf_check.specs.Keys.{IsNextKey}
 use Rattle.leaf_check.specs.Reader.{HasRead, TellsNo, priced_leaf}
 use Rattle.leaf_check.specs.declared.reader.LeafReader.{LeafReader}
 use Rattle.leaf_check.proofs.Listed.{left_after}
-use Rattle.leaf_check.proofs.Lines.{extra_fault, extra_read}
+use Rattle.leaf_check.proofs.Lines.{extra_read}
 use Rattle.leaf_check.proofs.Read.{more_prices}
 use Rattle.leaf_check.proofs.Told.{tells_rest}
 use Rattle.leaf_check.proofs.reader.LeafReader.extra_line.Goals as goal
@@ -18,8 +18,8 @@ use Rattle.leaf_check.proofs.reader.LeafReader.extra_line.Goals as goal
 pub returns-in-Err-clause-tells : goal.returns-in-Err-clause-tells
 returns-in-Err-clause-tells c = λ a prices rows js g read row.
     let up : c.required_count-count.result ≡ length (required_teams (limits_of a) c.args.task) = c.required_count-count.ensures ∙ ap (λ m. length (required_teams m c.args.task)) (sym g.limits) in
-    TellsNo c.reason_of.result (subst (λ r. extra_row a prices rows c.args.task js c.args.words (Refuses r)) (sym c.reason_of.ensures)
-    (extra_fault a prices rows c.args.task js c.args.words c.in-Err.fault (subst (λ m. IsFaultOf (expected.Extra c.args.task m) c.args.words c.in-Err.fault) up c.in-Err.ensures))) refl
+    TellsNo c.reason.result (subst (λ r. extra_row a prices rows c.args.task js c.args.words (Refuses r)) (sym c.reason.ensures)
+    (c.fault_is_refused.ensures (Extras a prices rows c.args.task js) c.args.words c.in-Err.fault (subst (λ m. IsFaultOf (expected.Extra c.args.task m) c.args.words c.in-Err.fault) up c.in-Err.ensures))) refl
 
 pub returns-clause-tells : goal.returns-clause-tells
 returns-clause-tells c = λ a prices rows js g read row.

@@ -3,13 +3,13 @@ use Rattle.crew_terms.specs.Limits.{tasks_in}
 use Rattle.cert_format.specs.Lines.{IsFaultOf, IsPhiLine}
 use Rattle.cert_format.specs.declared.kinds.Expect.TheVariants as expected
 use Rattle.dossier_terms.specs.Dossier.{Potentials, IsSigned, minute_count}
-use Rattle.dossier_terms.specs.Reading.{No as Refuses, limits_of}
+use Rattle.dossier_terms.specs.Reading.{No as Refuses, limits_of, Phis}
 use Rattle.dossier_terms.specs.Table.{AreNumbers, after_phi, phi_row}
 use Rattle.leaf_check.specs.Keys.{AreCounted, IsNextKey, has_minutes}
 use Rattle.leaf_check.specs.Reader.{HasRead, HasPotentials, TellsNo, below_next}
 use Rattle.leaf_check.specs.declared.reader.LeafReader.{LeafReader}
 use Rattle.leaf_check.proofs.Listed.{left_after}
-use Rattle.leaf_check.proofs.Lines.{phi_fault, phi_read}
+use Rattle.leaf_check.proofs.Lines.{phi_read}
 use Rattle.leaf_check.proofs.Minutes.{one_more}
 use Rattle.leaf_check.proofs.Told.{tells_rest}
 use Rattle.leaf_check.proofs.reader.LeafReader.phi_line.Goals as goal
@@ -20,8 +20,8 @@ returns-in-Err-clause-tells c = λ a leaf left table js g read count teams poten
     let task = c.args.task in
     let up : c.in-Some.count ≡ minute_count (limits_of a) (length leaf.tables) task =
     c.in-Some.ensures.minutes.counted ∙ ap (λ m. minute_count m c.args.team task) (sym g.limits) ∙ ap (λ k. minute_count (limits_of a) k task) (sym count) in
-    TellsNo c.reason_of.result (subst (λ r. phi_row a leaf.prices leaf.extras leaf.tables left table.worth table.phi task js c.args.words (Refuses r)) (sym c.reason_of.ensures)
-    (phi_fault a leaf.prices leaf.extras leaf.tables left table.worth table.phi task js c.args.words c.in-Err.fault
+    TellsNo c.reason.result (subst (λ r. phi_row a leaf.prices leaf.extras leaf.tables left table.worth table.phi task js c.args.words (Refuses r)) (sym c.reason.ensures)
+    (c.fault_is_refused.ensures (Phis a leaf.prices leaf.extras leaf.tables left table.worth table.phi task js) c.args.words c.in-Err.fault
     (subst (λ m. IsFaultOf (expected.Phi task m) c.args.words c.in-Err.fault) up c.in-Err.ensures))) refl
 
 pub set_potentials-requires-clause-minutes : goal.set_potentials-requires-clause-minutes

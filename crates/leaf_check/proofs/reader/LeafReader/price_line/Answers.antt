@@ -4,12 +4,12 @@ use Rattle.crew_terms.specs.Leaf.{IsPrice}
 use Rattle.cert_format.specs.Lines.{IsFaultOf, IsPriceLine}
 use Rattle.cert_format.specs.declared.kinds.Expect.TheVariants as expected
 use Rattle.dossier_terms.specs.Dossier.{priced}
-use Rattle.dossier_terms.specs.Reading.{No as Refuses, limits_of}
+use Rattle.dossier_terms.specs.Reading.{No as Refuses, limits_of, Prices}
 use Rattle.dossier_terms.specs.Table.{AreNumbers, after_extra, price_row}
 use Rattle.leaf_check.specs.Reader.{HasRead, Tells, TellsNo, priced_leaf}
 use Rattle.leaf_check.specs.declared.reader.LeafReader.{LeafReader}
 use Rattle.leaf_check.proofs.Listed.{left_first}
-use Rattle.leaf_check.proofs.Lines.{price_fault, price_read}
+use Rattle.leaf_check.proofs.Lines.{price_read}
 use Rattle.leaf_check.proofs.Read.{first_prices}
 use Rattle.leaf_check.proofs.Told.{tells_rest}
 use Rattle.leaf_check.proofs.reader.LeafReader.price_line.Goals as goal
@@ -17,8 +17,8 @@ use Rattle.leaf_check.proofs.reader.LeafReader.price_line.Goals as goal
 pub returns-in-Err-clause-tells : goal.returns-in-Err-clause-tells
 returns-in-Err-clause-tells c = λ a g.
     let up : c.tasks-tasks.result ≡ tasks_in (limits_of a) = c.tasks-tasks.ensures.count ∙ ap (λ i. length i.tasks) c.instance.ensures.instance ∙ ap tasks_in (sym g.limits) in
-    TellsNo c.reason_of.result (subst (λ r. price_row a c.args.words (Refuses r)) (sym c.reason_of.ensures)
-    (price_fault a c.args.words c.in-Err.fault (subst (λ m. IsFaultOf (expected.Price m) c.args.words c.in-Err.fault) up c.in-Err.ensures))) refl
+    TellsNo c.reason.result (subst (λ r. price_row a c.args.words (Refuses r)) (sym c.reason.ensures)
+    (c.fault_is_refused.ensures (Prices a) c.args.words c.in-Err.fault (subst (λ m. IsFaultOf (expected.Price m) c.args.words c.in-Err.fault) up c.in-Err.ensures))) refl
 
 pub returns-clause-tells : goal.returns-clause-tells
 returns-clause-tells c = λ a g.

@@ -5,13 +5,13 @@ use Rattle.std.proofs.lemmas.Int.{to_z-of_z}
 use Rattle.crew_terms.specs.Limits.{tasks_in}
 use Rattle.cert_format.specs.Lines.{IsWorthLine}
 use Rattle.dossier_terms.specs.Dossier.{Potentials, open_tasks}
-use Rattle.dossier_terms.specs.Reading.{No as Refuses, limits_of}
+use Rattle.dossier_terms.specs.Reading.{No as Refuses, limits_of, Worths}
 use Rattle.dossier_terms.specs.Table.{after_phi, worth_row}
 use Rattle.leaf_check.specs.Keys.{has_minutes}
 use Rattle.leaf_check.specs.Reader.{HasRead, HasPotentials, Tells, TellsNo, below_next}
 use Rattle.leaf_check.specs.declared.reader.LeafReader.{LeafReader}
 use Rattle.leaf_check.proofs.Listed.{left_first}
-use Rattle.leaf_check.proofs.Lines.{worth_fault, worth_read}
+use Rattle.leaf_check.proofs.Lines.{worth_read}
 use Rattle.leaf_check.proofs.Minutes.{none_yet}
 use Rattle.leaf_check.proofs.Read.{more_worths}
 use Rattle.leaf_check.proofs.Told.{tells_rest}
@@ -19,8 +19,8 @@ use Rattle.leaf_check.proofs.reader.LeafReader.worth_line.Goals as goal
 
 pub returns-in-Err-clause-tells : goal.returns-in-Err-clause-tells
 returns-in-Err-clause-tells c = λ a leaf left g read count teams.
-    TellsNo c.reason_of.result (subst (λ r. worth_row a leaf.prices leaf.extras leaf.tables left c.args.words (Refuses r)) (sym c.reason_of.ensures)
-    (worth_fault a leaf.prices leaf.extras leaf.tables left c.args.words c.in-Err.fault c.in-Err.ensures)) refl
+    TellsNo c.reason.result (subst (λ r. worth_row a leaf.prices leaf.extras leaf.tables left c.args.words (Refuses r)) (sym c.reason.ensures)
+    (c.fault_is_refused.ensures (Worths a leaf.prices leaf.extras leaf.tables left) c.args.words c.in-Err.fault c.in-Err.ensures)) refl
 
 pub returns-clause-tells : goal.returns-clause-tells
 returns-clause-tells c = λ a leaf left g read count teams.

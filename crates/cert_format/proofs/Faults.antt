@@ -1,0 +1,118 @@
+-- a fault of the line that is due is told by its row of the table
+use Rattle.std.proofs.Common.{◌≡◌, ℕ, true, false, List, [], ◌∷◌, length, map, ap, sym, refl, ◌∙◌, arith, ◌⊎◌, inl, inr}
+use Rattle.std.specs.Prelude.{pos, codes}
+use Rattle.std.specs.Str.{bytes_eq}
+use Rattle.std.proofs.lemmas.Slice.Eq.{bytes_eq-Decides}
+use Rattle.std.proofs.lemmas.Bool.{cases_Bool}
+use Rattle.crew_terms.specs.Words.{Words}
+use Rattle.dossier_terms.specs.Rules.{Holds, Fails, Unspelled, Then, Else, IsShape, Begins}
+use Rattle.dossier_terms.specs.Reading.{Reading, No as Refuses, Form, Sizes, Places, Travels, Teams, Tasks, Pools, Routes, Plans, Jobs, Trees, Nodes, Prices, Extras, Worths, Phis, Ends}
+use Rattle.dossier_terms.specs.Table.{Says}
+use Rattle.std.specs.List.{flat_map}
+use Rattle.cert_format.specs.Fields.{visit_numbers}
+use Rattle.cert_format.specs.Lines.{IsFaultOf, HasNodeShape, WindowShape, PairShape, BareShape, OpenShape, ClosedShape}
+use Rattle.cert_format.specs.declared.kinds.LineKind.TheVariants as kinds
+use Rattle.cert_format.specs.declared.kinds.LineFault.{LineFault}
+use Rattle.cert_format.specs.declared.kinds.LineFault.TheVariants.{Shape, Number, Name}
+use Rattle.cert_format.specs.Expected.{expect_of, reason_for}
+
+-- whether a line begins with a word
+begins : (w : List ℕ) (ws : Words) → Begins w ws ⊎ (Begins w ws → ⊥)
+begins w [] = inr (λ b. let e = b.1 in cc)
+begins w (x ∷ ws) = at (cases_Bool (bytes_eq x w))
+  where
+    at : (bytes_eq x w ≡ true) ⊎ (bytes_eq x w ≡ false) → Begins w (x ∷ ws) ⊎ (Begins w (x ∷ ws) → ⊥)
+    at (inl e) = inl (ws, ap (λ y. y ∷ ws) ((bytes_eq-Decides x w).0 e))
+    at (inr e) = inr (λ b. let f : x ≡ w = (let g = b.1 in cc) in let h : bytes_eq x w ≡ true = (bytes_eq-Decides x w).1 f in let i : true ≡ false = sym h ∙ e in cc)
+
+-- whether a line is a word and one more
+is_pair : (w : List ℕ) (ws : Words) → IsShape w 1 ws ⊎ (IsShape w 1 ws → ⊥)
+is_pair w [] = inr (λ s. let e = s.1 in cc)
+is_pair w (x ∷ []) = inr (λ s. let n : length s.0 ≡ 1 = s.2 in let e : [] ≡ s.0 = (let g = s.1 in cc) in let f : length {A = List ℕ} [] ≡ length s.0 = ap length e in absurd (omega arith))
+is_pair w (x ∷ y ∷ []) = at (begins w (x ∷ y ∷ []))
+  where
+    at : Begins w (x ∷ y ∷ []) ⊎ (Begins w (x ∷ y ∷ []) → ⊥) → IsShape w 1 (x ∷ y ∷ []) ⊎ (IsShape w 1 (x ∷ y ∷ []) → ⊥)
+    at (inl b) = inl (b.0, b.1, (let e : y ∷ [] ≡ b.0 = (let g = b.1 in cc) in let f = ap length e in omega arith))
+    at (inr b) = inr (λ s. b (s.0, s.1))
+is_pair w (x ∷ y ∷ z ∷ ws) = inr (λ s. let n : length s.0 ≡ 1 = s.2 in let e : y ∷ z ∷ ws ≡ s.0 = (let g = s.1 in cc) in let f = ap length e in absurd (omega arith))
+
+-- a line doesn't begin with two words
+not_both : (v w : List ℕ) (ws : Words) → (v ≡ w → ⊥) → Begins v ws → Begins w ws → ⊥
+not_both v w ws differ a b = differ (let e = a.1 in let f = b.1 in cc)
+
+pair_not_window : codes "pair" ≡ codes "window" → ⊥
+pair_not_window e = let f : ◌≡◌ {A = ℕ} 112 119 = cc in absurd (omega arith)
+
+pub fault_says : (due : Reading) (ws : Words) (fault : LineFault) → IsFaultOf (expect_of due) ws fault → Says due ws (Refuses (reason_for fault))
+fault_says Form ws Shape h = Fails h refl
+fault_says Form ws Number h = absurd (h.2 kinds.Form h.0)
+fault_says Form ws Name h = absurd (h.1 tt)
+fault_says Sizes ws Shape h = Fails h refl
+fault_says Sizes ws Number h = Holds h.0 (Unspelled (λ z fits is. h.2 (kinds.Size z.teams z.tasks z.places z.nodes) (fits, is)) refl)
+fault_says Sizes ws Name h = absurd (h.1 tt)
+fault_says (Places z k i) ws Shape h = Fails h refl
+fault_says (Places z k i) ws Number h = absurd (h.2 (kinds.Place h.1.0) (h.1.1, h.1.2))
+fault_says (Places z k i) ws Name h = Holds h.0 (Unspelled (λ name fits is. h.1 (name, fits, is)) refl)
+fault_says (Travels z k i) ws Shape h = Fails h refl
+fault_says (Travels z k i) ws Number h = Holds h.0 (Unspelled (λ row fits is. h.2 (kinds.Travel (map pos row)) (row, refl, fits, is)) refl)
+fault_says (Travels z k i) ws Name h = absurd (h.1 tt)
+fault_says (Teams z k i) ws Shape h = Fails h refl
+fault_says (Teams z k i) ws Number h = Holds h.0 (Holds h.1 (Unspelled (λ p fits is. h.2 (kinds.Team p.0.name p.0.home p.0.from p.0.until (map pos p.1))
+    (p.1, refl, record { name = fits.name; home = fits.home; from = fits.from; until = fits.until; none = refl; skills = fits.skills }, is)) refl))
+fault_says (Teams z k i) ws Name h = Holds h.0 (Fails h.1 refl)
+fault_says (Tasks z k i) ws Shape h = Fails h refl
+fault_says (Tasks z k i) ws Number h = Holds h.0 (Holds h.1 (Unspelled (λ p fits is. h.2 (kinds.Task p.0.name p.0.place p.0.earliest p.0.latest p.0.minutes p.0.teams (map pos p.1))
+    (p.1, refl, record { name = fits.name; place = fits.place; earliest = fits.earliest; latest = fits.latest; some_minutes = fits.some_minutes; minutes = fits.minutes; some_teams = fits.some_teams; teams = fits.teams; none = refl; skills = fits.skills }, is)) refl))
+fault_says (Tasks z k i) ws Name h = Holds h.0 (Fails h.1 refl)
+fault_says (Pools i budget) ws Shape h = Fails h refl
+fault_says (Pools i budget) ws Number h = Holds h.0 (Unspelled (λ p fits is. h.2 (kinds.Pool (pos p.0) (pos p.1)) (p.0, p.1, refl, refl, fits.0, fits.1, is)) refl)
+fault_says (Pools i budget) ws Name h = absurd (h.1 tt)
+fault_says (Routes b k) ws Shape h = Fails h refl
+fault_says (Routes b k) ws Number h = Holds h.0 (Unspelled (λ r fits is. h.2 (kinds.Route r.team (map pos (flat_map visit_numbers r.visits)))
+    (r.visits, refl, record { team = fits.team; some = fits.some; tasks = fits.tasks; starts = fits.starts }, is)) refl)
+fault_says (Routes b k) ws Name h = absurd (h.1 tt)
+fault_says (Plans b) ws Shape h = Fails h refl
+fault_says (Plans b) ws Number h = Holds h.0 (Unspelled (λ p fits is. h.2 (kinds.Plan p.0 p.1) (fits.0, fits.1, is)) refl)
+fault_says (Plans b) ws Name h = absurd (h.1 tt)
+fault_says (Jobs b k from) ws Shape h = Fails h refl
+fault_says (Jobs b k from) ws Number h = Holds h.0 (Unspelled (λ p fits is. h.2 (kinds.Job p.0 p.1.start (map pos p.1.teams))
+    (p.1.teams, refl, record { task = fits.task; start = fits.start; teams = fits.teams }, is)) refl)
+fault_says (Jobs b k from) ws Name h = absurd (h.1 tt)
+fault_says (Trees b) ws Shape h = Fails h refl
+fault_says (Trees b) ws Number h = Holds h.0 (Unspelled (λ c fits is. h.2 (kinds.Tree c.splits c.closed c.left_open c.depth) (fits, is)) refl)
+fault_says (Trees b) ws Name h = absurd (h.1 tt)
+fault_says (Nodes b c above) ws Shape h = elim (begins (codes "window") ws) [
+  | inl w ↦ Then w (Fails (λ s. h (WindowShape s)) refl)
+  | inr w ↦ Else w (elim (begins (codes "pair") ws) [
+    | inl p ↦ Then p (Fails (λ s. h (PairShape s)) refl)
+    | inr p ↦ Else p (elim (is_pair (codes "leaf") ws) [
+      | inl s ↦ Holds s (Else (λ e. h (BareShape e)) (Else (λ e. h (OpenShape e)) (Fails (λ e. h (ClosedShape e)) refl)))
+      | inr s ↦ Fails s refl
+    ])
+  ])
+]
+fault_says (Nodes b c above) ws Number h = at h.0
+  where
+    at : HasNodeShape ws → Says (Nodes b c above) ws (Refuses (reason_for Number))
+    at (WindowShape s) = Then (s.0, s.1) (Holds s (Unspelled (λ p fits is. h.2 (kinds.Window p.0 p.1) (fits.0, fits.1, is)) refl))
+    at (PairShape s) = Else (not_both (codes "pair") (codes "window") ws pair_not_window (s.0, s.1))
+        (Then (s.0, s.1) (Holds s (Unspelled (λ p fits is. h.2 (kinds.Pair p.0 p.1) (fits.0, fits.1, is)) refl)))
+    at (BareShape e) = absurd (h.2 kinds.LeafBare e)
+    at (OpenShape e) = absurd (h.2 kinds.LeafOpen e)
+    at (ClosedShape e) = absurd (h.2 kinds.LeafClosed e)
+fault_says (Nodes b c above) ws Name h = absurd (h.1 tt)
+fault_says (Prices a) ws Shape h = Fails h refl
+fault_says (Prices a) ws Number h = Holds h.0 (Unspelled (λ vs fits is. h.2 (kinds.Price vs) (fits, is)) refl)
+fault_says (Prices a) ws Name h = absurd (h.1 tt)
+fault_says (Extras a prices rows j js) ws Shape h = Fails h refl
+fault_says (Extras a prices rows j js) ws Number h = Holds h.0 (Unspelled (λ vs fits is. h.2 (kinds.Extra j vs) (refl, fits, is)) refl)
+fault_says (Extras a prices rows j js) ws Name h = absurd (h.1 tt)
+fault_says (Worths a prices extras tables k) ws Shape h = Fails h refl
+fault_says (Worths a prices extras tables k) ws Number h = Holds h.0 (Unspelled (λ v fits is. h.2 (kinds.Worth v) (fits, is)) refl)
+fault_says (Worths a prices extras tables k) ws Name h = absurd (h.1 tt)
+fault_says (Phis a prices extras tables k worth rows j js) ws Shape h = Fails h refl
+fault_says (Phis a prices extras tables k worth rows j js) ws Number h = Holds h.0 (Unspelled (λ vs fits is. h.2 (kinds.Phi j vs) (refl, fits, is)) refl)
+fault_says (Phis a prices extras tables k worth rows j js) ws Name h = absurd (h.1 tt)
+fault_says (Ends b c t) ws Shape h = Fails h refl
+fault_says (Ends b c t) ws Number h = absurd (h.2 kinds.End h.0)
+fault_says (Ends b c t) ws Name h = absurd (h.1 tt)

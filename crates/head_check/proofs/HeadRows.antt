@@ -1,0 +1,162 @@
+-- the rows of the table for the lines of an instance
+use Rattle.std.proofs.Common.{◌≡◌, ◌≤◌, ◌<◌, ◌-◌, ◌++◌, ℕ, zero, suc, List, [], ◌∷◌, length, map, get_or, ap, subst, sym, refl, ◌∙◌, arith, ◌⊎◌, inl, inr, Some, length-append}
+use Rattle.std.proofs.Math.ListN.{get_or-append}
+use Rattle.std.specs.Prelude.{pos, codes, All, Any, slice_index_or}
+use Rattle.std.specs.List.{range_with_len}
+use Rattle.std.specs.Fmt.{decimal}
+use Rattle.std.specs.List.Sorted.{IsStrictlyIncreasing}
+use Rattle.std.proofs.Math.Seq.{get_or-append_seam}
+use Rattle.std.proofs.lemmas.Bool.{cases_lt}
+use Rattle.std.proofs.lemmas.List.{ext_get_or, get_or_default, length-map}
+use Rattle.std.proofs.lemmas.List.FromFn.{length-map-range_with_len, get_or-map-range_with_len}
+use Rattle.crew_terms.specs.Words.{Words}
+use Rattle.crew_terms.specs.Name.{IsName}
+use Rattle.crew_terms.specs.Instance.{Instance}
+use Rattle.crew_terms.specs.declared.Team.{Team}
+use Rattle.crew_terms.specs.declared.Task.{Task}
+use Rattle.crew_instance.specs.Draft.{Draft as Parts, time_of, minutes_of, minutes_from}
+use Rattle.dossier_terms.specs.declared.Size.{Size}
+use Rattle.dossier_terms.specs.declared.Reason.TheVariants.{Name, Instance as BadInstance}
+use Rattle.dossier_terms.specs.Dossier.{mask_of}
+use Rattle.dossier_terms.specs.Lines.{size_line, place_line, travel_line, team_words, task_words}
+use Rattle.dossier_terms.specs.Reading.{Said, More as Goes, nothing, places_due, teams_due, tasks_due}
+use Rattle.dossier_terms.specs.Rules.{Must, Holds, Fails, Spelled, Goes as GoesTo, On, IsShape}
+use Rattle.dossier_terms.specs.Table.{IsSize, IsTravel, IsTeamLine, IsTaskLine, IsNewTeam, IsNewTask, size_row, place_row, travel_row, team_row, task_row}
+use Rattle.head_check.specs.Head.{parts_of, SetsRow}
+use Rattle.head_check.specs.Rows.{after_place, after_travel, after_team, after_task}
+
+-- ---- rows of travel times
+
+rows_same : (f g : ℕ → List ℕ) (r : ℕ) → ((a : ℕ) → a < r → f a ≡ g a) → map f (range_with_len 0 r) ≡ map g (range_with_len 0 r)
+rows_same f g r h = ext_get_or [] (map f (range_with_len 0 r)) (map g (range_with_len 0 r))
+    (length-map-range_with_len f 0 r ∙ sym (length-map-range_with_len g 0 r))
+    (λ i l. let b : i < r = (let n = length-map-range_with_len f 0 r in omega arith) in
+    get_or-map-range_with_len f 0 r i i [] b (omega arith) ∙ h i b ∙ sym (get_or-map-range_with_len g 0 r i i [] b (omega arith)))
+
+row_more : (f : ℕ → List ℕ) (r : ℕ) → map f (range_with_len 0 (suc r)) ≡ map f (range_with_len 0 r) ++ f r ∷ []
+row_more f r = ext_get_or [] (map f (range_with_len 0 (suc r))) (map f (range_with_len 0 r) ++ f r ∷ [])
+    (length-map-range_with_len f 0 (suc r) ∙ (let n = length-map-range_with_len f 0 r in let m = length-append (map f (range_with_len 0 r)) (f r ∷ []) in omega arith))
+    (λ i l. at i (let n = length-map-range_with_len f 0 (suc r) in omega arith) (cases_lt i r))
+  where
+    at : (i : ℕ) → i < suc r → (i < r) ⊎ (r ≤ i) → get_or (map f (range_with_len 0 (suc r))) i [] ≡ get_or (map f (range_with_len 0 r) ++ f r ∷ []) i []
+    at i l (inl b) =
+        let n = length-map-range_with_len f 0 r in
+        get_or-map-range_with_len f 0 (suc r) i i [] l (omega arith) ∙ sym (get_or-map-range_with_len f 0 r i i [] b (omega arith))
+        ∙ sym (get_or-append (map f (range_with_len 0 r)) (f r ∷ []) [] i (omega arith))
+    at i l (inr b) =
+        let e : length (map f (range_with_len 0 r)) ≡ i = length-map-range_with_len f 0 r ∙ omega arith in
+        get_or-map-range_with_len f 0 (suc r) i r [] l (omega arith)
+        ∙ sym (get_or-append_seam (map f (range_with_len 0 r)) (f r) [] []) ∙ ap (λ n. get_or (map f (range_with_len 0 r) ++ f r ∷ []) n []) e
+
+given_row : (d : Parts) (a : ℕ) (row : List ℕ) → length d.places ≡ length row → ((y : ℕ) → y < length row → time_of d a y ≡ Some (get_or row y 0)) → minutes_from d a ≡ row
+given_row d a row n h = ext_get_or 0 (minutes_from d a) row (length-map-range_with_len (λ b. minutes_of d a b) 0 (length d.places) ∙ n)
+    (λ i l. let b : i < length d.places = (let m = length-map-range_with_len (λ b. minutes_of d a b) 0 (length d.places) in omega arith) in
+    get_or-map-range_with_len (λ b. minutes_of d a b) 0 (length d.places) i i 0 b (omega arith) ∙ at i (omega arith))
+  where
+    at : (i : ℕ) → i < length row → minutes_of d a i ≡ get_or row i 0
+    at i l = rw (h i l)
+
+number_at : (row : List ℕ) (y : ℕ) → y < length row → slice_index_or (map pos row) y (pos 0) ≡ pos (get_or row y 0)
+number_at [] y l = absurd (omega arith)
+number_at (n ∷ row) zero l = refl
+number_at (n ∷ row) (suc y) l = number_at row y (omega arith)
+
+-- the parts after one row of travel times more
+pub travel_parts : (old new : Parts) (r : ℕ) (row : List ℕ) → SetsRow old new r (map pos row) → length old.places ≡ length row
+    → parts_of new (suc r) ≡ record (parts_of old r) { travel = (parts_of old r).travel ++ row ∷ [] }
+travel_parts old new r row h n =
+    let places : new.places ≡ old.places = ap (λ (d : Parts). d.places) h.parts in
+    let teams : new.teams ≡ old.teams = ap (λ (d : Parts). d.teams) h.parts in
+    let tasks : new.tasks ≡ old.tasks = ap (λ (d : Parts). d.tasks) h.parts in
+    let standard : new.default_minutes ≡ old.default_minutes = ap (λ (d : Parts). d.default_minutes) h.parts in
+    let last : minutes_from new r ≡ row = given_row new r row (ap length places ∙ n) (λ y l.
+    let s = h.set y (let m = length-map row pos in omega arith) in
+    let e : pos (get_or row y 0) ≡ pos s.0 = sym (number_at row y l) ∙ s.1 in
+    let f : s.0 ≡ get_or row y 0 = cc in s.2 ∙ ap Some f) in
+    let before : map (minutes_from new) (range_with_len 0 r) ≡ map (minutes_from old) (range_with_len 0 r) =
+    rows_same (minutes_from new) (minutes_from old) r (λ a l. same_row old new a places standard (λ y. h.others a y (λ e. absurd (omega arith)))) in
+    let travel : map (minutes_from new) (range_with_len 0 (suc r)) ≡ map (minutes_from old) (range_with_len 0 r) ++ row ∷ [] =
+    row_more (minutes_from new) r ∙ ap (λ x. map (minutes_from new) (range_with_len 0 r) ++ x ∷ []) last ∙ ap (λ x. x ++ row ∷ []) before in
+    four new.places old.places places new.teams old.teams teams new.tasks old.tasks tasks _ _ travel
+  where
+    four : (a b : List (List ℕ)) → a ≡ b → (c d : List Team) → c ≡ d → (e f : List Task) → e ≡ f → (g h : List (List ℕ)) → g ≡ h
+        → ◌≡◌ {A = Instance} (record { places = a; teams = c; tasks = e; travel = g }) (record { places = b; teams = d; tasks = f; travel = h })
+    four a b p c d q e f r g h s = cc
+
+    same_row : (old new : Parts) (a : ℕ) → new.places ≡ old.places → new.default_minutes ≡ old.default_minutes
+        → ((y : ℕ) → time_of new a y ≡ time_of old a y) → minutes_from new a ≡ minutes_from old a
+    same_row old new a p s h = ext_get_or 0 (minutes_from new a) (minutes_from old a)
+        (length-map-range_with_len (λ b. minutes_of new a b) 0 (length new.places) ∙ ap length p ∙ sym (length-map-range_with_len (λ b. minutes_of old a b) 0 (length old.places)))
+        (λ i l. let b : i < length new.places = (let m = length-map-range_with_len (λ b. minutes_of new a b) 0 (length new.places) in omega arith) in
+        let c : i < length old.places = (let e = ap length p in omega arith) in
+        get_or-map-range_with_len (λ b. minutes_of new a b) 0 (length new.places) i i 0 b (omega arith)
+        ∙ minutes i ∙ sym (get_or-map-range_with_len (λ b. minutes_of old a b) 0 (length old.places) i i 0 c (omega arith)))
+      where
+        minutes : (y : ℕ) → minutes_of new a y ≡ minutes_of old a y
+        minutes y = rw (h y, s)
+
+-- ---- one row after another, for the fields that the line spells
+
+pub size_more : (ws : Words) (z : Size) (said : Said) → IsSize z → ws ≡ size_line z → said ≡ Goes (places_due z z.places nothing) → size_row ws said
+size_more ws z said fits is e = Holds (_, is, refl) (Spelled z fits is (On e))
+
+place_shape : (ws : Words) (name : List ℕ) → ws ≡ place_line name → IsShape (codes "place") 1 ws
+place_shape ws name is = (name ∷ [], is, refl)
+
+-- the rules of a team after its words
+abbrev pub team_rest : Size → ℕ → Instance → Team × List ℕ → Said → Type 0
+team_rest z k i p = Must (IsNewTeam i.teams p.0) Name
+    (Must ((p.0.from < p.0.until) × IsStrictlyIncreasing p.1) BadInstance
+    (GoesTo (teams_due z k (record i { teams = i.teams ++ record p.0 { skills = mask_of p.1 } ∷ [] }))))
+
+pub team_says : (z : Size) (k : ℕ) (i : Instance) (ws : Words) (p : Team × List ℕ) (said : Said) → IsTeamLine z.places p → ws ≡ team_words p
+    → team_rest z k i p said → team_row z k i ws said
+team_says z k i ws p said fits is rest = Holds (_, is, omega arith)
+    (Holds (subst (λ w. IsName (slice_index_or w 1 [])) (sym is) fits.name) (Spelled p fits is rest))
+
+-- the rules of a task after its words
+abbrev pub task_rest : Size → ℕ → Instance → Task × List ℕ → Said → Type 0
+task_rest z k i p = Must (IsNewTask i.tasks p.0) Name
+    (Must ((p.0.earliest ≤ p.0.latest) × (p.0.latest - p.0.earliest ≤ 720) × IsStrictlyIncreasing p.1) BadInstance
+    (GoesTo (tasks_due z k (record i { tasks = i.tasks ++ record p.0 { skills = mask_of p.1 } ∷ [] }))))
+
+pub task_says : (z : Size) (k : ℕ) (i : Instance) (ws : Words) (p : Task × List ℕ) (said : Said) → IsTaskLine z.places p → ws ≡ task_words p
+    → task_rest z k i p said → task_row z k i ws said
+task_says z k i ws p said fits is rest = Holds (_, is, omega arith)
+    (Holds (subst (λ w. IsName (slice_index_or w 1 [])) (sym is) fits.name) (Spelled p fits is rest))
+
+-- nothing of a list has what none has
+pub none_of : {A : Type 0} (P : A → Type 0) (xs : List A) → (Any P xs → ⊥) → All (λ x. P x → ⊥) xs
+none_of P xs h = λ k d l p. h (k, get_or xs k d, l, get_or_default xs k (get_or xs k d) d l, p)
+
+pub some_of : {A : Type 0} (P : A → Type 0) (xs : List A) → Any P xs → All (λ x. P x → ⊥) xs → ⊥
+some_of P xs h all = all h.0 h.1 h.2 (subst P (sym h.3) h.4)
+
+-- the rules of a team, told by its value and whether its skills rise
+pub team_rules : (z : Size) (k : ℕ) (i : Instance) (name : List ℕ) (home from until skills : ℕ) (ss : List ℕ) (Rises : Type 0) (said : Said)
+    → (Rises → IsStrictlyIncreasing ss × (skills ≡ mask_of ss)) → ((Rises → ⊥) → IsStrictlyIncreasing ss → ⊥)
+    → after_team z k i (record { name = name; home = home; from = from; until = until; skills = skills }) Rises said
+    → team_rest z k i (record { name = name; home = home; from = from; until = until; skills = 0 }, ss) said
+team_rules z k i name home from until skills ss Rises said rise fall (Fails broken told) = Fails broken told
+team_rules z k i name home from until skills ss Rises said rise fall (Holds new (Fails broken told)) = Holds new (Fails (λ h. fall (λ r. broken (h.0, r)) h.1) told)
+team_rules z k i name home from until skills ss Rises said rise fall (Holds new (Holds fact (On e))) =
+    let y = rise fact.1 in
+    Holds new (Holds (fact.0, y.0) (On (e ∙ ap (λ s. Goes (teams_due z k (record i { teams = i.teams ++ record { name = name; home = home; from = from; until = until; skills = s } ∷ [] }))) y.1)))
+
+pub task_rules : (z : Size) (k : ℕ) (i : Instance) (name : List ℕ) (place earliest latest minutes teams skills : ℕ) (ss : List ℕ) (Rises : Type 0) (said : Said)
+    → (Rises → IsStrictlyIncreasing ss × (skills ≡ mask_of ss)) → ((Rises → ⊥) → IsStrictlyIncreasing ss → ⊥)
+    → after_task z k i (record { name = name; place = place; earliest = earliest; latest = latest; minutes = minutes; teams = teams; skills = skills }) Rises said
+    → task_rest z k i (record { name = name; place = place; earliest = earliest; latest = latest; minutes = minutes; teams = teams; skills = 0 }, ss) said
+task_rules z k i name place earliest latest minutes teams skills ss Rises said rise fall (Fails broken told) = Fails broken told
+task_rules z k i name place earliest latest minutes teams skills ss Rises said rise fall (Holds new (Fails broken told)) = Holds new (Fails (λ h. fall (λ r. broken (h.0, h.1, r)) h.2) told)
+task_rules z k i name place earliest latest minutes teams skills ss Rises said rise fall (Holds new (Holds fact (On e))) =
+    let y = rise fact.2 in
+    Holds new (Holds (fact.0, fact.1, y.0) (On (e ∙ ap (λ s. Goes (tasks_due z k (record i { tasks = i.tasks ++ record { name = name; place = place; earliest = earliest; latest = latest; minutes = minutes; teams = teams; skills = s } ∷ [] }))) y.1)))
+
+pub place_says : (z : Size) (k : ℕ) (i : Instance) (ws : Words) (name : List ℕ) (said : Said) → IsName name → ws ≡ place_line name
+    → after_place z k i name said → place_row z k i ws said
+place_says z k i ws name said fits is rest = Holds (place_shape ws name is) (Spelled name fits is rest)
+
+pub travel_says : (z : Size) (k : ℕ) (i : Instance) (ws : Words) (row : List ℕ) (said : Said) → IsTravel z.places row → ws ≡ travel_line row
+    → after_travel z k i row said → travel_row z k i ws said
+travel_says z k i ws row said fits is rest = Holds (map decimal row, is, length-map row decimal ∙ fits.count) (Spelled row fits is rest)

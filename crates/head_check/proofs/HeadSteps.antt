@@ -1,0 +1,103 @@
+-- what a builder answers, as steps of the checker
+use Rattle.std.proofs.Common.{◌≡◌, ◌≢◌, ◌≤◌, ◌<◌, ◌+◌, ◌-◌, ◌++◌, ℕ, zero, suc, List, [], ◌∷◌, length, map, ap, subst, sym, refl, ◌∙◌, arith, ◌⊎◌, inl, inr, Option, None, Some, Result, Ok, Err}
+use Rattle.std.specs.Prelude.{ℤ, pos, All, IsTrue, IfOk, MatchOption, is_some, unwrap_or}
+use Rattle.std.specs.List.Sorted.{IsStrictlyIncreasing}
+use Rattle.std.proofs.lemmas.Bool.{cases_lt, cases_eq}
+use Rattle.crew_terms.specs.declared.Team.{Team}
+use Rattle.crew_terms.specs.declared.Task.{Task}
+use Rattle.crew_instance.specs.Draft.{Draft as Parts, time_of}
+use Rattle.crew_instance.specs.Rules.{HasTeam, HasTask, TakesTeam, TakesTask, IsShift, IsWindow}
+use Rattle.dossier_terms.specs.declared.Size.{Size}
+use Rattle.dossier_terms.specs.Dossier.{mask_of}
+use Rattle.dossier_terms.specs.Reading.{More as Goes, teams_due, tasks_due}
+use Rattle.dossier_terms.specs.Rules.{Holds, On}
+use Rattle.head_check.specs.Numbers.{naturals, AreBelow}
+use Rattle.head_check.specs.Head.{IsHead, IsDue, SetsRow, Tells, parts_of}
+use Rattle.head_check.specs.Rows.{after_team, after_task, IsTaskRange}
+use Rattle.head_check.specs.declared.due.HeadDue.{HeadDue}
+use Rattle.head_check.specs.declared.due.HeadStep.TheVariants.{More}
+use Rattle.head_check.proofs.Steps.{plainly}
+use Rattle.head_check.proofs.Listed.{naturals-pos}
+use Rattle.head_check.proofs.HeadRows.{none_of}
+
+pub if_ok : {X E : Type 0} (r : Result X E) (P Q : X → Type 0) → IfOk r P → ((x : X) → P x → Q x) → IfOk r Q
+if_ok (Ok x) P Q h f = f x h
+if_ok (Err e) P Q h f = tt
+
+-- a team that is taken
+pub team_more : (z : Size) (k : ℕ) (d new : Parts) (p : ℕ) (t : Team) (Rises : Type 0) (due : HeadDue) → Rises
+    → length d.teams < 64 → length d.places ≡ p → t.home < p → t.until ≤ 2880
+    → ((length d.teams < 64) × HasTeam d t.name → ⊥)
+    → (TakesTeam d t.name × (t.home < length d.places) × (IsShift t → ⊥) → ⊥)
+    → new ≡ record d { teams = d.teams ++ t ∷ [] } → IsDue (teams_due z k (parts_of new p)) due → Tells (after_team z k (parts_of d p) t Rises) (More due)
+team_more z k d new p t Rises due rises room places home day same shift is next =
+    plainly (Holds (none_of (λ (o : Team). o.name ≡ t.name) d.teams (λ has. same (room, has)))
+    (Holds (order, rises) (On (ap Goes (next.is ∙ ap (λ x. teams_due z k (parts_of x p)) is))))) next.holds
+  where
+    order : t.from < t.until
+    order = elim (cases_lt t.from t.until) [
+      | inl l ↦ l
+      | inr l ↦ absurd (shift (record { room = room; new = λ has. same (room, has) }, (omega arith), (λ (s : IsShift t). let o = s.order in absurd (omega arith))))
+    ]
+
+-- a task that is taken
+pub task_more : (z : Size) (k : ℕ) (d new : Parts) (p : ℕ) (t : Task) (Rises : Type 0) (due : HeadDue) → Rises
+    → length d.tasks < 400 → length d.places ≡ p → IsTaskRange p t
+    → ((length d.tasks < 400) × HasTask d t.name → ⊥)
+    → (TakesTask d t.name × (t.place < length d.places) × (IsWindow t → ⊥) → ⊥)
+    → new ≡ record d { tasks = d.tasks ++ t ∷ [] } → IsDue (tasks_due z k (parts_of new p)) due → Tells (after_task z k (parts_of d p) t Rises) (More due)
+task_more z k d new p t Rises due rises room places range same window is next =
+    plainly (Holds (none_of (λ (o : Task). o.name ≡ t.name) d.tasks (λ has. same (room, has)))
+    (Holds (order, width, rises) (On (ap Goes (next.is ∙ ap (λ x. tasks_due z k (parts_of x p)) is))))) next.holds
+  where
+    bad : (IsWindow t → ⊥) → ⊥
+    bad broken = window (record { room = room; new = λ has. same (room, has) }, (let a = range.place in omega arith), broken)
+
+    order : t.earliest ≤ t.latest
+    order = elim (cases_lt t.latest t.earliest) [
+      | inl l ↦ absurd (bad (λ w. let o = w.order in absurd (omega arith)))
+      | inr l ↦ l
+    ]
+
+    width : t.latest - t.earliest ≤ 720
+    width = elim (cases_lt 720 (t.latest - t.earliest)) [
+      | inl l ↦ absurd (bad (λ w. let o = w.width in absurd (omega arith)))
+      | inr l ↦ l
+    ]
+
+-- a row of travel times more is given
+pub head_more : (z : Size) (old new : Parts) (r p more : ℕ) (times : List ℤ) → IsHead (record { size = z; builder = old }) p r 0 0
+    → SetsRow old new r times → length times ≡ p → IsHead (record { size = z; builder = new }) p (r + 1) 0 0
+head_more z old new r p more times h s n = record {
+  size = h.size;
+  places = ap (λ (d : Parts). length d.places) s.parts ∙ h.places;
+  given = λ a b l m. at a b l m (cases_eq a r);
+  teams = ap (λ (d : Parts). length d.teams) s.parts ∙ h.teams;
+  tasks = ap (λ (d : Parts). length d.tasks) s.parts ∙ h.tasks;
+}
+  where
+    at : (a b : ℕ) → a < r + 1 → b < length new.places → (a ≡ r) ⊎ (a ≢ r) → time_of new a b ≢ None
+    at a b l m (inl e) none =
+        let q = ap (λ (d : Parts). length d.places) s.parts in
+        let q' = h.places in
+        let t = s.set b (omega arith) in
+        let f : Some t.0 ≡ None = sym t.2 ∙ ap (λ x. time_of new x b) (sym e) ∙ none in cc
+    at a b l m (inr ne) none =
+        let q = ap (λ (d : Parts). length d.places) s.parts in
+        h.given a b (omega arith) (omega arith) (sym (s.others a b ne) ∙ none)
+
+pub minutes_below : (row : List ℕ) → All (λ t. t ≤ 2880) row → AreBelow 2881 (map pos row)
+minutes_below [] h k d l = absurd (omega arith)
+minutes_below (t ∷ row) h zero d l = (t, refl, (let a = h 0 0 (omega arith) in omega arith))
+minutes_below (t ∷ row) h (suc k) d l = minutes_below row (λ n x m. h (suc n) x (omega arith)) k d (omega arith)
+
+-- what a set of skills says of the list that the line spells
+pub set_facts : (skills : List ℤ) (ss : List ℕ) (set : Option ℕ) → skills ≡ map pos ss
+    → MatchOption set (IsStrictlyIncreasing (naturals skills) → ⊥) (λ s. IsStrictlyIncreasing (naturals skills) × (s ≡ mask_of (naturals skills)))
+    → (IsTrue (is_some set) → IsStrictlyIncreasing ss × (unwrap_or set 0 ≡ mask_of ss)) × ((IsTrue (is_some set) → ⊥) → IsStrictlyIncreasing ss → ⊥)
+set_facts skills ss set e h = facts set (subst (λ ns. MatchOption set (IsStrictlyIncreasing ns → ⊥) (λ s. IsStrictlyIncreasing ns × (s ≡ mask_of ns))) (ap naturals e ∙ naturals-pos ss) h)
+  where
+    facts : (set : Option ℕ) → MatchOption set (IsStrictlyIncreasing ss → ⊥) (λ s. IsStrictlyIncreasing ss × (s ≡ mask_of ss))
+        → (IsTrue (is_some set) → IsStrictlyIncreasing ss × (unwrap_or set 0 ≡ mask_of ss)) × ((IsTrue (is_some set) → ⊥) → IsStrictlyIncreasing ss → ⊥)
+    facts None h = ((λ t. absurd (cc)), (λ no r. h r))
+    facts (Some s) h = ((λ t. h), (λ no r. no refl))

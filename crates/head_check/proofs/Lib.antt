@@ -1,0 +1,5 @@
+pub mod Steps
+pub mod Listed
+pub mod HeadRows
+pub mod HeadSteps
+pub mod SetRow

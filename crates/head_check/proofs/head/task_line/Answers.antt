@@ -1,0 +1,40 @@
+use Rattle.std.proofs.Common.{sym, subst, ◌∙◌}
+use Rattle.cert_format.specs.Lines.{IsTaskOf}
+use Rattle.head_check.specs.Numbers.{AreBelow}
+use Rattle.head_check.specs.Rows.{after_task}
+use Rattle.head_check.specs.Head.{reading_of, IsStep, Tells, parts_of}
+use Rattle.std.specs.Prelude.{IsTrue}
+use Rattle.crew_terms.specs.declared.Task.{Task}
+use Rattle.head_check.specs.declared.due.HeadDue.TheVariants.{Task as TaskDue}
+use Rattle.head_check.specs.declared.due.HeadStep.TheVariants.{No}
+use Rattle.head_check.proofs.Steps.{says_step, tells_step}
+use Rattle.head_check.proofs.Listed.{below_from}
+use Rattle.head_check.proofs.HeadRows.{task_says, task_rules}
+use Rattle.head_check.proofs.HeadSteps.{if_ok, set_facts}
+use Rattle.head_check.proofs.head.task_line.Goals as goal
+
+pub returns-in-Err : goal.returns-in-Err
+returns-in-Err c =
+    let due = TaskDue c.args.head c.args.more in
+    subst (λ r. IsStep due c.args.words (No r)) (sym c.reason.ensures) (says_step due c.args.words (No _) (c.fault_is_refused.ensures (reading_of due) c.args.words c.in-Err.fault c.in-Err.ensures) tt)
+
+pub skill_set-set-requires : goal.skill_set-set-requires
+skill_set-set-requires c =
+    let h = subst (IsTaskOf c.args.head.size.places c.args.words) c.in-Task.is c.in-Ok.ensures in
+    subst (AreBelow 64) (sym h.1) (below_from 64 h.0 h.2.skills)
+
+pub returns : goal.returns
+returns c =
+    let z = c.args.head.size in
+    let h = subst (IsTaskOf z.places c.args.words) c.in-Task.is c.in-Ok.ensures in
+    let due = TaskDue c.args.head c.args.more in
+    let i = parts_of c.args.head.builder z.places in
+    let facts = set_facts c.in-Task.skills h.0 c.skill_set-set.result h.1 c.skill_set-set.ensures in
+    let spelled : Task = record { name = c.in-Task.name; place = c.in-Task.place; earliest = c.in-Task.earliest; latest = c.in-Task.latest; minutes = c.in-Task.minutes; teams = c.in-Task.teams; skills = 0 } in
+    let task : Task = record spelled { skills = c.unwrap_or-skills.result } in
+    let rules = after_task z c.args.more i task (IsTrue c.is_some.result) in
+    if_ok c.add_task.result (Tells rules) (IsStep due c.args.words) c.add_task.ensures (λ step t.
+    tells_step due c.args.words step rules (λ said rest. task_says z c.args.more i c.args.words (spelled, h.0) said h.2 h.3
+    (task_rules z c.args.more i c.in-Task.name c.in-Task.place c.in-Task.earliest c.in-Task.latest c.in-Task.minutes c.in-Task.teams c.unwrap_or-skills.result h.0 (IsTrue c.is_some.result) said
+    (λ is. let f = facts.0 (subst IsTrue c.is_some.ensures is) in (f.0, c.unwrap_or-skills.ensures ∙ f.1))
+    (λ not rise. facts.1 (λ is. not (subst IsTrue (sym c.is_some.ensures) is)) rise) rest)) t)

@@ -1,0 +1,88 @@
+-- what is held of the head of a dossier stands for what has been read of it
+use Rattle.std.specs.Prelude.{◌≡◌, ◌≢◌, ◌≤◌, ◌<◌, ◌+◌, ◌-◌, ℕ, suc, ℤ, pos, List, [], length, map, None, Some, slice_index_or}
+use Rattle.std.specs.List.{range_with_len}
+use Rattle.crew_terms.specs.Words.{Words}
+use Rattle.crew_terms.specs.Instance.{Instance}
+use Rattle.crew_instance.specs.Draft.{Draft as Parts, time_of, minutes_from}
+use Rattle.dossier_terms.specs.Reading.{Reading, Said, More as Goes, No as Refuses, Form as FormDue, Sizes, Places, Travels, Teams, Tasks, Pools}
+use Rattle.dossier_terms.specs.Table.{IsSize, Says}
+use Rattle.head_check.specs.declared.due.Head.{Head}
+use Rattle.head_check.specs.declared.due.HeadDue.{HeadDue}
+use Rattle.head_check.specs.declared.due.HeadDue.TheVariants.{Form, Size, Place, Travel, Team, Task, Whole}
+use Rattle.head_check.specs.declared.due.HeadStep.{HeadStep}
+use Rattle.head_check.specs.declared.due.HeadStep.TheVariants.{More, No}
+
+-- the parts of an instance that a builder holds, of whose travel times the first rows are read
+abbrev pub parts_of : Parts → ℕ → Instance
+parts_of d rows = record { places = d.places; teams = d.teams; tasks = d.tasks; travel = map (λ a. minutes_from d a) (range_with_len 0 rows) }
+
+-- how many rows of travel times are read where so many more come after the next
+abbrev pub rows_read : Head → ℕ → ℕ
+rows_read head more = head.size.places - suc more
+
+-- the state of the table of lines
+abbrev pub reading_of : HeadDue → Reading
+reading_of Form = FormDue
+reading_of Size = Sizes
+reading_of (Place head more) = Places head.size more (parts_of head.builder 0)
+reading_of (Travel head more) = Travels head.size more (parts_of head.builder (rows_read head more))
+reading_of (Team head more) = Teams head.size more (parts_of head.builder head.size.places)
+reading_of (Task head more) = Tasks head.size more (parts_of head.builder head.size.places)
+reading_of (Whole base) = Pools base.instance base.nodes
+
+-- a line of the head is due
+abbrev pub IsLineDue : HeadDue → Type 0
+IsLineDue (Whole base) = ⊥
+IsLineDue _ = Unit {0}
+
+-- every time of the first rows is given
+abbrev pub AreGiven : Parts → ℕ → Type 0
+AreGiven d rows = (a b : ℕ) → a < rows → b < length d.places → time_of d a b ≢ None
+
+-- what holds of a head of which p places, r rows of travel times, m teams and n tasks are read
+pub record IsHead (head : Head) (p r m n : ℕ) : Type 0 where
+  pub size : IsSize head.size
+  pub places : length head.builder.places ≡ p
+  pub given : AreGiven head.builder r
+  pub teams : length head.builder.teams ≡ m
+  pub tasks : length head.builder.tasks ≡ n
+
+-- what holds of what is held
+abbrev pub Holds : HeadDue → Type 0
+Holds Form = Unit {0}
+Holds Size = Unit {0}
+Holds (Place head more) = (p : ℕ) × (p + suc more ≡ head.size.places) × IsHead head p 0 0 0
+Holds (Travel head more) = (p : ℕ) × (p + suc more ≡ head.size.places) × IsHead head head.size.places p 0 0
+Holds (Team head more) = (p : ℕ) × (p + suc more ≡ head.size.teams) × IsHead head head.size.places head.size.places p 0
+Holds (Task head more) = (p : ℕ) × (p + suc more ≡ head.size.tasks) × IsHead head head.size.places head.size.places head.size.teams p
+Holds (Whole base) = Unit {0}
+
+-- this is due, and what is held stands for it
+pub record IsDue (reading : Reading) (due : HeadDue) : Type 0 where
+  pub is : reading_of due ≡ reading
+  pub holds : Holds due
+
+-- what the table says where the step is this
+abbrev pub answer_of : HeadStep → Said
+answer_of (More due) = Goes (reading_of due)
+answer_of (No reason) = Refuses reason
+
+-- what holds of what is due next
+abbrev pub HoldsNext : HeadStep → Type 0
+HoldsNext (More due) = Holds due
+HoldsNext (No reason) = Unit {0}
+
+-- the step is what these rules say, and what is held stands for what is due next
+pub record Tells (Rules : Said → Type 0) (step : HeadStep) : Type 0 where
+  pub says : Rules (answer_of step)
+  pub holds : HoldsNext step
+
+-- the step is what the table says of the line
+abbrev pub IsStep : HeadDue → Words → HeadStep → Type 0
+IsStep due words step = Tells (Says (reading_of due) words) step
+
+-- the times from place a are set to these, and nothing else is changed
+pub record SetsRow (old new : Parts) (a : ℕ) (times : List ℤ) : Type 0 where
+  pub parts : new ≡ record old { times = new.times }
+  pub others : (x y : ℕ) → x ≢ a → time_of new x y ≡ time_of old x y
+  pub set : (y : ℕ) → y < length times → (t : ℕ) × (slice_index_or times y (pos 0) ≡ pos t) × (time_of new a y ≡ Some t)

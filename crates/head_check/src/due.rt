@@ -1,0 +1,40 @@
+// How far the head of a dossier has been read: the line that is due, and what the lines before it said.
+
+use crew_instance::{Builder, Instance};
+use dossier_terms::{Reason, Size};
+
+/// The counts of the line `size`, and the parts of the instance that are read so far.
+#[derive(Drop)]
+pub struct Head {
+    pub size: Size,
+    pub builder: Builder,
+}
+
+/// A whole instance, with the node budget of its dossier.
+#[derive(Drop)]
+pub struct Base {
+    pub instance: Instance,
+    pub nodes: u32,
+}
+
+/// The line of the head that is due, with what was read; `more` lines of its kind come after it.
+#[derive(Drop)]
+pub enum HeadDue {
+    Form,
+    Size,
+    Place { head: Head, more: u32 },
+    Travel { head: Head, more: u32 },
+    Team { head: Head, more: u32 },
+    Task { head: Head, more: u32 },
+    /// No line of the head is due: the instance is whole.
+    Whole { base: Base },
+}
+
+/// What is said of a line of the head.
+#[derive(Drop)]
+pub enum HeadStep {
+    /// It breaks no rule, and this is due next.
+    More(HeadDue),
+    /// It breaks a rule.
+    No(Reason),
+}

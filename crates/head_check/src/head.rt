@@ -1,0 +1,308 @@
+// The lines of an instance: `size`, `place`, `travel`, `team` and `task`.
+ghost use Rattle.std.specs.Prelude.{◌≡◌, ◌<◌, ◌≤◌, ◌+◌, ◌-◌, ℕ, List, pos, suc, map, length, All, IfOk, OnOk, IsTrue};
+ghost use Rattle.crew_terms.specs.Name.{IsName};
+ghost use Rattle.crew_terms.specs.Words.{Words};
+ghost use Rattle.dossier_terms.specs.Table.{IsTravel, IsTeamLine, IsTaskLine};
+ghost use Rattle.head_check.specs.Numbers.{AreBelow};
+ghost use Rattle.head_check.specs.Rows.{after_place, after_travel, after_team, after_task, IsTaskRange};
+ghost use Rattle.dossier_terms.specs.Reading.{places_due, travels_due, teams_due, tasks_due};
+ghost use Rattle.head_check.specs.Head.{Holds, IsHead, IsStep, IsDue, SetsRow, Tells, parts_of, rows_read};
+
+use crate::due::{Base, HeadDue, Head, HeadStep};
+use crate::numbers::{number_at, skill_set};
+use cert_format::{Expect, LineKind, Rest, fault_is_refused, read_line};
+use crew_instance::{BuildFault, Builder, Name, Task, Team};
+use dossier_terms::{Reason, Size};
+use field_table::LineWords;
+use std::alloc::{AllocError, Global};
+
+/// The fault of a builder where memory is all that can be wanting.
+fn out_of_memory(fault: BuildFault) -> AllocError
+    requires { fault ≡ BuildFault.OutOfMemory }
+{
+    let _ = fault;
+    AllocError
+}
+
+/// What is due where so many tasks are to come.
+fn due_tasks(head: Head, more: u32) -> Result<HeadDue, AllocError>
+    requires { (p : ℕ) × (p + more ≡ head.size.tasks) × IsHead head head.size.places head.size.places head.size.teams p }
+    ensures { IfOk result (λ due. IsDue (tasks_due head.size more (parts_of head.builder head.size.places)) due) }
+{
+    if more > 0 {
+        return Ok(HeadDue::Task {
+            head,
+            more: more - 1,
+        });
+    }
+    match head.builder.finish() {
+        Ok(instance) => Ok(HeadDue::Whole {
+            base: Base {
+                instance,
+                nodes: head.size.nodes,
+            },
+        }),
+        Err(fault) => Err(out_of_memory(fault)),
+    }
+}
+
+/// What is due where so many teams are to come.
+fn due_teams(head: Head, more: u32) -> Result<HeadDue, AllocError>
+    requires { (p : ℕ) × (p + more ≡ head.size.teams) × IsHead head head.size.places head.size.places p 0 }
+    ensures { IfOk result (λ due. IsDue (teams_due head.size more (parts_of head.builder head.size.places)) due) }
+{
+    if more > 0 {
+        return Ok(HeadDue::Team {
+            head,
+            more: more - 1,
+        });
+    }
+    let tasks = head.size.tasks;
+    due_tasks(head, tasks)
+}
+
+/// What is due where so many rows of travel times are to come.
+fn due_travels(head: Head, more: u32) -> Result<HeadDue, AllocError>
+    requires { (p : ℕ) × (p + more ≡ head.size.places) × IsHead head head.size.places p 0 0 }
+    ensures { IfOk result (λ due. IsDue (travels_due head.size more (parts_of head.builder (head.size.places - more))) due) }
+{
+    if more > 0 {
+        return Ok(HeadDue::Travel {
+            head,
+            more: more - 1,
+        });
+    }
+    let teams = head.size.teams;
+    due_teams(head, teams)
+}
+
+/// What is due where so many places are to come.
+fn due_places(head: Head, more: u32) -> Result<HeadDue, AllocError>
+    requires { (p : ℕ) × (p + more ≡ head.size.places) × IsHead head p 0 0 0 }
+    ensures { IfOk result (λ due. IsDue (places_due head.size more (parts_of head.builder 0)) due) }
+{
+    if more > 0 {
+        return Ok(HeadDue::Place {
+            head,
+            more: more - 1,
+        });
+    }
+    let places = head.size.places;
+    due_travels(head, places)
+}
+
+/// The line `crew dossier 1`.
+pub fn form_line(words: LineWords<'_>) -> HeadStep
+    ensures { IsStep HeadDue.Form words.entry result }
+{
+    fault_is_refused();
+    match read_line(Expect::Form, words) {
+        Ok(_) => HeadStep::More(HeadDue::Size),
+        Err(fault) => HeadStep::No(fault.reason()),
+    }
+}
+
+/// The line `size`.
+pub fn size_line(alloc: Global, words: LineWords<'_>) -> Result<HeadStep, AllocError>
+    ensures { IfOk result (IsStep HeadDue.Size words.entry) }
+{
+    fault_is_refused();
+    let kind = match read_line(Expect::Size, words) {
+        Ok(kind) => kind,
+        Err(fault) => return Ok(HeadStep::No(fault.reason())),
+    };
+    let LineKind::Size {
+        teams,
+        tasks,
+        places,
+        nodes,
+    } = kind
+    else {
+        unreachable!()
+    };
+    let size = Size {
+        teams,
+        tasks,
+        places,
+        nodes,
+    };
+    let head = Head {
+        size,
+        builder: Builder::new(alloc),
+    };
+    Ok(HeadStep::More(due_places(head, places)?))
+}
+
+/// Adds a place that a line spells.
+fn add_place(mut head: Head, more: u32, name: Name) -> Result<HeadStep, AllocError>
+    requires { Holds (HeadDue.Place head more) }
+    ensures { IfOk result (Tells (after_place head.size more (parts_of head.builder 0) name)) }
+{
+    match head.builder.place(name) {
+        Ok(()) => Ok(HeadStep::More(due_places(head, more)?)),
+        Err(BuildFault::SameName) => Ok(HeadStep::No(Reason::Name)),
+        Err(BuildFault::OutOfMemory) => Err(AllocError),
+        Err(_) => unreachable!(),
+    }
+}
+
+/// A line `place`.
+pub fn place_line(head: Head, more: u32, words: LineWords<'_>) -> Result<HeadStep, AllocError>
+    requires { Holds (HeadDue.Place head more) }
+    ensures { IfOk result (IsStep (HeadDue.Place head more) words.entry) }
+{
+    fault_is_refused();
+    let kind = match read_line(Expect::Place, words) {
+        Ok(kind) => kind,
+        Err(fault) => return Ok(HeadStep::No(fault.reason())),
+    };
+    let LineKind::Place { name } = kind else {
+        unreachable!()
+    };
+    add_place(head, more, name)
+}
+
+/// Sets the times from place `row` to each place.
+fn set_row(builder: &mut Builder, row: u32, times: &Rest<'_>) -> Result<(), AllocError>
+    requires row { row < length builder.old.places }
+    requires count { length times.now ≡ length builder.old.places }
+    requires day { AreBelow 2881 times.now }
+    ensures { OnOk result (SetsRow builder.old builder.new row times.now) }
+{
+    let places = builder.places() as u32;
+    for to in 0..places {
+        match builder.travel(row, to, number_at(times, to as usize)) {
+            Ok(()) => {}
+            Err(BuildFault::OutOfMemory) => return Err(AllocError),
+            Err(_) => unreachable!(),
+        }
+    }
+    Ok(())
+}
+
+/// Adds the travel times from the next place, which a line spells.
+fn add_travel(mut head: Head, more: u32, times: &Rest<'_>) -> Result<HeadStep, AllocError>
+    requires held { Holds (HeadDue.Travel head more) }
+    requires times { (row : List ℕ) × (times.now ≡ map pos row) × IsTravel head.size.places row }
+    ensures { IfOk result (λ step. (row : List ℕ) → times.now ≡ map pos row → Tells (after_travel head.size more (parts_of head.builder (rows_read head more)) row) step) }
+{
+    set_row(&mut head.builder, head.size.places - 1 - more, times)?;
+    Ok(HeadStep::More(due_travels(head, more)?))
+}
+
+/// A line `travel`.
+pub fn travel_line(head: Head, more: u32, words: LineWords<'_>) -> Result<HeadStep, AllocError>
+    requires { Holds (HeadDue.Travel head more) }
+    ensures { IfOk result (IsStep (HeadDue.Travel head more) words.entry) }
+{
+    fault_is_refused();
+    let places = head.size.places;
+    let kind = match read_line(Expect::Travel { places }, words) {
+        Ok(kind) => kind,
+        Err(fault) => return Ok(HeadStep::No(fault.reason())),
+    };
+    let LineKind::Travel { times } = kind else {
+        unreachable!()
+    };
+    add_travel(head, more, &times)
+}
+
+/// Adds a team that a line spells, whose skills rise strictly where `rises` says so.
+fn add_team(mut head: Head, more: u32, team: Team, rises: bool) -> Result<HeadStep, AllocError>
+    requires held { Holds (HeadDue.Team head more) }
+    requires home { team.home < head.size.places }
+    requires day { team.until ≤ 2880 }
+    ensures { IfOk result (Tells (after_team head.size more (parts_of head.builder head.size.places) team (IsTrue rises))) }
+{
+    match head.builder.team(team) {
+        Ok(()) if rises => Ok(HeadStep::More(due_teams(head, more)?)),
+        Ok(()) | Err(BuildFault::BadShift) => Ok(HeadStep::No(Reason::Instance)),
+        Err(BuildFault::SameName) => Ok(HeadStep::No(Reason::Name)),
+        Err(BuildFault::OutOfMemory) => Err(AllocError),
+        Err(_) => unreachable!(),
+    }
+}
+
+/// A line `team`.
+pub fn team_line(head: Head, more: u32, words: LineWords<'_>) -> Result<HeadStep, AllocError>
+    requires { Holds (HeadDue.Team head more) }
+    ensures { IfOk result (IsStep (HeadDue.Team head more) words.entry) }
+{
+    fault_is_refused();
+    let places = head.size.places;
+    let kind = match read_line(Expect::Team { places }, words) {
+        Ok(kind) => kind,
+        Err(fault) => return Ok(HeadStep::No(fault.reason())),
+    };
+    let LineKind::Team {
+        name,
+        home,
+        from,
+        until,
+        skills,
+    } = kind
+    else {
+        unreachable!()
+    };
+    let set = skill_set(&skills);
+    let team = Team {
+        name,
+        home,
+        from,
+        until,
+        skills: set.unwrap_or(0),
+    };
+    add_team(head, more, team, set.is_some())
+}
+
+/// Adds a task that a line spells, whose skills rise strictly where `rises` says so.
+fn add_task(mut head: Head, more: u32, task: Task, rises: bool) -> Result<HeadStep, AllocError>
+    requires held { Holds (HeadDue.Task head more) }
+    requires ranges { IsTaskRange head.size.places task }
+    ensures { IfOk result (Tells (after_task head.size more (parts_of head.builder head.size.places) task (IsTrue rises))) }
+{
+    match head.builder.task(task) {
+        Ok(()) if rises => Ok(HeadStep::More(due_tasks(head, more)?)),
+        Ok(()) | Err(BuildFault::BadWindow) => Ok(HeadStep::No(Reason::Instance)),
+        Err(BuildFault::SameName) => Ok(HeadStep::No(Reason::Name)),
+        Err(BuildFault::OutOfMemory) => Err(AllocError),
+        Err(_) => unreachable!(),
+    }
+}
+
+/// A line `task`.
+pub fn task_line(head: Head, more: u32, words: LineWords<'_>) -> Result<HeadStep, AllocError>
+    requires { Holds (HeadDue.Task head more) }
+    ensures { IfOk result (IsStep (HeadDue.Task head more) words.entry) }
+{
+    fault_is_refused();
+    let places = head.size.places;
+    let kind = match read_line(Expect::Task { places }, words) {
+        Ok(kind) => kind,
+        Err(fault) => return Ok(HeadStep::No(fault.reason())),
+    };
+    let LineKind::Task {
+        name,
+        place,
+        earliest,
+        latest,
+        minutes,
+        teams,
+        skills,
+    } = kind
+    else {
+        unreachable!()
+    };
+    let set = skill_set(&skills);
+    let skills = set.unwrap_or(0);
+    let task = Task {
+        name,
+        place,
+        earliest,
+        latest,
+        minutes,
+        teams,
+        skills,
+    };
+    add_task(head, more, task, set.is_some())
+}

@@ -1,0 +1,32 @@
+// The head of a dossier: its first line, its size, its places, travel times, teams and tasks, each judged by the row
+// of the table of lines that is due.
+#![tactic(auto)]
+
+ghost use Rattle.std.specs.Prelude.{IfOk};
+ghost use Rattle.head_check.specs.Head.{Holds, IsLineDue, IsStep};
+
+mod due;
+mod head;
+pub mod numbers;
+
+pub use due::{Base, Head, HeadDue, HeadStep};
+use field_table::LineWords;
+use head::{form_line, place_line, size_line, task_line, team_line, travel_line};
+use std::alloc::{AllocError, Global};
+
+/// Judges the line of the head that is due. Its only error is want of memory.
+pub fn judge_head(alloc: Global, due: HeadDue, words: LineWords<'_>) -> Result<HeadStep, AllocError>
+    requires due { IsLineDue due }
+    requires holds { Holds due }
+    ensures { IfOk result (IsStep due words.entry) }
+{
+    match due {
+        HeadDue::Form => Ok(form_line(words)),
+        HeadDue::Size => size_line(alloc, words),
+        HeadDue::Place { head, more } => place_line(head, more, words),
+        HeadDue::Travel { head, more } => travel_line(head, more, words),
+        HeadDue::Team { head, more } => team_line(head, more, words),
+        HeadDue::Task { head, more } => task_line(head, more, words),
+        HeadDue::Whole { .. } => unreachable!(),
+    }
+}

@@ -1,0 +1,47 @@
+// The numbers at the end of a line, as the sets and lists that they say.
+ghost use Rattle.std.specs.Prelude.{◌≡◌, ◌<◌, pos, length, slice_index_or, MatchOption, IfOk};
+ghost use Rattle.std.specs.List.Sorted.{IsStrictlyIncreasing};
+ghost use Rattle.dossier_terms.specs.Dossier.{mask_of};
+ghost use Rattle.head_check.specs.Numbers.{AreBelow, naturals};
+
+use cert_format::Rest;
+use std::alloc::{AllocError, Global};
+
+/// The number at a place, which is a minute, a skill or a team.
+pub fn number_at(numbers: &Rest<'_>, n: usize) -> u32
+    requires place { n < length numbers.now }
+    requires range { AreBelow 2881 numbers.now }
+    ensures { slice_index_or numbers.now n (pos 0) ≡ pos result }
+{
+    numbers.get(n) as u32
+}
+
+/// The set of the skills that are listed, a bit for each; None exactly where they don't rise strictly.
+pub fn skill_set(skills: &Rest<'_>) -> Option<u64>
+    requires { AreBelow 64 skills.now }
+    ensures { let ss = naturals skills.now in MatchOption result (IsStrictlyIncreasing ss → ⊥) (λ set. IsStrictlyIncreasing ss × (set ≡ mask_of ss)) }
+{
+    let mut set = 0u64;
+    let mut least = 0u32;
+    for n in 0..skills.len() {
+        let skill = number_at(skills, n);
+        if skill < least {
+            return None;
+        }
+        set += 1u64 << skill;
+        least = skill + 1;
+    }
+    Some(set)
+}
+
+/// The numbers of teams, copied out of a line.
+pub fn team_list(alloc: Global, teams: &Rest<'_>) -> Result<Vec<u32>, AllocError>
+    requires { AreBelow 64 teams.now }
+    ensures { IfOk result (λ list. list.items ≡ naturals teams.now) }
+{
+    let mut list = Vec::with_capacity(alloc, teams.len())?;
+    for n in 0..teams.len() {
+        list.push(number_at(teams, n))?;
+    }
+    Ok(list)
+}
