@@ -1,0 +1,4 @@
+pub mod Reversed
+pub mod Numbers
+pub mod Ways
+pub mod Leaves

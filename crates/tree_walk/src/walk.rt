@@ -1,0 +1,193 @@
+// The way from the root of a tree to the node that is due.
+ghost use Rattle.std.specs.Prelude.{◌≡◌, ◌≤◌, ◌<◌, ◌+◌, ◌^◌, [], ◌∷◌, drop, length, OnErr, OnOk};
+ghost use Rattle.crew_terms.specs.Limits.{Limits as Bounds};
+ghost use Rattle.dossier_terms.specs.Reading.{Lower, Without};
+ghost use Rattle.node_limits.specs.Trail.{Trail};
+ghost use Rattle.tree_walk.specs.Splits.{IsCut, IsFreePair, IsSplitOf};
+ghost use Rattle.tree_walk.specs.Way.{Enters, IsAt, IsEntered, IsSomewhere, LeavesLeaf, counts_of, innermost, leaves_like, with_leaf};
+
+use crate::split::{Split, narrow, second};
+use node_limits::Limits;
+use std::alloc::{AllocError, Global};
+use std::marker::Model;
+
+/// The numbers of a tree, or of a part of one: its splits, its closed leaves, its other leaves, and its greatest depth.
+#[derive(Clone, Copy, Debug, PartialEq, Eq)]
+pub struct TreeCounts {
+    pub splits: u32,
+    pub closed: u32,
+    pub left_open: u32,
+    pub depth: u32,
+}
+
+/// The way from the root of a tree to the node that is due, where its nodes come in preorder, and the numbers of what
+/// came before that node. The limits go along with it: each call takes them as the call before left them.
+///
+/// In contracts: the splits above the node, the innermost first, and the numbers so far.
+#[derive(Drop)]
+pub struct Walk {
+    // The outermost first.
+    above: Vec<Split>,
+    seen: TreeCounts,
+}
+
+impl Model for Walk {
+    ghost use Rattle.tree_walk.specs.Way.{Walked, walked};
+
+    ghost Value = { Walked };
+
+    ghost view = { walked };
+
+    ghost use Rattle.std.specs.Prelude.{◌≤◌, length};
+
+    ghost invariant = { λ w. length w.above.items ≤ w.seen.splits };
+}
+
+impl Walk {
+    /// A walk at the root: its limits are those of a trail with no change. It takes no memory.
+    pub fn new(alloc: Global) -> Walk
+        ensures { (t : Trail) → t.past ≡ [] → IsAt t.limits t result [] }
+    {
+        Walk {
+            above: Vec::new(alloc),
+            seen: TreeCounts {
+                splits: 0,
+                closed: 0,
+                left_open: 0,
+                depth: 0,
+            },
+        }
+    }
+
+    /// The numbers of what came before the node that is due: of the splits above it, and of what is whole.
+    pub fn seen(&self) -> TreeCounts
+        ensures { result ≡ self.now.seen }
+    {
+        self.seen
+    }
+
+    /// How many splits are above the node that is due.
+    pub fn level(&self) -> usize
+        ensures level { result ≡ length self.now.above }
+        ensures splits { result ≤ self.now.seen.splits }
+    {
+        self.above.len()
+    }
+
+    /// Splits the window of the task at the minute, and goes into the child that begins it by then. An `Err` changes
+    /// nothing.
+    pub fn enter_window(
+        &mut self,
+        limits: &mut Limits<'_>,
+        task: u32,
+        cut: u32,
+    ) -> Result<(), AllocError>
+        requires split { IsCut limits.old.limits task cut }
+        requires room { self.old.seen.splits + 1 < 2 ^ 32 }
+        ensures ok { OnOk result (Enters (Lower task cut) limits.old self.old limits.new self.new) }
+        ensures err { OnErr result (self.new ≡ self.old) }
+        ensures err_limits { OnErr result (limits.new ≡ limits.old) }
+        ensures instance { limits.new.limits.instance ≡ limits.old.limits.instance }
+    {
+        self.enter(limits, Split::Lower { task, cut })?;
+        Ok(())
+    }
+
+    /// Splits by whether the team does the task, and goes into the child where it doesn't. An `Err` changes nothing.
+    pub fn enter_pair(
+        &mut self,
+        limits: &mut Limits<'_>,
+        team: u32,
+        task: u32,
+    ) -> Result<(), AllocError>
+        requires split { IsFreePair limits.old.limits team task }
+        requires room { self.old.seen.splits + 1 < 2 ^ 32 }
+        ensures ok { OnOk result (Enters (Without team task) limits.old self.old limits.new self.new) }
+        ensures err { OnErr result (self.new ≡ self.old) }
+        ensures err_limits { OnErr result (limits.new ≡ limits.old) }
+        ensures instance { limits.new.limits.instance ≡ limits.old.limits.instance }
+    {
+        self.enter(limits, Split::Without { team, task })?;
+        Ok(())
+    }
+
+    // Splits the node, and goes into the child that the split is in. An `Err` changes nothing.
+    fn enter(&mut self, limits: &mut Limits<'_>, split: Split) -> Result<(), AllocError>
+        requires split { IsSplitOf limits.old.limits split }
+        requires room { self.old.seen.splits + 1 < 2 ^ 32 }
+        ensures ok { OnOk result (IsEntered split limits.old self.old limits.new self.new) }
+        ensures err { OnErr result (self.new ≡ self.old) }
+        ensures err_limits { OnErr result (limits.new ≡ limits.old) }
+    {
+        self.above.reserve(1)?;
+        limits.reserve(1)?;
+        narrow(limits, split);
+        self.above.push(split).unwrap();
+        self.seen.splits += 1;
+        Ok(())
+    }
+
+    /// Goes on past the node that is due, which is a leaf: to the next node in preorder, which is the second child of
+    /// the innermost split that is in its first. Where there is none, the tree is whole, and true is the answer.
+    pub fn leave(&mut self, limits: &mut Limits<'_>, is_closed: bool) -> bool
+        requires somewhere { IsSomewhere limits.old self.old }
+        requires room { leaves_like is_closed self.old.seen + 1 < 2 ^ 32 }
+        ensures leaves { LeavesLeaf is_closed limits.old self.old limits.new self.new result }
+        ensures instance { limits.new.limits.instance ≡ limits.old.limits.instance }
+    {
+        self.count_leaf(is_closed);
+        while let Some(split) = self.innermost() {
+            limits.undo();
+            if let Some(next) = second(split) {
+                narrow(limits, next);
+                self.turn(next);
+                return false;
+            }
+            self.rise();
+        }
+        true
+    }
+
+    // Counts the leaf that is due.
+    fn count_leaf(&mut self, is_closed: bool)
+        requires { leaves_like is_closed self.old.seen + 1 < 2 ^ 32 }
+        ensures above { self.new.above ≡ self.old.above }
+        ensures seen { counts_of self.new.seen ≡ with_leaf is_closed (length self.old.above) (counts_of self.old.seen) }
+    {
+        let level = self.above.len() as u32;
+        if is_closed {
+            self.seen.closed += 1;
+        } else {
+            self.seen.left_open += 1;
+        }
+        if self.seen.depth < level {
+            self.seen.depth = level;
+        }
+    }
+
+    // The innermost split above the node that is due.
+    fn innermost(&self) -> Option<Split>
+        ensures { result ≡ innermost self.now.above }
+    {
+        match self.above.len() {
+            0 => None,
+            level => Some(self.above[level - 1]),
+        }
+    }
+
+    // Puts another split in the place of the innermost one.
+    fn turn(&mut self, to: Split)
+        requires { 0 < length self.old.above }
+        ensures { self.new ≡ record self.old { above = to ∷ drop 1 self.old.above } }
+    {
+        let level = self.above.len();
+        self.above[level - 1] = to;
+    }
+
+    // Goes up from the innermost split.
+    fn rise(&mut self)
+        ensures { self.new ≡ record self.old { above = drop 1 self.old.above } }
+    {
+        self.above.pop();
+    }
+}
