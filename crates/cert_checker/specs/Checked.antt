@@ -1,48 +1,60 @@
 -- what a checker has read, and what it says of a line
-use Rattle.std.specs.Prelude.{◌≡◌, ◌≤◌, ◌+◌, ℕ, Option, None, Some, IsSome}
-use Rattle.crew_terms.specs.Words.{Words, words_of}
+use Rattle.std.specs.Prelude.{◌≡◌, ◌≤◌, ◌+◌, ℕ, List}
+use Rattle.crew_terms.specs.Words.{Words}
 use Rattle.crew_terms.specs.Plan.{Plan, IsLegal, unassigned_count}
 use Rattle.dossier_terms.specs.declared.Reason.{Reason}
 use Rattle.dossier_terms.specs.declared.Reason.TheVariants as reasons
 use Rattle.dossier_terms.specs.Dossier.{Dossier, IsGood, splits, closed, left_open}
 use Rattle.dossier_terms.specs.Reading.{Reading, Form, Said as Answer, More as Goes, Whole as Ends, No as Refuses}
-use Rattle.dossier_terms.specs.Today.{Answers}
+use Rattle.dossier_terms.specs.Table.{Says, Reaches}
+use Rattle.head_check.specs.declared.due.HeadDue.TheVariants as heads
+use Rattle.cert_checker.specs.Due.{Awaits, IsEndOf}
+use Rattle.cert_checker.specs.declared.due.Due.TheVariants.{Head}
+use Rattle.cert_checker.specs.declared.checker.State.{State}
+use Rattle.cert_checker.specs.declared.checker.State.TheVariants as states
 use Rattle.cert_checker.specs.declared.checker.Verdict.{Verdict}
 use Rattle.cert_checker.specs.declared.checker.Said.{Said}
 use Rattle.cert_checker.specs.declared.checker.Said.TheVariants.{More, Whole, No}
 use Rattle.cert_checker.specs.declared.checker.Stop.{Stop}
 use Rattle.cert_checker.specs.declared.checker.Stop.TheVariants.{End, TooLong, TooMuch}
 
--- where a checker stands: this line of a dossier is due; or a dossier is whole, and the first line of the next one or
--- the end of the input is due; or the line of this number was refused, for this reason; or memory was wanting
-pub data Standing : Type 0 where
-  Due : (reading : Reading) → Standing
-  Ended : (d : Dossier) → Standing
-  Refused : (number : ℕ) (reason : Reason) → Standing
-  Spent : Standing
-
--- how many lines a checker has judged, and where it stands
+-- how many lines a checker has judged, and what it keeps of them
 pub record Checked : Type 0 where
   pub lines : ℕ
-  pub at : Standing
+  pub at : State
 
 -- a checker that has read nothing yet
 abbrev pub fresh_checker : Checked
-fresh_checker = record { lines = 0; at = Due Form }
+fresh_checker = record { lines = 0; at = states.Due (Head heads.Form) }
 
--- the line of the table that is due, while no line was refused and memory not wanting
-abbrev pub due_at : Standing → Option Reading
-due_at (Due reading) = Some reading
-due_at (Ended d) = Some Form
-due_at (Refused number reason) = None
-due_at Spent = None
+-- ---- what a checker stands for
 
-abbrev pub IsOpen : Standing → Type 0
-IsOpen at = IsSome (due_at at)
+-- the line of the table that is due, while no line was refused and memory not wanting: that of what is kept, or the
+-- first line behind a whole dossier
+abbrev pub IsDueAt : State → Reading → Type 0
+IsDueAt (states.Due due) reading = Awaits due reading
+IsDueAt (states.Whole ended) reading = reading ≡ Form
+IsDueAt (states.Refused line reason) reading = ⊥
+IsDueAt states.Spent reading = ⊥
 
--- a dossier is whole, and no line was read after it
-abbrev pub IsEnded : Standing → Type 0
-IsEnded at = (d : Dossier) × (at ≡ Ended d)
+-- this dossier is whole, and no line was read after it
+abbrev pub IsWholeAt : State → Dossier → Type 0
+IsWholeAt (states.Due due) d = ⊥
+IsWholeAt (states.Whole ended) d = IsEndOf ended d
+IsWholeAt (states.Refused line reason) d = ⊥
+IsWholeAt states.Spent d = ⊥
+
+abbrev pub IsOpen : State → Type 0
+IsOpen at = (reading : Reading) × IsDueAt at reading
+
+abbrev pub IsEnded : State → Type 0
+IsEnded at = (d : Dossier) × IsWholeAt at d
+
+-- lines of a dossier lead to this state of the table
+abbrev pub IsReached : Reading → Type 0
+IsReached reading = (lines : List Words) × Reaches Form lines reading
+
+-- ---- what it says
 
 -- what a dossier says
 abbrev pub verdict_of : Dossier → Verdict
@@ -54,19 +66,20 @@ said_of number (Goes next) = More
 said_of number (Ends d) = Whole (verdict_of d)
 said_of number (Refuses reason) = No number reason
 
--- where the checker stands after it
-abbrev pub standing_after : ℕ → Answer → Standing
-standing_after number (Goes next) = Due next
-standing_after number (Ends d) = Ended d
-standing_after number (Refuses reason) = Refused number reason
+-- what the checker stands for after it
+abbrev pub StandsAfter : ℕ → Answer → State → Type 0
+StandsAfter number (Goes next) at = IsDueAt at next
+StandsAfter number (Ends d) at = IsWholeAt at d
+StandsAfter number (Refuses reason) at = at ≡ states.Refused number reason
 
 -- behind so many lines the line that is due is judged as the table says, which says one thing of it
 pub record IsJudged (lines : ℕ) (due : Reading) (words : Words) (said : Said) (new : Checked) : Type 0 where
   pub answer : Answer
-  pub is : Answers due words answer
-  pub only : (other : Answer) → Answers due words other → other ≡ answer
+  pub is : Says due words answer
+  pub only : (other : Answer) → Says due words other → other ≡ answer
   pub says : said ≡ said_of (lines + 1) answer
-  pub stands : new ≡ record { lines = lines + 1; at = standing_after (lines + 1) answer }
+  pub count : new.lines ≡ lines + 1
+  pub stands : StandsAfter (lines + 1) answer new.at
 
 -- a good dossier is what it says: its plan is legal, and every legal plan of its instance leaves at least its bound
 -- unassigned
@@ -76,11 +89,13 @@ pub record IsTrueYes (d : Dossier) : Type 0 where
   pub bound : (p : Plan) → IsLegal d.instance p → d.bound ≤ unassigned_count p
 
 -- a dossier is whole of which this is said, and it is so
-pub record IsTrueVerdict (at : Standing) (verdict : Verdict) : Type 0 where
+pub record IsTrueVerdict (at : State) (verdict : Verdict) : Type 0 where
   pub dossier : Dossier
-  pub is : at ≡ Ended dossier
+  pub is : IsWholeAt at dossier
   pub says : verdict ≡ verdict_of dossier
   pub true_yes : IsTrueYes dossier
+
+-- ---- where no line comes
 
 -- the reason that tells why no line comes
 abbrev pub stop_reason_of : Stop → Reason
@@ -90,4 +105,4 @@ stop_reason_of TooMuch = reasons.TooMuch
 
 -- the line that is due is refused
 abbrev pub refused_at : Checked → Reason → Checked
-refused_at c reason = record { lines = c.lines; at = Refused (c.lines + 1) reason }
+refused_at c reason = record { lines = c.lines; at = states.Refused (c.lines + 1) reason }

@@ -1,39 +1,33 @@
 -- what the fields of a checker stand for
-use Rattle.std.specs.Prelude.{◌≡◌, ◌≤◌, ◌^◌, ℕ, List}
-use Rattle.crew_terms.specs.Words.{Words}
-use Rattle.dossier_terms.specs.Reading.{Reading, Form}
-use Rattle.dossier_laws.specs.Path.{Leads}
-use Rattle.cert_checker.specs.Due.{Holds, reading_of, dossier_of}
-use Rattle.cert_checker.specs.Checked.{Checked, Standing, Due, Ended, Refused, Spent, IsTrueYes}
+use Rattle.std.specs.Prelude.{◌≤◌, ◌^◌, ℕ}
+use Rattle.dossier_terms.specs.Dossier.{Dossier}
+use Rattle.dossier_terms.specs.Reading.{Reading}
+use Rattle.cert_checker.specs.Due.{Awaits, IsEndOf}
+use Rattle.cert_checker.specs.Checked.{Checked, IsReached, IsTrueYes}
+use Rattle.cert_checker.specs.declared.due.Due.{Due}
 use Rattle.cert_checker.specs.declared.due.Step.{Step}
 use Rattle.cert_checker.specs.declared.due.Step.TheVariants.{More, Whole, No}
 use Rattle.cert_checker.specs.declared.checker.State.{State}
 use Rattle.cert_checker.specs.declared.checker.State.TheVariants as states
 use Rattle.cert_checker.specs.declared.checker.Checker.TheInside.{Inside}
 
-abbrev pub standing_of : State → Standing
-standing_of (states.Due due) = Due (reading_of due)
-standing_of (states.Whole draft) = Ended (dossier_of draft)
-standing_of (states.Refused line reason) = Refused line reason
-standing_of states.Spent = Spent
-
 -- the state that keeps what a step at the line of this number keeps
 abbrev pub state_in : ℕ → Step → State
 state_in number (More due) = states.Due due
-state_in number (Whole draft) = states.Whole draft
+state_in number (Whole ended) = states.Whole ended
 state_in number (No reason) = states.Refused number reason
 
 abbrev pub checked : Inside → Checked
-checked a = record { lines = a.lines; at = standing_of a.state }
+checked a = record { lines = a.lines; at = a.state }
 
--- lines that were taken lead there
-abbrev pub IsReached : Reading → Type 0
-IsReached reading = (lines : List Words) × Leads Form lines reading
+-- lines lead to what is kept
+abbrev pub IsKeptFrom : Due → Type 0
+IsKeptFrom due = (reading : Reading) × IsReached reading × Awaits due reading
 
 -- what always holds where a checker stands
 abbrev pub IsSettled : State → Type 0
-IsSettled (states.Due due) = Holds due × IsReached (reading_of due)
-IsSettled (states.Whole draft) = IsTrueYes (dossier_of draft)
+IsSettled (states.Due due) = IsKeptFrom due
+IsSettled (states.Whole ended) = (d : Dossier) × IsEndOf ended d × IsTrueYes d
 IsSettled (states.Refused line reason) = Unit {0}
 IsSettled states.Spent = Unit {0}
 

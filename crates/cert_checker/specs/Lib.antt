@@ -1,5 +1,5 @@
-pub mod Numbers
 pub mod Due
-pub mod Rows
+pub mod Rules
 pub mod Checked
 pub mod Kept
+pub mod Said

@@ -4,16 +4,18 @@ ghost use Rattle.crew_terms.specs.Words.{IsLine, words_of};
 ghost use Rattle.dossier_terms.specs.declared.Reason.{Reason};
 ghost use Rattle.dossier_terms.specs.Dossier.{Dossier};
 ghost use Rattle.dossier_terms.specs.Reading.{Reading};
-ghost use Rattle.cert_checker.specs.Checked.{Ended, IsEnded, IsJudged, IsOpen, IsTrueVerdict, IsTrueYes, Refused, Spent, due_at, fresh_checker, refused_at, said_of, stop_reason_of, verdict_of};
-ghost use Rattle.cert_checker.specs.Due.{Holds, answer_of, dossier_of, reading_of};
-ghost use Rattle.cert_checker.specs.Kept.{IsReached, state_in};
+ghost use Rattle.cert_checker.specs.Checked.{IsDueAt, IsEnded, IsJudged, IsOpen, IsReached, IsTrueVerdict, IsTrueYes, IsWholeAt, fresh_checker, refused_at, stop_reason_of, verdict_of};
+ghost use Rattle.cert_checker.specs.Due.{Awaits, IsEndOf};
+ghost use Rattle.cert_checker.specs.Kept.{IsKeptFrom, state_in};
+ghost use Rattle.cert_checker.specs.Said.{IsSaidOf};
 
-use crate::due::{Draft, Due, Step};
+use crate::due::{Due, Ended, Step};
 use crate::judge::judge;
 use crate::laws::{one_answer, reached_goes_on, whole_is_true};
 use crew_instance::Instance;
 use dossier_terms::Reason;
 use field_table::Cuts;
+use head_check::HeadDue;
 use plan_check::{Plan, unassigned};
 use std::alloc::{AllocError, Global};
 use std::marker::Model;
@@ -55,8 +57,10 @@ pub enum Stop {
 // Where the checker stands.
 #[derive(Drop)]
 enum State {
+    // A line of a dossier is due.
     Due(Due),
-    Whole(Draft),
+    // A dossier is whole: the first line of the next one is due, or the end of the input.
+    Whole(Ended),
     Refused { line: u64, reason: Reason },
     Spent,
 }
@@ -71,13 +75,9 @@ pub struct Checker {
 }
 
 impl Model for Checker {
-    ghost use Rattle.std.specs.Coded.{codes};
-    ghost use Rattle.dossier_terms.specs.Code.{written_code};
     ghost use Rattle.cert_checker.specs.Checked.{Checked};
 
     ghost Value = { Checked };
-
-    ghost coded = { Prim.hlevel (codes, written_code) };
 
     ghost use Rattle.cert_checker.specs.Kept.{checked, IsKept};
 
@@ -86,26 +86,26 @@ impl Model for Checker {
     ghost invariant = { IsKept };
 }
 
-/// What a whole dossier says, whose tree is one bare leaf.
-fn whole_verdict(draft: &Draft) -> Verdict
-    ensures { result ≡ verdict_of (dossier_of draft.now) }
+/// What a whole dossier says.
+fn whole_verdict(ended: &Ended) -> Verdict
+    ensures { (d : Dossier) → IsEndOf ended.now d → result ≡ verdict_of d }
 {
     Verdict {
-        unassigned: unassigned(&draft.plan),
-        bound: draft.bound,
-        splits: 0,
-        closed: 0,
-        left_open: 1,
+        unassigned: unassigned(&ended.draft.plan),
+        bound: ended.draft.bound,
+        splits: ended.counts.splits,
+        closed: ended.counts.closed,
+        left_open: ended.counts.left_open,
     }
 }
 
 /// What is said of the line of this number after a step.
 fn said_after(step: &Step, number: u64) -> Said
-    ensures { result ≡ said_of number (answer_of step.now) }
+    ensures { IsSaidOf number step.now result }
 {
     match step {
         Step::More(_) => Said::More,
-        Step::Whole(draft) => Said::Whole(whole_verdict(draft)),
+        Step::Whole(ended) => Said::Whole(whole_verdict(ended)),
         Step::No(reason) => Said::No {
             line: number,
             reason: *reason,
@@ -119,7 +119,7 @@ fn state_after(step: Step, number: u64) -> State
 {
     match step {
         Step::More(due) => State::Due(due),
-        Step::Whole(draft) => State::Whole(draft),
+        Step::Whole(ended) => State::Whole(ended),
         Step::No(reason) => State::Refused {
             line: number,
             reason,
@@ -148,7 +148,7 @@ impl Checker {
             alloc,
             cuts,
             lines: 0,
-            state: State::Due(Due::Form),
+            state: State::Due(Due::Head(HeadDue::Form)),
         })
     }
 
@@ -162,14 +162,13 @@ impl Checker {
 
     /// Judges the line that is due, which was taken out of the state.
     fn judge_line(&mut self, due: Due, line: &[u8]) -> Result<Said, AllocError>
-        requires taken { self.old.at ≡ Spent }
-        requires holds { Holds due }
-        requires reached { IsReached (reading_of due) }
+        requires taken { self.old.at ≡ State.Spent }
+        requires kept { IsKeptFrom due }
         requires plain { IsLine line.now }
         requires few { self.old.lines < 2 ^ 62 }
-        ensures judged { IfOk result (λ said. IsJudged self.old.lines (reading_of due) (words_of line.now) said self.new) }
+        ensures judged { (reading : Reading) → IsReached reading → Awaits due reading → IfOk result (λ said. IsJudged self.old.lines reading (words_of line.now) said self.new) }
         ensures whole { IfOk result (λ said. (verdict : Verdict) → said ≡ Said.Whole verdict → IsTrueVerdict self.new.at verdict) }
-        ensures memory { OnErr result (self.new.at ≡ Spent) }
+        ensures memory { OnErr result (self.new.at ≡ State.Spent) }
     {
         one_answer();
         reached_goes_on();
@@ -189,18 +188,18 @@ impl Checker {
         requires few { self.old.lines < 2 ^ 62 }
 
         // The line that was due is judged by the table of lines.
-        ensures judged { (due : Reading) → due_at self.old.at ≡ Some due → IfOk result (λ said. IsJudged self.old.lines due (words_of line.now) said self.new) }
+        ensures judged { (due : Reading) → IsReached due → IsDueAt self.old.at due → IfOk result (λ said. IsJudged self.old.lines due (words_of line.now) said self.new) }
 
         // What a whole dossier says is so.
         ensures whole { IfOk result (λ said. (verdict : Verdict) → said ≡ Said.Whole verdict → IsTrueVerdict self.new.at verdict) }
 
-        ensures refused { (number : ℕ) (reason : Reason) → self.old.at ≡ Refused number reason → (result ≡ Ok (Said.No number reason)) × (self.new ≡ self.old) }
-        ensures spent { self.old.at ≡ Spent → IsErr result }
-        ensures memory { OnErr result (self.new.at ≡ Spent) }
+        ensures refused { (number : ℕ) (reason : Reason) → self.old.at ≡ State.Refused number reason → (result ≡ Ok (Said.No number reason)) × (self.new ≡ self.old) }
+        ensures spent { self.old.at ≡ State.Spent → IsErr result }
+        ensures memory { OnErr result (self.new.at ≡ State.Spent) }
     {
         match mem::replace(&mut self.state, State::Spent) {
             State::Due(due) => self.judge_line(due, line),
-            State::Whole(_) => self.judge_line(Due::Form, line),
+            State::Whole(_) => self.judge_line(Due::Head(HeadDue::Form), line),
             State::Refused { line, reason } => {
                 self.state = State::Refused { line, reason };
                 Ok(Said::No { line, reason })
@@ -236,10 +235,10 @@ impl Checker {
     /// The instance of the dossier that is whole.
     pub fn instance(&self) -> &Instance
         requires { IsEnded self.now.at }
-        ensures { (d : Dossier) → self.now.at ≡ Ended d → result.now ≡ d.instance }
+        ensures { (d : Dossier) → IsWholeAt self.now.at d → result.now ≡ d.instance }
     {
         match &self.state {
-            State::Whole(draft) => &draft.base.instance,
+            State::Whole(ended) => &ended.draft.base.instance,
             _ => unreachable!(),
         }
     }
@@ -247,11 +246,11 @@ impl Checker {
     /// The plan of the dossier that is whole.
     pub fn plan(&self) -> &Plan
         requires { IsEnded self.now.at }
-        ensures plan { (d : Dossier) → self.now.at ≡ Ended d → result.now ≡ d.plan }
-        ensures true_yes { (d : Dossier) → self.now.at ≡ Ended d → IsTrueYes d }
+        ensures plan { (d : Dossier) → IsWholeAt self.now.at d → result.now ≡ d.plan }
+        ensures true_yes { (d : Dossier) × IsWholeAt self.now.at d × IsTrueYes d }
     {
         match &self.state {
-            State::Whole(draft) => &draft.plan,
+            State::Whole(ended) => &ended.draft.plan,
             _ => unreachable!(),
         }
     }

@@ -1,55 +1,78 @@
-// How far a dossier has been read: the line that is due, and what the lines before it said.
+// How far a dossier has been read: the line that is due, and what is kept of the lines before it.
 
-use crew_instance::{Builder, Instance};
-use dossier_terms::{Reason, Size};
+use dossier_terms::Reason;
+use head_check::{Base, HeadDue};
+use leaf_check::LeafReader;
+use node_limits::Held;
 use plan_check::Plan;
+use route_pool::Pool;
+use tree_walk::{TreeCounts, Walk};
 
-/// The counts of the line `size`, and the parts of the instance that are read so far.
-#[derive(Drop)]
-pub struct Head {
-    pub size: Size,
-    pub builder: Builder,
-}
-
-/// A whole instance, with the node budget of its dossier.
-#[derive(Drop)]
-pub struct Base {
-    pub instance: Instance,
-    pub nodes: u32,
-}
-
-/// A dossier without its tree. The jobs of the plan may not all be read yet.
+/// A dossier without its tree. The routes of the pool and the jobs of the plan may not all be read yet.
 #[derive(Drop)]
 pub struct Draft {
     pub base: Base,
+    /// How many routes of the pool come from the round before.
+    pub kept: u64,
+    pub pool: Pool,
     pub plan: Plan,
     pub bound: u32,
 }
 
-/// The numbers of the line `tree`.
-#[derive(Clone, Copy, Debug, PartialEq, Eq)]
-pub struct TreeCounts {
-    pub splits: u32,
-    pub closed: u32,
-    pub left_open: u32,
-    pub depth: u32,
+/// A dossier whose tree is being read.
+#[derive(Drop)]
+pub struct TreeDraft {
+    pub draft: Draft,
+    /// The numbers of the line `tree`.
+    pub claimed: TreeCounts,
+    /// The limits of the node that is due.
+    pub limits: Held,
+    pub walk: Walk,
+    pub reader: LeafReader,
+}
+
+/// A whole dossier: all but its tree, of which it has the numbers.
+#[derive(Drop)]
+pub struct Ended {
+    pub draft: Draft,
+    pub counts: TreeCounts,
 }
 
 /// The line that is due, with what was read; `more` lines of its kind come after it.
 #[derive(Drop)]
 pub enum Due {
-    Form,
-    Size,
-    Place { head: Head, more: u32 },
-    Travel { head: Head, more: u32 },
-    Team { head: Head, more: u32 },
-    Task { head: Head, more: u32 },
-    Pool { base: Base },
-    Plan { base: Base },
-    Job { draft: Draft, more: u32, from: u32 },
-    Tree { draft: Draft },
-    Node { draft: Draft, counts: TreeCounts },
-    End { draft: Draft, counts: TreeCounts },
+    Head(HeadDue),
+    Pool {
+        base: Base,
+    },
+    Route {
+        draft: Draft,
+        root: Held,
+        more: u64,
+    },
+    Plan {
+        draft: Draft,
+    },
+    Job {
+        draft: Draft,
+        more: u32,
+        from: u32,
+    },
+    Tree {
+        draft: Draft,
+    },
+    Node {
+        tree: TreeDraft,
+    },
+    Leaf {
+        tree: TreeDraft,
+        is_closed: bool,
+    },
+    End {
+        draft: Draft,
+        claimed: TreeCounts,
+        seen: TreeCounts,
+    },
 }
 
 /// What is said of a line.
@@ -57,8 +80,8 @@ pub enum Due {
 pub enum Step {
     /// It breaks no rule, and this is due next.
     More(Due),
-    /// It ends a good dossier, whose tree is one bare leaf.
-    Whole(Draft),
+    /// It ends a good dossier.
+    Whole(Ended),
     /// It breaks a rule.
     No(Reason),
 }

@@ -1,30 +1,60 @@
-// The checker: one line of a dossier after another, judged by the row of the table that is due.
+// One line of a dossier, judged by the row of the table that is due.
 ghost use Rattle.std.specs.Prelude.{IfOk};
-ghost use Rattle.cert_checker.specs.Due.{Holds, IsStep};
+ghost use Rattle.head_check.specs.Head.{Holds as HoldsHead, IsLineDue, reading_of};
+ghost use Rattle.cert_checker.specs.Due.{Awaits, IsAwaited, IsStep};
 
-use crate::body::{end_line, job_line, node_line, plan_line, pool_line, tree_line};
 use crate::due::{Due, Step};
-use crate::head::{form_line, place_line, size_line, task_line, team_line, travel_line};
+use crate::leaf::{end_line, number_line};
+use crate::node::node_line;
+use crate::plan::{job_line, plan_line};
+use crate::pool::{pool_line, route_line};
+use crate::tree::tree_line;
 use field_table::LineWords;
+use head_check::{HeadDue, HeadStep, judge_head};
 use std::alloc::{AllocError, Global};
+
+/// What is due behind a line of the head.
+fn due_after(due: HeadDue) -> Due
+    requires { HoldsHead due }
+    ensures { Awaits result (reading_of due) }
+{
+    match due {
+        HeadDue::Whole { base } => Due::Pool { base },
+        due => Due::Head(due),
+    }
+}
+
+/// A line of the head.
+fn head_line(alloc: Global, due: HeadDue, words: LineWords<'_>) -> Result<Step, AllocError>
+    requires due { IsLineDue due }
+    requires holds { HoldsHead due }
+    ensures { IfOk result (IsStep (Due.Head due) words.entry) }
+{
+    let step = judge_head(alloc, due, words)?;
+    match step {
+        HeadStep::More(next) => Ok(Step::More(due_after(next))),
+        HeadStep::No(reason) => Ok(Step::No(reason)),
+    }
+}
 
 /// Judges the line that is due. Its only error is want of memory.
 pub fn judge(alloc: Global, due: Due, words: LineWords<'_>) -> Result<Step, AllocError>
-    requires { Holds due }
+    requires { IsAwaited due }
     ensures { IfOk result (IsStep due words.entry) }
 {
     match due {
-        Due::Form => Ok(form_line(words)),
-        Due::Size => size_line(alloc, words),
-        Due::Place { head, more } => place_line(head, more, words),
-        Due::Travel { head, more } => travel_line(head, more, words),
-        Due::Team { head, more } => team_line(head, more, words),
-        Due::Task { head, more } => task_line(head, more, words),
-        Due::Pool { base } => Ok(pool_line(base, words)),
-        Due::Plan { base } => plan_line(alloc, base, words),
+        Due::Head(due) => head_line(alloc, due, words),
+        Due::Pool { base } => pool_line(alloc, base, words),
+        Due::Route { draft, root, more } => route_line(alloc, draft, root, more, words),
+        Due::Plan { draft } => Ok(plan_line(draft, words)),
         Due::Job { draft, more, from } => job_line(alloc, draft, more, from, words),
-        Due::Tree { draft } => Ok(tree_line(draft, words)),
-        Due::Node { draft, counts } => Ok(node_line(draft, counts, words)),
-        Due::End { draft, counts } => Ok(end_line(draft, counts, words)),
+        Due::Tree { draft } => tree_line(alloc, draft, words),
+        Due::Node { tree } => node_line(tree, words),
+        Due::Leaf { tree, is_closed } => Ok(number_line(tree, is_closed, words)),
+        Due::End {
+            draft,
+            claimed,
+            seen,
+        } => Ok(end_line(draft, claimed, seen, words)),
     }
 }

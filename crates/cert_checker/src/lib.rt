@@ -1,13 +1,15 @@
 // The checker: the lines of dossiers in, one after another, and what it says of each out.
 #![tactic(auto)]
 
-mod body;
 pub mod checker;
 mod due;
-mod head;
 mod judge;
 mod laws;
-mod numbers;
+mod leaf;
+mod node;
+mod plan;
+mod pool;
+mod tree;
 
 pub use checker::{Checker, Said, Stop, Verdict};
 pub use crew_instance::Instance;

@@ -1,0 +1,66 @@
+// The lines of a leaf's numbers, and the line `end`.
+ghost use Rattle.std.specs.Prelude.{List};
+ghost use Rattle.cert_checker.specs.Due.{IsAwaited, IsStep};
+
+use crate::due::{Draft, Due, Ended, Step, TreeDraft};
+use crate::node::leave;
+use cert_format::{Expect, fault_is_refused, read_line};
+use dossier_terms::Reason;
+use field_table::LineWords;
+use leaf_check::{Goal, LeafStep};
+use node_limits::Limits;
+use plan_check::unassigned;
+use tree_walk::TreeCounts;
+
+/// A line of the numbers of a leaf.
+pub fn number_line(tree: TreeDraft, is_closed: bool, words: LineWords<'_>) -> Step
+    requires { IsAwaited (Due.Leaf tree is_closed) }
+    ensures { IsStep (Due.Leaf tree is_closed) words.entry result }
+{
+    let goal = Goal {
+        bound: tree.draft.bound,
+        unassigned: unassigned(&tree.draft.plan),
+        is_closed,
+    };
+    let TreeDraft {
+        draft,
+        claimed,
+        limits,
+        walk,
+        mut reader,
+    } = tree;
+    let limits = Limits::wake(&draft.base.instance, limits);
+    let step = reader.line(&limits, goal, words);
+    let limits = limits.rest();
+    let tree = TreeDraft {
+        draft,
+        claimed,
+        limits,
+        walk,
+        reader,
+    };
+    match step {
+        LeafStep::More => Step::More(Due::Leaf { tree, is_closed }),
+        LeafStep::Done => Step::More(leave(tree, is_closed)),
+        LeafStep::No(reason) => Step::No(reason),
+    }
+}
+
+/// The line `end`.
+pub fn end_line(draft: Draft, claimed: TreeCounts, seen: TreeCounts, words: LineWords<'_>) -> Step
+    requires { IsAwaited (Due.End draft claimed seen) }
+    ensures { IsStep (Due.End draft claimed seen) words.entry result }
+{
+    fault_is_refused();
+    if let Err(fault) = read_line(Expect::End, words) {
+        return Step::No(fault.reason());
+    }
+    if seen == claimed {
+        Step::Whole(Ended {
+            draft,
+            counts: seen,
+        })
+    } else {
+        Step::No(Reason::Count)
+    }
+}

@@ -1,0 +1,96 @@
+// The lines of a plan: `plan`, and each `do`.
+ghost use Rattle.std.specs.Prelude.{IfOk};
+ghost use Rattle.crew_terms.specs.Verdict.{IsPlanOf};
+ghost use Rattle.dossier_terms.specs.Reading.{jobs_due};
+ghost use Rattle.dossier_terms.specs.Table.{after_job};
+ghost use Rattle.cert_checker.specs.Due.{Awaits, IsAwaited, IsStep, Tells, draft_of};
+
+use crate::due::{Draft, Due, Step};
+use cert_format::{Expect, LineKind, fault_is_refused, read_line};
+use crew_terms::PlanVerdict;
+use dossier_terms::Reason;
+use field_table::LineWords;
+use head_check::numbers::team_list;
+use plan_check::check_plan;
+use std::alloc::{AllocError, Global};
+
+/// What is due where so many jobs are to come, of tasks from `from` on.
+fn due_jobs(draft: Draft, more: u32, from: u32) -> Due
+    requires { IsPlanOf draft.base.instance draft.plan }
+    ensures { Awaits result (jobs_due (draft_of draft) more from) }
+{
+    if more > 0 {
+        Due::Job {
+            draft,
+            more: more - 1,
+            from,
+        }
+    } else {
+        Due::Tree { draft }
+    }
+}
+
+/// The line `plan`.
+pub fn plan_line(mut draft: Draft, words: LineWords<'_>) -> Step
+    requires { IsAwaited (Due.Plan draft) }
+    ensures { IsStep (Due.Plan draft) words.entry result }
+{
+    fault_is_refused();
+    let tasks = draft.base.instance.tasks() as u32;
+    let kind = match read_line(Expect::Plan { tasks }, words) {
+        Ok(kind) => kind,
+        Err(fault) => return Step::No(fault.reason()),
+    };
+    let LineKind::Plan { unassigned, bound } = kind else {
+        unreachable!()
+    };
+    draft.bound = bound;
+    Step::More(due_jobs(draft, tasks - unassigned, 0))
+}
+
+/// What is said after a job, where so many more are to come.
+fn judge_job(draft: Draft, more: u32, from: u32) -> Step
+    requires { IsPlanOf draft.base.instance draft.plan }
+    ensures { Tells (after_job (draft_of draft) more from) result }
+{
+    if more > 0 {
+        return Step::More(Due::Job {
+            draft,
+            more: more - 1,
+            from,
+        });
+    }
+    match check_plan(&draft.base.instance, &draft.plan) {
+        PlanVerdict::Legal => Step::More(Due::Tree { draft }),
+        verdict => Step::No(Reason::Plan(verdict)),
+    }
+}
+
+/// A line `do`.
+pub fn job_line(
+    alloc: Global,
+    mut draft: Draft,
+    more: u32,
+    from: u32,
+    words: LineWords<'_>,
+) -> Result<Step, AllocError>
+    requires { IsAwaited (Due.Job draft more from) }
+    ensures { IfOk result (IsStep (Due.Job draft more from) words.entry) }
+{
+    fault_is_refused();
+    let teams = draft.base.instance.teams() as u32;
+    let tasks = draft.base.instance.tasks() as u32;
+    let kind = match read_line(Expect::Job { teams, tasks }, words) {
+        Ok(kind) => kind,
+        Err(fault) => return Ok(Step::No(fault.reason())),
+    };
+    let LineKind::Job { task, start, teams } = kind else {
+        unreachable!()
+    };
+    if task < from {
+        return Ok(Step::No(Reason::Shape));
+    }
+    let teams = team_list(alloc, &teams)?;
+    draft.plan.assign(task, start, &teams)?;
+    Ok(judge_job(draft, more, task + 1))
+}

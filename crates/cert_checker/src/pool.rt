@@ -1,0 +1,120 @@
+// The lines of a pool: `pool`, and each `route`.
+ghost use Rattle.std.specs.Prelude.{◌≡◌, ◌<◌, ◌^◌, ℕ, pos, IfOk};
+ghost use Rattle.crew_terms.specs.Verdict.{IsPlanOf};
+ghost use Rattle.dossier_terms.specs.Reading.{routes_due};
+ghost use Rattle.dossier_terms.specs.Table.{draft};
+ghost use Rattle.dossier_terms.specs.Dossier.{Route as TeamRoute};
+ghost use Rattle.route_pool.specs.Verdict.{IsVerdict, pool_after};
+ghost use Rattle.cert_checker.specs.Due.{Awaits, IsAwaited, IsRoot, IsStep, draft_of};
+ghost use Rattle.cert_checker.specs.Rules.{TellsRoute};
+
+use crate::due::{Draft, Due, Step};
+use cert_format::{Expect, LineKind, fault_is_refused, read_line};
+use dossier_terms::Reason;
+use field_table::LineWords;
+use head_check::Base;
+use node_limits::{Held, Limits};
+use plan_check::Plan;
+use route_pool::{Pool, PoolVerdict, Route};
+use std::alloc::{AllocError, Global};
+
+/// A number that is not negative.
+fn natural(n: i64) -> u64
+    requires { (k : ℕ) × (n ≡ pos k) }
+    ensures { n ≡ pos result }
+{
+    n as u64
+}
+
+/// What is due where so many routes are to come.
+fn due_routes(draft: Draft, root: Held, more: u64) -> Due
+    requires root { IsRoot draft.base.instance root }
+    requires plan { IsPlanOf draft.base.instance draft.plan }
+    ensures { Awaits result (routes_due (draft_of draft) more) }
+{
+    if more > 0 {
+        Due::Route {
+            draft,
+            root,
+            more: more - 1,
+        }
+    } else {
+        Due::Plan { draft }
+    }
+}
+
+/// What is due behind the line `pool`, where it has these numbers. No memory is taken by them.
+fn begin_pool(alloc: Global, base: Base, kept: u64, columns: u64) -> Result<Due, AllocError>
+    ensures { IfOk result (λ due. Awaits due (routes_due (draft base.instance base.nodes kept) columns)) }
+{
+    let limits = Limits::root(alloc, &base.instance)?;
+    let root = limits.rest();
+    let plan = Plan::empty(alloc, base.instance.tasks())?;
+    let draft = Draft {
+        base,
+        kept,
+        pool: Pool::new(alloc),
+        plan,
+        bound: 0,
+    };
+    Ok(due_routes(draft, root, columns))
+}
+
+/// The line `pool`.
+pub fn pool_line(alloc: Global, base: Base, words: LineWords<'_>) -> Result<Step, AllocError>
+    ensures { IfOk result (IsStep (Due.Pool base) words.entry) }
+{
+    fault_is_refused();
+    let kind = match read_line(Expect::Pool, words) {
+        Ok(kind) => kind,
+        Err(fault) => return Ok(Step::No(fault.reason())),
+    };
+    let LineKind::Pool { kept, columns } = kind else {
+        unreachable!()
+    };
+    if kept > columns {
+        return Ok(Step::No(Reason::Pool));
+    }
+    let due = begin_pool(alloc, base, natural(kept), natural(columns))?;
+    Ok(Step::More(due))
+}
+
+/// What is said behind a route, of which the pool says this, where so many more are to come.
+fn judge_route(draft: Draft, root: Held, more: u64, verdict: PoolVerdict) -> Step
+    requires root { IsRoot draft.base.instance root }
+    requires plan { IsPlanOf draft.base.instance draft.plan }
+    ensures { TellsRoute draft more verdict result }
+{
+    match verdict {
+        PoolVerdict::Added => Step::More(due_routes(draft, root, more)),
+        PoolVerdict::NotRoute | PoolVerdict::Repeated => Step::No(Reason::Pool),
+    }
+}
+
+/// A line `route`.
+pub fn route_line(
+    alloc: Global,
+    mut draft: Draft,
+    root: Held,
+    more: u64,
+    words: LineWords<'_>,
+) -> Result<Step, AllocError>
+    requires { IsAwaited (Due.Route draft root more) }
+    ensures { IfOk result (IsStep (Due.Route draft root more) words.entry) }
+{
+    fault_is_refused();
+    let teams = draft.base.instance.teams() as u32;
+    let tasks = draft.base.instance.tasks() as u32;
+    let kind = match read_line(Expect::Route { teams, tasks }, words) {
+        Ok(kind) => kind,
+        Err(fault) => return Ok(Step::No(fault.reason())),
+    };
+    let LineKind::Route { team, visits } = kind else {
+        unreachable!()
+    };
+    let route = Route::read(alloc, team, &visits)?;
+    let limits = Limits::wake(&draft.base.instance, root);
+    let verdict = draft.pool.add(&limits, route)?;
+    let root = limits.rest();
+    Ok(judge_route(draft, root, more, verdict))
+}

@@ -1,0 +1,86 @@
+// The line `tree`: the numbers of a branch tree.
+ghost use Rattle.std.specs.Prelude.{◌≡◌, [], IfOk};
+ghost use Rattle.dossier_terms.specs.Table.{IsCounts};
+ghost use Rattle.tree_walk.specs.Way.{counts_of};
+ghost use Rattle.cert_checker.specs.Due.{HasReader, IsAwaited, IsNode, IsStep, draft_of};
+ghost use Rattle.cert_checker.specs.Rules.{IsTreeFault};
+
+use crate::due::{Draft, Due, Step, TreeDraft};
+use cert_format::{Expect, LineKind, fault_is_refused, read_line};
+use dossier_terms::Reason;
+use field_table::LineWords;
+use leaf_check::LeafReader;
+use node_limits::Limits;
+use plan_check::unassigned;
+use std::alloc::{AllocError, Global};
+use tree_walk::{TreeCounts, Walk};
+
+/// The first rule that the numbers of a tree break: they must fit each other, the budget and the bound.
+fn fault_of_tree(draft: &Draft, claimed: TreeCounts) -> Option<Reason>
+    requires { IsCounts (counts_of claimed) }
+    ensures { IsTreeFault (draft_of draft.now) (counts_of claimed) result }
+{
+    if claimed.closed + claimed.left_open != claimed.splits + 1 {
+        return Some(Reason::Count);
+    }
+    let spent = claimed.splits + claimed.closed;
+    if spent > draft.base.nodes {
+        return Some(Reason::Budget);
+    }
+    if draft.bound < unassigned(&draft.plan) && spent != draft.base.nodes {
+        return Some(Reason::Budget);
+    }
+    None
+}
+
+/// A dossier whose tree is to be read from its root on. No memory is taken by the numbers that are claimed.
+fn begin_tree(alloc: Global, draft: Draft, claimed: TreeCounts) -> Result<TreeDraft, AllocError>
+    requires { IsCounts (counts_of claimed) }
+    ensures draft { IfOk result (λ tree. tree.draft ≡ draft) }
+    ensures claimed { IfOk result (λ tree. tree.claimed ≡ claimed) }
+    ensures node { IfOk result (λ tree. IsNode tree []) }
+    ensures reader { IfOk result HasReader }
+{
+    let limits = Limits::root(alloc, &draft.base.instance)?;
+    let reader = LeafReader::open(alloc, &limits)?;
+    let limits = limits.rest();
+    Ok(TreeDraft {
+        draft,
+        claimed,
+        limits,
+        walk: Walk::new(alloc),
+        reader,
+    })
+}
+
+/// The line `tree`.
+pub fn tree_line(alloc: Global, draft: Draft, words: LineWords<'_>) -> Result<Step, AllocError>
+    requires { IsAwaited (Due.Tree draft) }
+    ensures { IfOk result (IsStep (Due.Tree draft) words.entry) }
+{
+    fault_is_refused();
+    let kind = match read_line(Expect::Tree, words) {
+        Ok(kind) => kind,
+        Err(fault) => return Ok(Step::No(fault.reason())),
+    };
+    let LineKind::Tree {
+        splits,
+        closed,
+        left_open,
+        depth,
+    } = kind
+    else {
+        unreachable!()
+    };
+    let claimed = TreeCounts {
+        splits,
+        closed,
+        left_open,
+        depth,
+    };
+    if let Some(reason) = fault_of_tree(&draft, claimed) {
+        return Ok(Step::No(reason));
+    }
+    let tree = begin_tree(alloc, draft, claimed)?;
+    Ok(Step::More(Due::Node { tree }))
+}
