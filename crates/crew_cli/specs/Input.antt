@@ -10,9 +10,10 @@ use Rattle.dossier_terms.specs.declared.Reason.TheVariants.{End as EndReason, To
 use Rattle.dossier_terms.specs.Dossier.{Dossier, IsGood}
 use Rattle.dossier_terms.specs.Lines.{lines_of, text_of}
 use Rattle.dossier_terms.specs.Reading.{Reading, No as Refuses, Form}
-use Rattle.dossier_terms.specs.Today.{Answers, IsSimple, IsSimpleInput}
-use Rattle.dossier_laws.specs.Path.{Leads}
-use Rattle.cert_checker.specs.Checked.{Checked, Ended, IsEnded, IsTrueVerdict, fresh_checker, stop_reason_of}
+use Rattle.dossier_terms.specs.Table.{Says, Reaches}
+use Rattle.dossier_terms.specs.Accepted.{IsAccepted}
+use Rattle.cert_checker.specs.Checked.{Checked, IsEnded, IsTrueYes, IsWholeAt, fresh_checker, stop_reason_of, verdict_of}
+use Rattle.cert_checker.specs.declared.checker.Verdict.{Verdict}
 use Rattle.cert_checker.specs.declared.checker.Stop.{Stop}
 use Rattle.cert_checker.specs.declared.checker.Stop.TheVariants as stops
 use Rattle.crew_cli.specs.declared.input.Outcome.{Outcome}
@@ -30,15 +31,14 @@ text_before done lines = flat_map text_of done ++ text_of_lines lines
 abbrev pub lines_before : List Dossier → List (List ℕ) → ℕ
 lines_before done lines = length (flat_map lines_of done) + length lines
 
--- the input begins with these good dossiers, which are simple, and these lines of the next one, by which the checker
--- comes to what is due, within the bytes that an input may have; the rest is left
+-- the input begins with these good dossiers and these lines of the next one, which lead to what is due, within the bytes
+-- that an input may have; the rest is left
 pub record HasRead (input : List ℕ) (done : List Dossier) (lines : List (List ℕ)) (rest : List ℕ) (due : Reading) : Type 0 where
   pub text : input ≡ text_before done lines ++ rest
   pub within : length (text_before done lines) ≤ 2 ^ 62
   pub good : All IsGood done
-  pub simple : All IsSimple done
   pub each : All IsLine lines
-  pub leads : Leads Form (map words_of lines) due
+  pub leads : Reaches Form (map words_of lines) due
 
 -- how many bytes may come after these lines
 abbrev pub room_after : List Dossier → List (List ℕ) → ℕ
@@ -58,9 +58,9 @@ pub record IsEnd (done : List Dossier) (lines : List (List ℕ)) (rest : List �
 
 -- the first line of the input that is refused, behind these dossiers, numbered from 1, and why
 pub data IsRefusal (input : List ℕ) (done : List Dossier) (number : ℕ) (reason : Reason) : Type 0 where
-  -- a line breaks a rule, or what follows it isn't taken yet
+  -- a line breaks a rule
   BadLine : (lines : List (List ℕ)) (line after : List ℕ) (due : Reading) (read : HasRead input done lines (with_feed line ++ after) due)
-      (plain : IsLine line) (fits : length line < room_after done lines) (answer : Answers due (words_of line) (Refuses reason))
+      (plain : IsLine line) (fits : length line < room_after done lines) (answer : Says due (words_of line) (Refuses reason))
       (is : number ≡ suc (lines_before done lines)) → IsRefusal input done number reason
   -- no line comes whole where one is due
   NoLine : (lines : List (List ℕ)) (rest : List ℕ) (due : Reading) (read : HasRead input done lines rest due)
@@ -116,17 +116,23 @@ pub data IsOutcomeAtStop (checker : Checked) (answer : Progress) (outcome : Outc
       (is : outcome ≡ No (checker.lines + 1) (stop_reason_of why)) → IsOutcomeAtStop checker answer outcome
   Fault : (told : told_of answer ≡ None) (is : outcome ≡ ReadFault) → IsOutcomeAtStop checker answer outcome
 
+-- the next dossier is whole, of which this is said, and it is so
+pub record IsNext (input : List ℕ) (done : List Dossier) (verdict : Verdict) (reader : Reader) (left : Option (List ℕ)) (count : ℕ) : Type 0 where
+  pub dossier : Dossier
+  pub says : verdict ≡ verdict_of dossier
+  pub true_yes : IsTrueYes dossier
+  pub between : IsBetween input (done ++ dossier ∷ []) reader left count
+
 -- what a reading behind these dossiers found
 abbrev pub IsOutcome : List ℕ → List Dossier → Reader → Option (List ℕ) → Checked → Outcome → Type 0
-IsOutcome input done reader left checker (Yes verdict) = (d : Dossier) → checker.at ≡ Ended d → IsBetween input (done ++ d ∷ []) reader left checker.lines
-IsOutcome input done reader left checker End = IsSimpleInput input done
+IsOutcome input done reader left checker (Yes verdict) = IsNext input done verdict reader left checker.lines
+IsOutcome input done reader left checker End = IsAccepted input done
 IsOutcome input done reader left checker (No line reason) = IsRefusal input done line reason
 IsOutcome input done reader left checker ReadFault = IsInterrupted input done reader left
 
--- after a dossier, of which a true verdict is told, the reader and the checker can go on, and more was handed out; after
--- nothing else
+-- after a dossier the reader and the checker can go on, and more was handed out; after nothing else
 abbrev pub OpensNext : Reader → Reader → Checked → Outcome → Type 0
-OpensNext old new checker (Yes verdict) = IsTrueVerdict checker.at verdict × IsOpen new checker × (old.handed < new.handed)
+OpensNext old new checker (Yes verdict) = IsOpen new checker × (old.handed < new.handed)
 OpensNext old new checker End = Unit {0}
 OpensNext old new checker (No line reason) = Unit {0}
 OpensNext old new checker ReadFault = Unit {0}

@@ -8,7 +8,7 @@ use Rattle.dossier_terms.specs.Dossier.{Dossier}
 use Rattle.dossier_terms.specs.Lines.{text_of}
 use Rattle.dossier_terms.specs.Texts.{yes_line, no_line}
 use Rattle.dossier_terms.specs.Reading.{Reading, Form}
-use Rattle.dossier_terms.specs.Today.{IsSimpleInput}
+use Rattle.dossier_terms.specs.Accepted.{IsAccepted}
 use Rattle.day_terms.specs.Rounds.{Round}
 use Rattle.cert_checker.specs.Checked.{IsTrueYes}
 use Rattle.crew_cli.specs.Input.{IsRefusal, HasRead, room_after}
@@ -26,14 +26,14 @@ OfBytes left got later Fact = IfSome left (λ input. (written : List ℕ) × App
 -- the input is accepted as these dossiers, whose yes lines were written
 pub record SaysYes (input written : List ℕ) : Type 0 where
   pub dossiers : List Dossier
-  pub accepted : IsSimpleInput input dossiers
+  pub accepted : IsAccepted input dossiers
   pub lines : written ≡ flat_map yes_line dossiers
   pub each : All IsTrueYes dossiers
 
 -- the input is accepted as no dossiers; the yes lines of those before the first line that is refused were written,
 -- and its no line
 pub record SaysNo (input written : List ℕ) : Type 0 where
-  pub not_accepted : (dossiers : List Dossier) → IsSimpleInput input dossiers → ⊥
+  pub not_accepted : (dossiers : List Dossier) → IsAccepted input dossiers → ⊥
   pub before : List Dossier
   pub number : ℕ
   pub reason : Reason
@@ -121,7 +121,7 @@ ends_with _ _ = false
 
 -- what a command takes to its end: bytes that are accepted as dossiers, or a day of which no record is refused
 abbrev pub IsFine : Command → List ℕ → Type 0
-IsFine Check input = (dossiers : List Dossier) × IsSimpleInput input dossiers
+IsFine Check input = (dossiers : List Dossier) × IsAccepted input dossiers
 IsFine Apply input = (length input ≤ DAY) × ((rounds : List Round) × ComesTo input rounds None)
 
 -- the answers to a line that is refused

@@ -132,6 +132,5 @@ pub fn put_no<K: Sink>(out: &mut K, line: u64, reason: Reason) -> Result<(), Wri
         Reason::End => put_word(out, line, b"End"),
         Reason::TooLong => put_word(out, line, b"TooLong"),
         Reason::TooMuch => put_word(out, line, b"TooMuch"),
-        Reason::Later => put_word(out, line, b"Later"),
     }
 }
