@@ -4,7 +4,7 @@ ghost use Rattle.std.specs.Prelude.{◌≤◌};
 use crate::apply_tests::DAY;
 use crate::run::{Status, run};
 use crate::steady::{run_in_memory, run_steady};
-use crate::tests::{GOOD, WITH_POOL, YES, joined};
+use crate::tests::{GOOD, YES, joined};
 use crew_io::sink::{MemSink, SteadySink};
 use crew_io::source::{MemSource, SteadySource};
 use std::alloc::{AllocError, Global};
@@ -98,11 +98,13 @@ fn reads_of(bytes: usize, piece: usize) -> u64
     bytes.div_ceil(piece) as u64
 }
 
-/// How many bytes the lines before the first route of the second dossier have.
-fn until_the_pool() -> usize {
-    let pool =
-        b"crew dossier 1\nsize 1 2 2 1\nplace BASE\nplace G1\ntravel 0 10\ntravel 10 0\nteam T1 0 360 840\ntask A 1 420 420 30 1\ntask B 1 420 420 30 1\npool 0 2\n";
-    GOOD.len().saturating_add(pool.len())
+/// A dossier up to the line that is refused, which is the last one here: a potential that is too low.
+const UNTIL_LOW: &[u8] =
+    b"crew dossier 1\nsize 1 2 2 1\nplace BASE\nplace G1\ntravel 0 10\ntravel 10 0\nteam T1 0 360 840\ntask A 1 420 420 30 1\ntask B 1 420 420 30 1\npool 0 2\nroute 0 0 420\nroute 0 1 420\nplan 1 1\ndo 0 420 0\ntree 0 1 0 0\nleaf closed\nprice 840000000 840000000\nworth 840000000\nphi 0 840000000\nphi 1 839999999\n";
+
+/// How many bytes the first dossier and the lines of the second up to the refused one have.
+fn until_the_refusal() -> usize {
+    GOOD.len().saturating_add(UNTIL_LOW.len())
 }
 
 #[test]
@@ -127,8 +129,8 @@ fn two_dossiers_byte_by_byte(rt: HostRuntime) -> Result<(), Fail> {
 
 #[test]
 fn a_refusal_in_pieces_of_sixteen(rt: HostRuntime) -> Result<(), Fail> {
-    let refused = joined(rt.alloc(), &[GOOD, WITH_POOL])?;
-    let reads = reads_of(until_the_pool(), 16);
+    let refused = joined(rt.alloc(), &[GOOD, UNTIL_LOW, b"end\n", GOOD])?;
+    let reads = reads_of(until_the_refusal(), 16);
     assert_eq!(rt; told_reads(rt.alloc(), "check", &refused, 16)?, Some(reads));
     assert!(rt; tells_writes(rt.alloc(), "check", &refused, 16)?);
     assert!(rt; tells_small_rooms(rt.alloc(), "check", &refused, 16)?);
@@ -137,8 +139,8 @@ fn a_refusal_in_pieces_of_sixteen(rt: HostRuntime) -> Result<(), Fail> {
 
 #[test]
 fn a_refusal_byte_by_byte(rt: HostRuntime) -> Result<(), Fail> {
-    let refused = joined(rt.alloc(), &[GOOD, WITH_POOL])?;
-    let reads = reads_of(until_the_pool(), 1);
+    let refused = joined(rt.alloc(), &[GOOD, UNTIL_LOW, b"end\n", GOOD])?;
+    let reads = reads_of(until_the_refusal(), 1);
     assert_eq!(rt; told_reads(rt.alloc(), "check", &refused, 1)?, Some(reads));
     assert!(rt; tells_writes(rt.alloc(), "check", &refused, 1)?);
     assert!(rt; tells_small_rooms(rt.alloc(), "check", &refused, 1)?);

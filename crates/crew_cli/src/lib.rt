@@ -18,3 +18,5 @@ pub mod steady;
 #[cfg(test)]
 mod tests;
 pub mod texts;
+#[cfg(test)]
+mod tree_tests;

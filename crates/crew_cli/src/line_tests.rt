@@ -202,14 +202,14 @@ const POOL: &[Case] = &[
     (11, b"pool +0 0", b"no 11 Number\n"),
     (11, b"pool -0 0", b"no 11 Number\n"),
     (11, b"pool 1 0", b"no 11 Pool\n"),
-    (11, b"pool 0 1", b"no 11 Later\n"),
-    (11, b"pool 1 1", b"no 11 Later\n"),
-    (11, b"pool 0 9223372036854775807", b"no 11 Later\n"),
+    (11, b"pool 0 1", b"no 12 Shape\n"),
+    (11, b"pool 1 1", b"no 12 Shape\n"),
+    (11, b"pool 0 9223372036854775807", b"no 12 Shape\n"),
     (11, b"pool 0 9223372036854775808", b"no 11 Number\n"),
     (
         11,
         b"pool 9223372036854775807 9223372036854775807",
-        b"no 11 Later\n",
+        b"no 12 Shape\n",
     ),
     (
         11,
@@ -286,8 +286,8 @@ const TREE: &[Case] = &[
     (15, b"tree 100000 0 100002 0", b"no 15 Number\n"),
     (15, b"tree 0 100000 1 0", b"no 15 Count\n"),
     (15, b"tree 0 100001 1 0", b"no 15 Number\n"),
-    (15, b"tree 0 1 0 0", b"no 15 Later\n"),
-    (15, b"tree 1 0 2 1", b"no 15 Later\n"),
+    (15, b"tree 0 1 0 0", b"no 16 Count\n"),
+    (15, b"tree 1 0 2 1", b"no 17 Count\n"),
     (15, b"tree 1 1 1 1", b"no 15 Budget\n"),
 ];
 
@@ -303,7 +303,7 @@ const NODE: &[Case] = &[
     (16, b"leaf bare\r", b"no 16 Shape\n"),
     (16, b"leaf ajar", b"no 16 Shape\n"),
     (16, b"leaf closed", b"no 16 Count\n"),
-    (16, b"leaf open", b"no 16 Later\n"),
+    (16, b"leaf open", b"no 17 Shape\n"),
     (16, b"window 0", b"no 16 Shape\n"),
     (16, b"window 0 430 0", b"no 16 Shape\n"),
     (16, b"window 0 ", b"no 16 Number\n"),
