@@ -16,7 +16,7 @@ abbrev pub ComesPast : Bool → Trail → Walked → Trail → Walked → Type 0
 ComesPast is_closed old from new to = (root : Limits) (fs : List Frame) (leaf : Written) → IsAt root old from fs → IsLeaf is_closed leaf
     → (gs : List Frame) × (tree : Written) × ((b : Draft) (c : Counts) → node_done b c fs leaf ≡ node_done b c gs tree) × IsPast root new to gs tree
 
-some_leaf : (is_closed : Bool) → (leaf : Written) × IsLeaf is_closed leaf
+pub some_leaf : (is_closed : Bool) → (leaf : Written) × IsLeaf is_closed leaf
 some_leaf true = (Closed (record { prices = []; extras = []; tables = [] }), refl)
 some_leaf false = (Bare, refl)
 

@@ -1,5 +1,5 @@
 // Walks over trees of a small day.
-ghost use Rattle.std.specs.Prelude.{OnOk};
+ghost use Rattle.std.specs.Prelude.{◌≡◌, ◌≤◌, false, IfOk, OnOk};
 ghost use Rattle.tree_walk.specs.Way.{IsSomewhere};
 
 use crate::{Limits, TreeCounts, Walk, is_inside};
@@ -54,33 +54,67 @@ fn told(limits: &Limits<'_>) -> Option<((u32, u32), Pair)> {
     Some((limits.window(0), limits.pair(0, 1)))
 }
 
+// Splits the window of the task, where it can be split at the minute, and goes into the lower child.
+fn split_window(walk: &mut Walk, limits: &mut Limits<'_>, task: u32, cut: u32) -> Result<(), Fail>
+    requires { IsSomewhere limits.old walk.old }
+    ensures { OnOk result (IsSomewhere limits.new walk.new) }
+{
+    if task as usize >= limits.instance().tasks() || !is_inside(limits, task, cut) {
+        return Err("cut")?;
+    }
+    if walk.seen().splits > 100000 {
+        return Err("splits")?;
+    }
+    walk.enter_window(limits, task, cut)?;
+    Ok(())
+}
+
+// Splits by the first team and the second task, where nothing is said yet of them, and goes into the child without.
+fn split_pair(walk: &mut Walk, limits: &mut Limits<'_>) -> Result<(), Fail>
+    requires { IsSomewhere limits.old walk.old }
+    ensures { OnOk result (IsSomewhere limits.new walk.new) }
+{
+    if limits.instance().teams() != 2 || limits.instance().tasks() != 2 {
+        return Err("day")?;
+    }
+    if !matches!(limits.pair(0, 1), Pair::Free) || walk.seen().splits > 100000 {
+        return Err("pair")?;
+    }
+    walk.enter_pair(limits, 0, 1)?;
+    Ok(())
+}
+
+// Leaves a leaf: whether the tree is whole.
+fn leave(walk: &mut Walk, limits: &mut Limits<'_>, is_closed: bool) -> Result<bool, Fail>
+    requires { IsSomewhere limits.old walk.old }
+    ensures { IfOk result (λ is_whole. is_whole ≡ false → IsSomewhere limits.new walk.new) }
+{
+    if walk.seen().closed > 100000 || walk.seen().left_open > 100000 {
+        return Err("leaves")?;
+    }
+    Ok(walk.leave(limits, is_closed))
+}
+
 #[test]
 fn walks_a_small_tree(rt: HostRuntime) -> Result<(), Fail> {
     let day = small_day(rt.alloc())?;
     let mut limits = Limits::root(rt.alloc(), &day)?;
     let mut walk = Walk::new(rt.alloc());
-    assert!(rt; limits.instance().tasks() == 2);
-    assert!(rt; !is_inside(&limits, 0, 1140));
-    assert!(rt; is_inside(&limits, 0, 440));
-    assert!(rt; walk.seen().splits == 0);
-    walk.enter_window(&mut limits, 0, 440)?;
+    split_window(&mut walk, &mut limits, 0, 440)?;
     assert_eq!(rt; told(&limits), Some(((420, 440), Pair::Free)));
-    assert!(rt; limits.instance().teams() == 2);
-    assert!(rt; limits.instance().tasks() == 2);
-    assert!(rt; matches!(limits.pair(0, 1), Pair::Free));
-    assert!(rt; walk.seen().splits == 1);
-    walk.enter_pair(&mut limits, 0, 1)?;
+    split_pair(&mut walk, &mut limits)?;
     assert_eq!(rt; told(&limits), Some(((420, 440), Pair::Forbidden)));
-    assert!(rt; walk.level() == 2);
-    assert!(rt; walk.seen().left_open == 0);
-    assert!(rt; !walk.leave(&mut limits, false));
+    assert_eq!(rt; walk.level(), 2);
+    if leave(&mut walk, &mut limits, false)? {
+        return Err("whole")?;
+    }
     assert_eq!(rt; told(&limits), Some(((420, 440), Pair::Required)));
-    assert!(rt; walk.seen().closed == 0);
-    assert!(rt; !walk.leave(&mut limits, true));
+    if leave(&mut walk, &mut limits, true)? {
+        return Err("whole")?;
+    }
     assert_eq!(rt; told(&limits), Some(((441, 1140), Pair::Free)));
-    assert!(rt; walk.level() == 1);
-    assert!(rt; walk.seen().closed == 1);
-    assert!(rt; walk.leave(&mut limits, true));
+    assert_eq!(rt; walk.level(), 1);
+    assert!(rt; leave(&mut walk, &mut limits, true)?);
     assert_eq!(rt; told(&limits), Some(((420, 1140), Pair::Free)));
     assert_eq!(rt;
         walk.seen(),
@@ -94,7 +128,24 @@ fn walks_a_small_tree(rt: HostRuntime) -> Result<(), Fail> {
     Ok(())
 }
 
-// Splits a task's window again and again, at one minute less each time, and goes into the first child.
+#[test]
+fn tells_where_a_window_can_be_split(rt: HostRuntime) -> Result<(), Fail> {
+    let day = small_day(rt.alloc())?;
+    let limits = Limits::root(rt.alloc(), &day)?;
+    assert!(rt; limits.instance().tasks() == 2);
+    assert_eq!(rt;
+        [
+            is_inside(&limits, 0, 419),
+            is_inside(&limits, 0, 420),
+            is_inside(&limits, 0, 1139),
+            is_inside(&limits, 0, 1140)
+        ],
+        [false, true, true, false]
+    );
+    Ok(())
+}
+
+// Splits a task's window again and again, at one minute less each time, and goes into the lower child.
 fn go_down(
     walk: &mut Walk,
     limits: &mut Limits<'_>,
@@ -102,34 +153,26 @@ fn go_down(
     from: u32,
     levels: u32,
 ) -> Result<(), Fail>
-    requires { IsSomewhere limits.old walk.old }
+    requires order { levels ≤ from }
+    requires somewhere { IsSomewhere limits.old walk.old }
     ensures { OnOk result (IsSomewhere limits.new walk.new) }
 {
     for n in 0..levels {
-        if task as usize >= limits.instance().tasks() || n > from {
-            return Err("task")?;
-        }
-        if !is_inside(limits, task, from - n) || walk.seen().splits > 100000 {
-            return Err("cut")?;
-        }
-        walk.enter_window(limits, task, from - n)?;
+        split_window(walk, limits, task, from - n)?;
     }
     Ok(())
 }
 
-// Leaves open leaves up to the end of the tree: how many there are.
-fn leave_all(walk: &mut Walk, limits: &mut Limits<'_>) -> Option<u32>
+// Leaves open leaves up to the end of the tree: how many there are, below a number.
+fn leave_all(walk: &mut Walk, limits: &mut Limits<'_>, below: u32) -> Result<u32, Fail>
     requires { IsSomewhere limits.old walk.old }
 {
-    for n in 0..5000 {
-        if walk.seen().left_open > 100000 {
-            return None;
-        }
-        if walk.leave(limits, false) {
-            return Some(n + 1);
+    for n in 0..below {
+        if leave(walk, limits, false)? {
+            return Ok(n + 1);
         }
     }
-    None
+    Err("end")?
 }
 
 #[test]
@@ -139,8 +182,8 @@ fn walks_a_deep_tree(rt: HostRuntime) -> Result<(), Fail> {
     let mut walk = Walk::new(rt.alloc());
     go_down(&mut walk, &mut limits, 0, 1139, 720)?;
     go_down(&mut walk, &mut limits, 1, 799, 280)?;
-    assert!(rt; walk.level() == 1000);
-    assert_eq!(rt; leave_all(&mut walk, &mut limits), Some(1001));
+    assert_eq!(rt; walk.level(), 1000);
+    assert_eq!(rt; leave_all(&mut walk, &mut limits, 5000)?, 1001);
     assert_eq!(rt; told(&limits), Some(((420, 1140), Pair::Free)));
     assert_eq!(rt;
         walk.seen(),
