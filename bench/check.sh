@@ -1,6 +1,7 @@
 #!/usr/bin/env bash
 # Times `crew check` against `wc -l` and `sha256sum` on the same bytes: a hundred megabytes and more of dossiers
-# with the greatest instance, and of small ones.
+# with the greatest instance, and of small ones; a leaf of the greatest day, with all its potentials; and a pool and a
+# deep tree of half the size and of the whole.
 set -eu
 here=$(cd "$(dirname "${BASH_SOURCE[0]}")" && pwd)
 . "$here/timing.sh"
@@ -29,6 +30,61 @@ greatest() {
   }'
 }
 
+# the head of a dossier of 200 places, 64 teams and 400 tasks with the widest windows, with this node budget
+wide() {
+  awk -v nodes="$1" 'BEGIN {
+    print "crew dossier 1\nsize 64 400 200 " nodes
+    for (p = 0; p < 200; p++) print "place G" p
+    for (p = 0; p < 200; p++) {
+      row = "travel"
+      for (q = 0; q < 200; q++) row = row " " (p == q ? 0 : 10 + (p * 7 + q * 13) % 50)
+      print row
+    }
+    for (k = 0; k < 64; k++) print "team T" k " " k " 0 2880"
+    for (j = 0; j < 400; j++) print "task J" j " " j % 200 " 600 1320 300 1"
+  }'
+}
+
+# a dossier whose plan does no task, and whose one leaf has a price of one task for each task: a team can do three
+full_leaf() {
+  wide 0
+  awk 'BEGIN {
+    one = 840000000
+    print "pool 0 0\nplan 400 208\ntree 0 0 1 0\nleaf open"
+    row = "price"
+    for (j = 0; j < 400; j++) row = row " " one
+    print row
+    row = ""
+    for (t = 600; t <= 1320; t++) row = row " " one * (int((1320 - t) / 300) + 1)
+    for (k = 0; k < 64; k++) {
+      print "worth " 3 * one
+      for (j = 0; j < 400; j++) print "phi " j row
+    }
+    print "end"
+  }'
+}
+
+# a dossier with this many routes in its pool, all of one team
+pool() {
+  wide 0
+  awk -v routes="$1" 'BEGIN {
+    print "pool 0 " routes
+    for (r = 0; r < routes; r++) print "route 0 " r % 400 " " 600 + int(r / 400)
+    print "plan 400 0\ntree 0 0 1 0\nleaf bare\nend"
+  }'
+}
+
+# a dossier whose tree has this many splits, each in the first child of the one before
+deep() {
+  wide "$1"
+  awk -v splits="$1" 'BEGIN {
+    print "pool 0 0\nplan 400 0\ntree " splits " 0 " splits + 1 " " splits
+    for (s = 0; s < splits; s++) print "window " int(s / 720) " " 1319 - s % 720
+    for (s = 0; s <= splits; s++) print "leaf bare"
+    print "end"
+  }'
+}
+
 # repeat FILE MANY: writes the file again and again to MANY, until it has a hundred megabytes
 repeat() {
   cp "$1" "$2"
@@ -44,3 +100,11 @@ repeat "$made/greatest" "$made/many-great"
 repeat "$here/../examples/first.dossier" "$made/many-small"
 ratios 'dossiers of the greatest instance' "$made/many-great" "$crew" check
 ratios 'small dossiers' "$made/many-small" "$crew" check
+full_leaf >"$made/full-leaf"
+ratios 'a leaf of the greatest day' "$made/full-leaf" "$crew" check
+for many in 50000 100000; do
+  pool "$many" >"$made/pool"
+  ratios "a pool of $many routes" "$made/pool" "$crew" check
+  deep "$many" >"$made/deep"
+  ratios "a tree of depth $many" "$made/deep" "$crew" check
+done
