@@ -1,0 +1,126 @@
+-- where a walk stands behind a line of a node, and the rows of the table for these lines
+use Rattle.std.proofs.Common.{◌≡◌, ◌≤◌, ◌<◌, ℕ, List, [], ◌∷◌, length, Bool, true, false, ap, subst, sym, refl, ◌∙◌, arith}
+use Rattle.std.specs.Prelude.{if◌then◌else◌, codes, Result, IfOk, Ok, Err}
+use Rattle.std.proofs.lemmas.List.{length-map}
+use Rattle.crew_terms.specs.Words.{Words}
+use Rattle.crew_terms.specs.Instance.{Instance}
+use Rattle.crew_terms.specs.Limits.{Limits, root_limits, tasks_in, teams_in, window_of, pair_of}
+use Rattle.crew_terms.specs.declared.Pair.TheVariants.{Free}
+use Rattle.dossier_terms.specs.declared.Reason.TheVariants as reasons
+use Rattle.dossier_terms.specs.Dossier.{Written, Bare, splits, closed, left_open}
+use Rattle.dossier_terms.specs.Lines.{window_line, pair_line, bare_line, open_line, closed_line}
+use Rattle.dossier_terms.specs.Reading.{Reading, Said, More as Goes, No as Refuses, Draft, Counts, Frame, Lower, Upper, Without, With, Nodes, Ends, Prices, limits_below, narrowed, node_done, sum_in}
+use Rattle.dossier_terms.specs.Rules.{Holds, Fails, Spelled, Then, Else, On, Begins}
+use Rattle.dossier_terms.specs.Table.{IsCounts, HasRoom, node_row}
+use Rattle.node_limits.specs.Trail.{Trail}
+use Rattle.node_limits.specs.Rest.{Rest, IsRestOver, trail_over}
+use Rattle.tree_walk.specs.Splits.{IsCut, IsFreePair}
+use Rattle.tree_walk.specs.Way.{Walked, IsAt, IsLeaf, LeavesLeaf, Enters, counts_of, leaves_like, split_of}
+use Rattle.tree_walk.specs.declared.walk.TreeCounts.{TreeCounts}
+use Rattle.cert_checker.specs.Due.{Awaits, HasLeafRoom, HasReader, HasSplitRoom, IsNode, Tells, draft_of}
+use Rattle.cert_checker.specs.Rules.{after_bare, after_leaf, after_pair, after_window}
+use Rattle.cert_checker.specs.declared.due.TreeDraft.{TreeDraft}
+use Rattle.cert_checker.specs.declared.due.Due.TheVariants.{Node as NodeDue, End as EndDue}
+use Rattle.cert_checker.specs.declared.due.Step.{Step}
+use Rattle.cert_checker.specs.declared.due.Step.TheVariants.{More, Whole, No}
+
+-- ---- steps and rules
+
+-- what some rules tell, a row of the table tells that they are the rest of
+pub tells_row : (Rules Row : Said → Type 0) (step : Step) → ((said : Said) → Rules said → Row said) → Tells Rules step → Tells Row step
+tells_row Rules Row (More due) row t = (t.0, row (Goes t.0) t.1, t.2)
+tells_row Rules Row (Whole ended) row t = (t.0, row _ t.1, t.2)
+tells_row Rules Row (No reason) row t = row (Refuses reason) t
+
+pub if_ok : {E : Type 0} (r : Result Step E) (P Q : Step → Type 0) → ((step : Step) → P step → Q step) → IfOk r P → IfOk r Q
+if_ok (Ok step) P Q f h = f step h
+if_ok (Err e) P Q f h = h
+
+-- ---- where a walk stands
+
+-- splits change no instance
+pub instance_below : (i : Instance) (fs : List Frame) → (limits_below (root_limits i) fs).instance ≡ i
+instance_below i [] = refl
+instance_below i (Lower j cut ∷ fs) = instance_below i fs
+instance_below i (Upper j cut low ∷ fs) = instance_below i fs
+instance_below i (Without k j ∷ fs) = instance_below i fs
+instance_below i (With k j without ∷ fs) = instance_below i fs
+
+-- the tree where the walk went on and the limits with it
+abbrev pub moved : TreeDraft → Rest → Walked → TreeDraft
+moved tree rest to = record { draft = tree.draft; claimed = tree.claimed; limits = rest; walk = to; reader = tree.reader }
+
+module _ (tree : TreeDraft) (old new : Trail) (to : Walked) (rest : Rest)
+    (woke : old ≡ trail_over tree.draft.base.instance tree.limits) (same : new.limits.instance ≡ old.limits.instance)
+    (back : trail_over new.limits.instance rest ≡ new) (over : IsRestOver new.limits.instance rest) where
+  of_instance : new.limits.instance ≡ tree.draft.base.instance
+  of_instance = same ∙ ap (λ (t : Trail). t.limits.instance) woke
+
+  -- the limits at rest are those of the node where the walk stands
+  at_node : (gs : List Frame) → IsCounts (counts_of tree.claimed) → IsAt (root_limits tree.draft.base.instance) new to gs → IsNode (moved tree rest to) gs
+  at_node gs claimed at =
+      let i = tree.draft.base.instance in
+      record {
+        claimed = claimed;
+        over = subst (λ x. IsRestOver x rest) of_instance over;
+        at = subst (λ t. IsAt (root_limits i) t to gs) (sym (subst (λ x. trail_over x rest ≡ new) of_instance back)) at;
+      }
+
+  woken : (fs : List Frame) → IsNode tree fs → IsAt (root_limits tree.draft.base.instance) old tree.walk fs
+  woken fs node = subst (λ t. IsAt (root_limits tree.draft.base.instance) t tree.walk fs) (sym woke) node.at
+
+  -- past a leaf the walk stands at the node that is due
+  pub left_at : (is_closed : Bool) → LeavesLeaf is_closed old tree.walk new to false → HasReader tree → (fs : List Frame) (leaf : Written) → IsNode tree fs → IsLeaf is_closed leaf
+      → Awaits (NodeDue (moved tree rest to)) (node_done (draft_of tree.draft) (counts_of tree.claimed) fs leaf)
+  left_at is_closed leaves reader fs leaf node is =
+      let p = leaves (root_limits tree.draft.base.instance) fs leaf (draft_of tree.draft) (counts_of tree.claimed) (woken fs node) is in
+      (p.0, at_node p.0 node.claimed p.2, reader, p.1)
+
+  -- below a split the walk stands in its first child
+  pub entered_at : (f : Frame) → Enters f old tree.walk new to → HasReader tree → (fs : List Frame) → IsNode tree fs
+      → Awaits (NodeDue (moved tree rest to)) (Nodes (draft_of tree.draft) (counts_of tree.claimed) (f ∷ fs))
+  entered_at f enters reader fs node = (f ∷ fs, at_node (f ∷ fs) node.claimed (enters (root_limits tree.draft.base.instance) fs (woken fs node)), reader, refl)
+
+-- past the last leaf the whole tree is seen
+pub ended_at : (tree : TreeDraft) (old new : Trail) (to : Walked) (seen : TreeCounts) (is_closed : Bool)
+    → old ≡ trail_over tree.draft.base.instance tree.limits → LeavesLeaf is_closed old tree.walk new to true → seen ≡ to.seen
+    → (fs : List Frame) (leaf : Written) → IsNode tree fs → IsLeaf is_closed leaf
+    → Awaits (EndDue tree.draft tree.claimed seen) (node_done (draft_of tree.draft) (counts_of tree.claimed) fs leaf)
+ended_at tree old new to seen is_closed woke leaves saw fs leaf node is =
+    let at : IsAt (root_limits tree.draft.base.instance) old tree.walk fs = subst (λ t. IsAt (root_limits tree.draft.base.instance) t tree.walk fs) (sym woke) node.at in
+    let p = leaves (root_limits tree.draft.base.instance) fs leaf (draft_of tree.draft) (counts_of tree.claimed) at is in
+    (p.0, ap counts_of saw ∙ p.2.seen, p.1)
+
+-- the limits that woke are those of the node
+pub limits_at : (tree : TreeDraft) (t : Trail) (fs : List Frame) → t ≡ trail_over tree.draft.base.instance tree.limits → IsNode tree fs
+    → t.limits ≡ limits_below (root_limits tree.draft.base.instance) fs
+limits_at tree t fs woke node = ap (λ (x : Trail). x.limits) woke ∙ node.at.way.limits
+
+-- ---- room
+
+level_at : (tree : TreeDraft) (fs : List Frame) → IsNode tree fs → length tree.walk.above ≡ length fs
+level_at tree fs node = ap length node.at.way.above ∙ length-map fs split_of
+
+pub room_at : (tree : TreeDraft) (fs : List Frame) → IsNode tree fs → HasSplitRoom tree → HasRoom (counts_of tree.claimed) fs
+room_at tree fs node room = (
+  subst (λ s. s < tree.claimed.splits) (ap (λ (c : Counts). c.splits) node.at.seen) room.splits,
+  subst (λ s. s < tree.claimed.depth) (level_at tree fs node) room.depth,
+)
+
+pub room_above : (tree : TreeDraft) (fs : List Frame) → IsNode tree fs → HasRoom (counts_of tree.claimed) fs → HasSplitRoom tree
+room_above tree fs node room = record {
+  splits = subst (λ s. s < tree.claimed.splits) (sym (ap (λ (c : Counts). c.splits) node.at.seen)) room.0;
+  depth = subst (λ s. s < tree.claimed.depth) (sym (level_at tree fs node)) room.1;
+}
+
+-- the numbers that a line `leaf` is judged by
+abbrev HasLeafRoomIn : Counts → List Frame → Bool → Type 0
+HasLeafRoomIn c fs is_closed = (if is_closed then sum_in closed 0 fs else sum_in left_open 0 fs) < (if is_closed then c.closed else c.left_open)
+
+pub leaf_room_at : (tree : TreeDraft) (is_closed : Bool) (fs : List Frame) → IsNode tree fs → HasLeafRoom tree is_closed → HasLeafRoomIn (counts_of tree.claimed) fs is_closed
+leaf_room_at tree true fs node room = subst (λ s. s < tree.claimed.closed) (ap (λ (c : Counts). c.closed) node.at.seen) room
+leaf_room_at tree false fs node room = subst (λ s. s < tree.claimed.left_open) (ap (λ (c : Counts). c.left_open) node.at.seen) room
+
+pub leaf_room_above : (tree : TreeDraft) (is_closed : Bool) (fs : List Frame) → IsNode tree fs → HasLeafRoomIn (counts_of tree.claimed) fs is_closed → HasLeafRoom tree is_closed
+leaf_room_above tree true fs node room = subst (λ s. s < tree.claimed.closed) (sym (ap (λ (c : Counts). c.closed) node.at.seen)) room
+leaf_room_above tree false fs node room = subst (λ s. s < tree.claimed.left_open) (sym (ap (λ (c : Counts). c.left_open) node.at.seen)) room
