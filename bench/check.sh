@@ -9,16 +9,23 @@ crew="$here/../bin/crew"
 made=$(mktemp -d)
 trap 'rm -r "$made"' EXIT
 
-# a dossier of 200 places, 64 teams and 400 tasks, each of which is planned
-greatest() {
-  awk 'BEGIN {
-    print "crew dossier 1\nsize 64 400 200 0"
+# the first lines of a dossier of 64 teams, 400 tasks and 200 places, with this node budget
+places() {
+  awk -v nodes="$1" 'BEGIN {
+    print "crew dossier 1\nsize 64 400 200 " nodes
     for (p = 0; p < 200; p++) print "place G" p
     for (p = 0; p < 200; p++) {
       row = "travel"
       for (q = 0; q < 200; q++) row = row " " (p == q ? 0 : 10 + (p * 7 + q * 13) % 50)
       print row
     }
+  }'
+}
+
+# a dossier of them each of whose tasks is planned
+greatest() {
+  places 0
+  awk 'BEGIN {
     for (k = 0; k < 64; k++) print "team T" k " " k " 0 2880 0 1 2 3"
     for (j = 0; j < 400; j++) {
       from = 200 + int(j / 64) * 150
@@ -30,16 +37,10 @@ greatest() {
   }'
 }
 
-# the head of a dossier of 200 places, 64 teams and 400 tasks with the widest windows, with this node budget
+# the head of a dossier with the widest windows, with this node budget
 wide() {
-  awk -v nodes="$1" 'BEGIN {
-    print "crew dossier 1\nsize 64 400 200 " nodes
-    for (p = 0; p < 200; p++) print "place G" p
-    for (p = 0; p < 200; p++) {
-      row = "travel"
-      for (q = 0; q < 200; q++) row = row " " (p == q ? 0 : 10 + (p * 7 + q * 13) % 50)
-      print row
-    }
+  places "$1"
+  awk 'BEGIN {
     for (k = 0; k < 64; k++) print "team T" k " " k " 0 2880"
     for (j = 0; j < 400; j++) print "task J" j " " j % 200 " 600 1320 300 1"
   }'
