@@ -1,4 +1,4 @@
-// Plans of tasks for teams, and whether they are legal.
+// Plans of tasks for teams: whether they are legal, whether they keep the limits of a node, and what each team does.
 #![tactic(auto)]
 
 mod check;
@@ -7,7 +7,11 @@ mod plan;
 #[cfg(test)]
 mod tests;
 mod turns;
+mod visits;
+mod within;
 
 pub use check::check_plan;
-pub use crew_terms::PlanVerdict;
+pub use crew_terms::{PlanVerdict, Visit};
 pub use plan::{Plan, unassigned};
+pub use visits::tasks_of;
+pub use within::in_limits;

@@ -60,6 +60,27 @@ impl Plan {
         Ok(())
     }
 
+    /// Leaves task `i` unassigned.
+    pub fn clear(&mut self, i: u32)
+        requires { i < length self.old }
+        ensures { self.new ≡ slice_set self.old i None }
+    {
+        self.slots[i as usize] = None;
+    }
+
+    /// An equal plan with memory of its own.
+    pub fn copy(&self) -> Result<Plan, AllocError>
+        ensures { IfOk result (λ p. p ≡ self.now) }
+    {
+        let mut copy = Plan::empty(self.alloc, self.len())?;
+        for i in 0..self.len() as u32 {
+            if let Some(start) = self.start(i) {
+                copy.assign(i, start, self.teams(i))?;
+            }
+        }
+        Ok(copy)
+    }
+
     /// How many tasks the plan is for.
     pub fn len(&self) -> usize
         ensures count { result ≡ length self.now }

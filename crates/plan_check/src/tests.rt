@@ -3,6 +3,8 @@ ghost use Rattle.crew_terms.specs.Verdict.{IsPlanOf};
 
 use super::*;
 use crew_instance::{BuildFault, Builder, Instance, Name, Task, Team};
+use crew_terms::Pair;
+use node_limits::Limits;
 use std::alloc::{AllocError, Global};
 use std::process::Abort;
 
@@ -129,4 +131,56 @@ fn holds_what_is_assigned(rt: HostRuntime) {
     assert_eq!(rt; plan.start(0), None);
     assert_eq!(rt; plan.start(2), Some(460));
     assert_eq!(rt; plan.teams(2), [0, 3].as_slice());
+}
+
+#[test]
+fn takes_an_assignment_back(rt: HostRuntime) {
+    let mut plan = plan(&rt, rt.alloc(), &[(1, 440, &[0]), (2, 460, &[0, 3])]).expect(
+        &rt, "memory",
+    );
+    let before = plan.copy().expect(&rt, "memory");
+    assert!(rt; 2 < plan.len());
+    plan.clear(1);
+    assert_eq!(rt; (unassigned(&plan), unassigned(&before)), (5, 4));
+    assert!(rt; 2 < before.len());
+    assert_eq!(rt; (plan.start(1), before.start(1)), (None, Some(440)));
+    assert_eq!(rt; plan.teams(2), before.teams(2));
+}
+
+#[test]
+fn lists_what_a_team_does(rt: HostRuntime) {
+    let jobs: [(u32, u32, &[u32]); 4] = [
+        (0, 440, &[1]),
+        (3, 420, &[0, 1]),
+        (1, 440, &[1]),
+        (2, 400, &[0]),
+    ];
+    let plan = plan(&rt, rt.alloc(), &jobs).expect(&rt, "memory");
+    let visits = tasks_of(rt.alloc(), &plan, 1).expect(&rt, "memory");
+    let wanted = [(3, 420), (0, 440), (1, 440)].map(|(task, start)| Visit { task, start });
+    assert_eq!(rt; visits.as_slice(), wanted.as_slice());
+}
+
+// Whether the plan with these jobs is within the limits of a node in which team 0 doesn't do task 1 and does task 2.
+fn is_in_node(rt: &impl Abort, alloc: Global, jobs: &[(u32, u32, &[u32])]) -> bool {
+    let day = day(rt, alloc).expect(rt, "a day");
+    let plan = plan(rt, alloc, jobs).expect(rt, "memory");
+    let mut limits = Limits::root(alloc, &day).expect(rt, "memory");
+    limits.reserve(2).expect(rt, "memory");
+    assert!(rt; day.teams() == 1 && day.tasks() == 6);
+    assert!(rt; limits.pair(0, 1) == Pair::Free);
+    limits.set_pair(0, 1, Pair::Forbidden);
+    assert!(rt; limits.pair(0, 2) == Pair::Free);
+    limits.set_pair(0, 2, Pair::Required);
+    assert!(rt; belongs(&day, &plan));
+    in_limits(&limits, &plan)
+}
+
+#[test]
+fn tells_what_is_within_a_node(rt: HostRuntime) {
+    assert!(rt; is_in_node(&rt, rt.alloc(), &[(2, 460, &[0]), (0, 420, &[])]));
+    assert!(rt; !is_in_node(&rt, rt.alloc(), &[(2, 460, &[0]), (0, 421, &[])]));
+    assert!(rt; !is_in_node(&rt, rt.alloc(), &[(2, 460, &[0]), (0, 419, &[])]));
+    assert!(rt; !is_in_node(&rt, rt.alloc(), &[(2, 460, &[0]), (1, 440, &[0])]));
+    assert!(rt; !is_in_node(&rt, rt.alloc(), &[(0, 420, &[0])]));
 }

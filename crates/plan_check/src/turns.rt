@@ -14,9 +14,9 @@ use crew_terms::PlanVerdict;
 
 // A task that a team begins, at a minute of the day.
 #[derive(Clone, Copy, Default)]
-struct Turn {
-    start: u32,
-    task: u32,
+pub(crate) struct Turn {
+    pub(crate) start: u32,
+    pub(crate) task: u32,
 }
 
 // Puts a task behind those that begin no later.
@@ -45,7 +45,7 @@ fn turn_at(plan: &Plan, k: u32, task: u32) -> Option<Turn>
 }
 
 // The tasks of team `k`, in order.
-fn turns_of(plan: &Plan, k: u32) -> ArrayVec<Turn, 400>
+pub(crate) fn turns_of(plan: &Plan, k: u32) -> ArrayVec<Turn, 400>
     ensures { AreTurns plan.now k (length plan.now) result.items }
 {
     let mut turns = ArrayVec::new();
