@@ -1,0 +1,3 @@
+pub mod PoolRows
+pub mod PlanRows
+pub mod TreeRows
