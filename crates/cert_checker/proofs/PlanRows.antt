@@ -95,7 +95,7 @@ line_of_counts i m n p a b h = record {
 pub job_goes_on : (b : Held) (more from : ℕ) → 0 < more → IsPlanOf b.base.instance b.plan → Tells (after_job (draft_of b) more from) (More (JobDue b (more - 1) from))
 job_goes_on b zero from l h = absurd (omega arith)
 job_goes_on b (suc more) from l h = let e : suc more - 1 ≡ more = omega arith in
-    subst (λ n. Tells (after_job (draft_of b) (suc more) from) (More (JobDue b n from))) (sym e) (Jobs (draft_of b) more from, On refl, h, refl)
+    subst (λ n. Tells (after_job (draft_of b) (suc more) from) (More (JobDue b n from))) (sym e) (Jobs (draft_of b) more from, On refl, (h, refl))
 
 pub jobs_judged : (b : Held) (more from : ℕ) → more ≡ 0 → IsLegal b.base.instance b.plan → Tells (after_job (draft_of b) more from) (More (TreeDue b))
 jobs_judged b more from none legal = subst (λ n. Tells (after_job (draft_of b) n from) (More (TreeDue b))) (sym none)

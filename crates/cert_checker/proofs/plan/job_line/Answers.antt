@@ -39,7 +39,7 @@ judge_job-requires c =
     let listed : c.deref.result.now ≡ h.0 = c.deref.ensures.value ∙ c.in_ok-teams.ensures ∙ ap naturals h.1 ∙ naturals-pos h.0 in
     let line = line_of_counts i c.teams-teams.result c.tasks-tasks.result (c.in-Job.task, job) c.teams-teams.ensures.count c.tasks-tasks.ensures.count h.2 in
     subst (IsPlanOf i) (sym (c.in_ok-assign.ensures.ok ∙ ap (λ ks. slice_set b.plan c.in-Job.task (Some (record job { teams = ks }))) listed))
-    (plan_of_more i b.plan c.in-Job.task c.in-Job.start h.0 c.requires.1 line.task line.teams)
+    (plan_of_more i b.plan c.in-Job.task c.in-Job.start h.0 c.requires.1.0 line.task line.teams)
 
 pub returns : goal.returns
 returns c = λ reading a.
