@@ -33,14 +33,10 @@ pub tree_begun : (b : Held) (claimed : TreeCounts) (tree : TreeDraft) (ws : Word
     → ws ≡ tree_line claimed.splits claimed.closed claimed.left_open claimed.depth → IsTreeFault (draft_of b) (counts_of claimed) None
     → tree.draft ≡ b → tree.claimed ≡ claimed → IsNode tree [] → HasReader tree → Tells (tree_row (draft_of b) ws) (More (Node tree))
 tree_begun b claimed tree ws fits is good e f node reader =
-    let root = Nodes (draft_of b) (counts_of claimed) [] in (
-      root,
-      tree_says (draft_of b) (counts_of claimed) ws (Goes root) fits is (good (Goes root) (On refl)),
-      [],
-      node,
-      reader,
-      ap (λ d. Nodes (draft_of d) (counts_of claimed) []) (sym e) ∙ ap (λ c. Nodes (draft_of tree.draft) (counts_of c) []) (sym f),
-    )
+    let root = Nodes (draft_of b) (counts_of claimed) [] in
+    let same : root ≡ Nodes (draft_of tree.draft) (counts_of tree.claimed) [] =
+        ap (λ d. Nodes (draft_of d) (counts_of claimed) []) (sym e) ∙ ap (λ c. Nodes (draft_of tree.draft) (counts_of c) []) (sym f) in
+    (root, tree_says (draft_of b) (counts_of claimed) ws (Goes root) fits is (good (Goes root) (On refl)), ([], node, reader, same))
 
 -- the limits of the root are kept, and a walk begins there
 pub root_over : (i : Instance) (t : Trail) (rest : Rest) → t ≡ record { limits = root_limits i; past = []; spare = 0 } → IsRestOver t.limits.instance rest → IsRestOver i rest

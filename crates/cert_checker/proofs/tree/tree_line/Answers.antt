@@ -1,4 +1,4 @@
-use Rattle.std.proofs.Common.{sym, subst, None, Some}
+use Rattle.std.proofs.Common.{sym, subst}
 use Rattle.dossier_terms.specs.Reading.{No as Refuses}
 use Rattle.dossier_terms.specs.Table.{Says}
 use Rattle.cert_format.specs.Lines.{IsTreeLine}
@@ -7,7 +7,7 @@ use Rattle.tree_walk.specs.declared.walk.TreeCounts.{TreeCounts}
 use Rattle.cert_checker.specs.Due.{Tells, draft_of}
 use Rattle.cert_checker.specs.declared.due.Due.TheVariants.{Node}
 use Rattle.cert_checker.specs.declared.due.Step.TheVariants.{More}
-use Rattle.cert_checker.proofs.TreeRows.{tree_faulty, tree_begun, no_fault}
+use Rattle.cert_checker.proofs.TreeRows.{tree_faulty, tree_begun}
 use Rattle.cert_checker.proofs.tree.tree_line.Goals as goal
 
 pub returns-in-Some : goal.returns-in-Some
@@ -22,7 +22,6 @@ returns c = λ reading e.
     let h = subst (IsTreeLine c.args.words) c.in-Tree.is c.in-Ok.ensures in
     let claimed : TreeCounts = record { splits = c.in-Tree.splits; closed = c.in-Tree.closed; left_open = c.in-Tree.left_open; depth = c.in-Tree.depth } in
     let tree = c.in_ok-tree.tree in
-    let fault = c.fault_of_tree.result in
-    let none = no_fault (draft_of c.args.draft) (counts_of claimed) fault c.in_default-fault_of_tree.not-Some c.fault_of_tree.ensures in
+    let none = c.in_default-fault_of_tree.ensures in
     subst (λ r. Tells (Says r c.args.words) (More (Node tree))) (sym e)
     (tree_begun c.args.draft claimed tree c.args.words h.0 h.1 none c.in_ok-tree.ensures.draft c.in_ok-tree.ensures.claimed c.in_ok-tree.ensures.node c.in_ok-tree.ensures.reader)
