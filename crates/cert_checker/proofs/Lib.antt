@@ -1,1 +1,3 @@
-pub mod NodeRows
+pub mod PoolRows
+pub mod PlanRows
+pub mod TreeRows
