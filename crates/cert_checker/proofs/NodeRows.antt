@@ -124,3 +124,59 @@ leaf_room_at tree false fs node room = subst (λ s. s < tree.claimed.left_open) 
 pub leaf_room_above : (tree : TreeDraft) (is_closed : Bool) (fs : List Frame) → IsNode tree fs → HasLeafRoomIn (counts_of tree.claimed) fs is_closed → HasLeafRoom tree is_closed
 leaf_room_above tree true fs node room = subst (λ s. s < tree.claimed.closed) (sym (ap (λ (c : Counts). c.closed) node.at.seen)) room
 leaf_room_above tree false fs node room = subst (λ s. s < tree.claimed.left_open) (sym (ap (λ (c : Counts). c.left_open) node.at.seen)) room
+
+-- ---- the rules behind the words of a line
+
+-- the task and the team of a line are those of the node
+task_below : (i : Instance) (fs : List Frame) (j : ℕ) → j < length i.tasks → j < tasks_in (limits_below (root_limits i) fs)
+task_below i fs j l = subst (λ (x : Instance). j < length x.tasks) (sym (instance_below i fs)) l
+
+team_below : (i : Instance) (fs : List Frame) (k : ℕ) → k < length i.teams → k < teams_in (limits_below (root_limits i) fs)
+team_below i fs k l = subst (λ (x : Instance). k < length x.teams) (sym (instance_below i fs)) l
+
+module _ (b : Draft) (c : Counts) (fs : List Frame) where
+  pub window_no_room : (j cut : ℕ) → (HasRoom c fs → ⊥) → after_window b c fs j cut (Refuses reasons.Count)
+  window_no_room j cut broken = Fails broken refl
+
+  pub window_no_cut : (j cut : ℕ) (n : Limits) → n ≡ limits_below (root_limits b.instance) fs → HasRoom c fs → j < length b.instance.tasks → (IsCut n j cut → ⊥)
+      → after_window b c fs j cut (Refuses reasons.Cut)
+  window_no_cut j cut n same room task broken =
+      let outside : IsCut (limits_below (root_limits b.instance) fs) j cut → ⊥ = subst (λ m. IsCut m j cut → ⊥) same broken in
+      Holds room (Fails (λ inside. outside (record { task = task_below b.instance fs j task; early = inside.0; late = inside.1 })) refl)
+
+  pub window_more : (j cut : ℕ) (n : Limits) → n ≡ limits_below (root_limits b.instance) fs → HasRoom c fs → IsCut n j cut
+      → after_window b c fs j cut (Goes (Nodes b c (Lower j cut ∷ fs)))
+  window_more j cut n same room inside =
+      let is : IsCut (limits_below (root_limits b.instance) fs) j cut = subst (λ m. IsCut m j cut) same inside in
+      Holds room (Holds (is.early, is.late) (On refl))
+
+  pub pair_no_room : (k j : ℕ) → (HasRoom c fs → ⊥) → after_pair b c fs k j (Refuses reasons.Count)
+  pair_no_room k j broken = Fails broken refl
+
+  pub pair_not_free : (k j : ℕ) (n : Limits) → n ≡ limits_below (root_limits b.instance) fs → HasRoom c fs → k < length b.instance.teams → j < length b.instance.tasks
+      → (IsFreePair n k j → ⊥) → after_pair b c fs k j (Refuses reasons.Pair)
+  pair_not_free k j n same room team task broken =
+      let bound : IsFreePair (limits_below (root_limits b.instance) fs) k j → ⊥ = subst (λ m. IsFreePair m k j → ⊥) same broken in
+      Holds room (Fails (λ free. bound (record { team = team_below b.instance fs k team; task = task_below b.instance fs j task; free = free })) refl)
+
+  pub pair_more : (k j : ℕ) (n : Limits) → n ≡ limits_below (root_limits b.instance) fs → HasRoom c fs → IsFreePair n k j
+      → after_pair b c fs k j (Goes (Nodes b c (Without k j ∷ fs)))
+  pair_more k j n same room free =
+      let is : IsFreePair (limits_below (root_limits b.instance) fs) k j = subst (λ m. IsFreePair m k j) same free in
+      Holds room (Holds is.free (On refl))
+
+  pub bare_no_room : (HasLeafRoomIn c fs false → ⊥) → after_bare b c fs (Refuses reasons.Count)
+  bare_no_room broken = Fails broken refl
+
+  pub bare_high : HasLeafRoomIn c fs false → 0 < b.bound → after_bare b c fs (Refuses reasons.Bound)
+  bare_high room high = Holds room (Fails (λ e. absurd (omega arith)) refl)
+
+  pub bare_more : HasLeafRoomIn c fs false → b.bound ≤ 0 → after_bare b c fs (Goes (node_done b c fs Bare))
+  bare_more room low = Holds room (Holds (omega arith) (On refl))
+
+  pub leaf_no_room : (is_closed : Bool) → (HasLeafRoomIn c fs is_closed → ⊥) → after_leaf b c fs is_closed (Refuses reasons.Count)
+  leaf_no_room is_closed broken = Fails broken refl
+
+  pub leaf_more : (is_closed : Bool) → HasLeafRoomIn c fs is_closed
+      → after_leaf b c fs is_closed (Goes (Prices (record { draft = b; counts = c; above = fs; is_closed = is_closed })))
+  leaf_more is_closed room = Holds room (On refl)
