@@ -1,3 +1,4 @@
 pub mod PoolRows
 pub mod PlanRows
 pub mod TreeRows
+pub mod NodeRows
