@@ -1,1 +1,2 @@
 pub mod NodeRows
+pub mod LeafRows
