@@ -2,3 +2,4 @@ pub mod PoolRows
 pub mod PlanRows
 pub mod TreeRows
 pub mod NodeRows
+pub mod LeafRows

@@ -61,7 +61,7 @@ module _ (tree : TreeDraft) (old new : Trail) (to : Walked) (rest : Rest)
   of_instance = same ∙ ap (λ (t : Trail). t.limits.instance) woke
 
   -- the limits at rest are those of the node where the walk stands
-  at_node : (gs : List Frame) → IsCounts (counts_of tree.claimed) → IsAt (root_limits tree.draft.base.instance) new to gs → IsNode (moved tree rest to) gs
+  pub at_node : (gs : List Frame) → IsCounts (counts_of tree.claimed) → IsAt (root_limits tree.draft.base.instance) new to gs → IsNode (moved tree rest to) gs
   at_node gs claimed at =
       let i = tree.draft.base.instance in
       record {
