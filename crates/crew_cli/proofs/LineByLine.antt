@@ -349,7 +349,7 @@ ends_whole first left0 start old new left later checker next said verdict law s 
     let texts : flat_map text_of (done ++ d ∷ []) ≡ text_before done lines = flat_map-append text_of done (d ∷ []) ∙ ap (λ x. flat_map text_of done ++ x) (append-nil (text_of d) ∙ good.1) in
     record {
       dossier = d;
-      says = g.2.0;
+      says = g.2;
       true_yes = good.0;
       between = record {
         rest = f.0;
@@ -383,7 +383,7 @@ opens_next first left0 start old new left later checker next said verdict s a j 
     let count = j.count in (
       record {
         going = opens old new left later checker.lines next.lines s.going a count;
-        first = AtFirst (omega (arith, count)) (g.0, g.2.1);
+        first = AtFirst (omega (arith, count)) (g.0, g.3);
       },
       (let x = s.grows in let h = a.handed in let n = length-append new.line (10 ∷ []) in let b = s.begun in omega arith),
     )
