@@ -71,7 +71,7 @@ returns-in-No-clause-front g c =
     c.refuse.ensures.part c.dossiers.invariant.so_far
 
 pub returns-in_err-verdict-clause-memory : goal.returns-in_err-verdict-clause-memory
-returns-in_err-verdict-clause-memory g c = on_err c.from_residual-in_err-verdict.result _
+returns-in_err-verdict-clause-memory g c = on_err c.from_residual.result _
     (says_yes_lines (g.S.Source.left c.args.src.now) (g.K.Sink.got c.args.out.now) c.dossiers.reader (g.S.Source.left c.dossiers.src) (g.K.Sink.got c.dossiers.out) c.dossiers.checker.lines c.dossiers.invariant.so_far)
 
 pub returns-in-ReadFault-clause-interrupted : goal.returns-in-ReadFault-clause-interrupted
