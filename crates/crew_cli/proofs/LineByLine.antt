@@ -13,15 +13,17 @@ use Rattle.dossier_terms.specs.declared.Reason.{Reason}
 use Rattle.dossier_terms.specs.Dossier.{Dossier, IsGood}
 use Rattle.dossier_terms.specs.Lines.{lines_of, text_of}
 use Rattle.dossier_terms.specs.Reading.{Reading, Form, Said as Answer, More as Goes, Whole as Ends, No as Refuses}
-use Rattle.dossier_terms.specs.Today.{Answers, IsSimple, IsSimpleInput}
-use Rattle.dossier_laws.specs.Path.{Leads, Answered}
-use Rattle.cert_checker.specs.Checked.{Checked, Due, Ended, IsEnded, IsJudged, due_at, said_of, standing_after, stop_reason_of}
+use Rattle.dossier_terms.specs.Table.{Says, Reaches, Ended}
+use Rattle.dossier_terms.specs.Accepted.{IsAccepted}
+use Rattle.cert_checker.specs.Checked.{Checked, IsDueAt, IsEnded, IsJudged, IsOpen as IsDue, IsReached, IsTrueYes, IsWholeAt, StandsAfter, fresh_checker, said_of, stop_reason_of, verdict_of}
+use Rattle.cert_checker.specs.declared.checker.State.{State}
+use Rattle.cert_checker.specs.declared.checker.State.TheVariants as states
 use Rattle.cert_checker.specs.declared.checker.Verdict.{Verdict}
 use Rattle.cert_checker.specs.declared.checker.Said.{Said}
 use Rattle.cert_checker.specs.declared.checker.Said.TheVariants.{More, Whole, No}
 use Rattle.cert_checker.specs.declared.checker.Stop.{Stop}
 use Rattle.cert_checker.specs.declared.checker.Stop.TheVariants as stop
-use Rattle.crew_cli.specs.Input.{HasRead, IsBetween, IsGoing, IsAtFirst, Fresh, Behind as AtFirst, IsOpen, IsRefusal, BadLine, NoLine, Stops, LineTooLong, InputTooLong, IsEnd, IsOutcome, IsOutcomeAtStop, Over, Short, Fault, OpensNext, told_of, text_of_lines, text_before, lines_before, room_after}
+use Rattle.crew_cli.specs.Input.{HasRead, IsBetween, IsGoing, IsAtFirst, Fresh, Behind as AtFirst, IsOpen, IsRefusal, BadLine, NoLine, Stops, LineTooLong, InputTooLong, IsEnd, IsNext, IsOutcome, IsOutcomeAtStop, Over, Short, Fault, OpensNext, told_of, text_of_lines, text_before, lines_before, room_after}
 use Rattle.crew_cli.specs.declared.input.Outcome.{Outcome}
 use Rattle.crew_cli.specs.declared.input.Outcome.TheVariants as outcomes
 use Rattle.crew_cli.proofs.Refusals.{leads_on, ends}
@@ -37,9 +39,8 @@ pub record ReadTo (input : List ℕ) (done : List Dossier) (reader : Reader) (le
 
 -- where the checker stands, behind so many lines of whole dossiers
 pub data StandsAt (from : ℕ) (checker : Checked) (due : Reading) : Type 0 where
-  AtStart : (none : from ≡ 0) (at : checker.at ≡ Due Form) (is : due ≡ Form) → StandsAt from checker due
-  Behind : (some : 0 < from) (here : checker.lines ≡ from) (d : Dossier) (at : checker.at ≡ Ended d) (is : due ≡ Form) → StandsAt from checker due
-  Amid : (more : from < checker.lines) (at : checker.at ≡ Due due) → StandsAt from checker due
+  AtFirstLine : (here : checker.lines ≡ from) (first : IsAtFirst checker) (is : due ≡ Form) → StandsAt from checker due
+  Amid : (more : from < checker.lines) (at : IsDueAt checker.at due) → StandsAt from checker due
 
 -- what holds before each line of the next dossier
 pub record IsSoFar (old : Reader) (left0 : Option (List ℕ)) (start : Checked) (reader : Reader) (left : Option (List ℕ)) (checker : Checked) : Type 0 where
@@ -47,6 +48,7 @@ pub record IsSoFar (old : Reader) (left0 : Option (List ℕ)) (start : Checked) 
   pub begun : start.lines ≤ checker.lines
   pub grows : old.handed + checker.lines ≤ reader.handed + start.lines
   pub due : Reading
+  pub reached : IsReached due
   pub stands : StandsAt start.lines checker due
   pub read : (input : List ℕ) (done : List Dossier) → IsBetween input done old left0 start.lines → ReadTo input done reader left due checker.lines
 
@@ -56,17 +58,14 @@ one_more lines line = flat_map-append with_feed lines (line ∷ []) ∙ ap (λ x
 before_more : (done : List Dossier) (lines : List (List ℕ)) (line : List ℕ) → text_before done (lines ++ line ∷ []) ≡ text_before done lines ++ with_feed line
 before_more done lines line = ap (λ x. flat_map text_of done ++ x) (one_more lines line) ∙ sym (append_assoc (flat_map text_of done) (text_of_lines lines) (with_feed line))
 
-first_stands : (checker : Checked) → IsAtFirst checker → StandsAt checker.lines checker Form
-first_stands checker (Fresh is) = AtStart (ap (λ c. c.lines) is) (ap (λ c. c.at) is) refl
-first_stands checker (AtFirst some ended) = Behind some refl ended.0 ended.1 refl
-
 pub starts : (reader : Reader) (left : Option (List ℕ)) (checker : Checked) → IsOpen reader checker → IsSoFar reader left checker reader left checker
 starts reader left checker open_ = record {
   going = open_.going;
   begun = omega arith;
   grows = omega arith;
   due = Form;
-  stands = first_stands checker open_.first;
+  reached = ([], refl);
+  stands = AtFirstLine refl open_.first refl;
   read = λ input done b. record {
     lines = [];
     rest = b.rest;
@@ -78,13 +77,30 @@ starts reader left checker open_ = record {
 }
 
 -- the line that is due is the one of the table
-due_of : (from : ℕ) (checker : Checked) (due : Reading) → StandsAt from checker due → due_at checker.at ≡ Some due
-due_of from checker due (AtStart none at is) = ap due_at at ∙ ap Some (sym is)
-due_of from checker due (Behind some here d at is) = ap due_at at ∙ ap Some (sym is)
-due_of from checker due (Amid more at) = ap due_at at
+
+-- behind a whole dossier the first line of the next one is due, and no other
+ended_is_due : (at : State) → IsEnded at → IsDueAt at Form
+ended_is_due (states.Due due) e = absurd e.1
+ended_is_due (states.Whole ended) e = refl
+ended_is_due (states.Refused line reason) e = absurd e.1
+ended_is_due states.Spent e = absurd e.1
+
+ended_is_first : (at : State) (due : Reading) → IsEnded at → IsDueAt at due → due ≡ Form
+ended_is_first (states.Due due) reading e d = absurd e.1
+ended_is_first (states.Whole ended) reading e d = d
+ended_is_first (states.Refused line reason) reading e d = absurd e.1
+ended_is_first states.Spent reading e d = absurd e.1
+
+first_is_due : (checker : Checked) → IsAtFirst checker → IsDueAt checker.at Form
+first_is_due checker (Fresh is) = subst (λ c. IsDueAt c.at Form) (sym is) (tt, tt, refl)
+first_is_due checker (AtFirst some ended) = ended_is_due checker.at ended
+
+due_of : (from : ℕ) (checker : Checked) (due : Reading) → StandsAt from checker due → IsDueAt checker.at due
+due_of from checker due (AtFirstLine here first is) = subst (IsDueAt checker.at) (sym is) (first_is_due checker first)
+due_of from checker due (Amid more at) = at
 
 pub is_due : (first : Reader) (left0 : Option (List ℕ)) (start : Checked) (old : Reader) (left : Option (List ℕ)) (checker : Checked)
-    → (s : IsSoFar first left0 start old left checker) → due_at checker.at ≡ Some s.due
+    → (s : IsSoFar first left0 start old left checker) → IsDueAt checker.at s.due
 is_due first left0 start old left checker s = due_of start.lines checker s.due s.stands
 
 -- what an answer finds of the rest
@@ -126,49 +142,50 @@ few_lines first left0 start old new left later checker s a =
 
 -- what the table says where the checker says this
 
-goes : (lines : ℕ) (said : Said) (new : Checked) (due : Reading) (ws : Words) (answer : Answer) → Answers due ws answer → said ≡ said_of (lines + 1) answer
-    → new ≡ record { lines = lines + 1; at = standing_after (lines + 1) answer } → said ≡ More
-    → (next : Reading) × Answers due ws (Goes next) × (new ≡ record { lines = lines + 1; at = Due next })
-goes lines said new due ws (Goes next) a e n is = (next, a, n)
-goes lines said new due ws (Ends d) a e n is = absurd (let f = sym is ∙ e in cc)
-goes lines said new due ws (Refuses reason) a e n is = absurd (let f = sym is ∙ e in cc)
+goes : (lines : ℕ) (said : Said) (at : State) (due : Reading) (ws : Words) (answer : Answer) → Says due ws answer → said ≡ said_of (lines + 1) answer
+    → StandsAfter (lines + 1) answer at → said ≡ More → (next : Reading) × Says due ws (Goes next) × IsDueAt at next
+goes lines said at due ws (Goes next) a e n is = (next, a, n)
+goes lines said at due ws (Ends d) a e n is = absurd (let f = sym is ∙ e in cc)
+goes lines said at due ws (Refuses reason) a e n is = absurd (let f = sym is ∙ e in cc)
 
-whole : (lines : ℕ) (said : Said) (new : Checked) (due : Reading) (ws : Words) (verdict : Verdict) (answer : Answer) → Answers due ws answer → said ≡ said_of (lines + 1) answer
-    → new ≡ record { lines = lines + 1; at = standing_after (lines + 1) answer } → said ≡ Whole verdict
-    → (d : Dossier) × Answers due ws (Ends d) × (new ≡ record { lines = lines + 1; at = Ended d })
-whole lines said new due ws verdict (Goes next) a e n is = absurd (let f = sym is ∙ e in cc)
-whole lines said new due ws verdict (Ends d) a e n is = (d, a, n)
-whole lines said new due ws verdict (Refuses reason) a e n is = absurd (let f = sym is ∙ e in cc)
+whole : (lines : ℕ) (said : Said) (at : State) (due : Reading) (ws : Words) (verdict : Verdict) (answer : Answer) → Says due ws answer → said ≡ said_of (lines + 1) answer
+    → StandsAfter (lines + 1) answer at → said ≡ Whole verdict → (d : Dossier) × Says due ws (Ends d) × (verdict ≡ verdict_of d) × IsWholeAt at d
+whole lines said at due ws verdict (Goes next) a e n is = absurd (let f = sym is ∙ e in cc)
+whole lines said at due ws verdict (Ends d) a e n is = (d, a, same_verdict verdict (verdict_of d) (sym is ∙ e), n)
+  where
+    same_verdict : (v w : Verdict) → Whole v ≡ Whole w → v ≡ w
+    same_verdict v w e = cc
+whole lines said at due ws verdict (Refuses reason) a e n is = absurd (let f = sym is ∙ e in cc)
 
-refused_for : (lines : ℕ) (said : Said) (due : Reading) (ws : Words) (number : ℕ) (reason : Reason) (answer : Answer) → Answers due ws answer → said ≡ said_of (lines + 1) answer
-    → said ≡ No number reason → Answers due ws (Refuses reason) × (number ≡ lines + 1)
+refused_for : (lines : ℕ) (said : Said) (due : Reading) (ws : Words) (number : ℕ) (reason : Reason) (answer : Answer) → Says due ws answer → said ≡ said_of (lines + 1) answer
+    → said ≡ No number reason → Says due ws (Refuses reason) × (number ≡ lines + 1)
 refused_for lines said due ws number reason (Goes next) a e is = absurd (let f = sym is ∙ e in cc)
 refused_for lines said due ws number reason (Ends d) a e is = absurd (let f = sym is ∙ e in cc)
 refused_for lines said due ws number reason (Refuses r) a e is =
     let f = sym is ∙ e in
     let g : r ≡ reason = cc in
     let h : number ≡ lines + 1 = cc in
-    (subst (λ x. Answers due ws (Refuses x)) g a, h)
+    (subst (λ x. Says due ws (Refuses x)) g a, h)
 
 -- one line more
 pub goes_on : (first : Reader) (left0 : Option (List ℕ)) (start : Checked) (old new : Reader) (left later : Option (List ℕ)) (checker next : Checked) (said : Said)
     → (s : IsSoFar first left0 start old left checker) → Advances old left progress.Line new later → IsJudged checker.lines s.due (words_of new.line) said next → said ≡ More
     → IsSoFar first left0 start new later next
 goes_on first left0 start old new left later checker next said s a j is =
-    let g = goes checker.lines said next s.due (words_of new.line) j.answer j.is j.says j.stands is in
-    let count : next.lines ≡ checker.lines + 1 = ap (λ c. c.lines) g.2 in
+    let g = goes checker.lines said next.at s.due (words_of new.line) j.answer j.is j.says j.stands is in
     record {
-      going = opens old new left later checker.lines next.lines s.going a count;
-      begun = (let b = s.begun in omega arith);
-      grows = (let b = s.grows in let h = a.handed in let n = length-append new.line (10 ∷ []) in omega arith);
+      going = opens old new left later checker.lines next.lines s.going a j.count;
+      begun = (let b = s.begun in let c = j.count in omega (arith, b, c));
+      grows = (let b = s.grows in let c = j.count in let h = a.handed in let n = length-append new.line (10 ∷ []) in omega arith);
       due = g.0;
-      stands = Amid (let b = s.begun in omega arith) (ap (λ c. c.at) g.2);
-      read = λ input done b. more g.0 g.1 count input done (s.read input done b);
+      reached = (s.reached.0 ++ words_of new.line ∷ [], leads_on Form s.reached.0 (words_of new.line) s.due g.0 s.reached.1 g.1);
+      stands = Amid (let b = s.begun in let c = j.count in omega (arith, b, c)) g.2;
+      read = λ input done b. more g.0 g.1 input done (s.read input done b);
     }
   where
-    more : (due : Reading) → Answers s.due (words_of new.line) (Goes due) → next.lines ≡ checker.lines + 1 → (input : List ℕ) (done : List Dossier) → ReadTo input done old left s.due checker.lines
+    more : (due : Reading) → Says s.due (words_of new.line) (Goes due) → (input : List ℕ) (done : List Dossier) → ReadTo input done old left s.due checker.lines
         → ReadTo input done new later due next.lines
-    more due answer count input done r =
+    more due answer input done r =
         let f = found input done old new left later progress.Line s.due checker.lines s.going.limit r a in
         record {
           lines = r.lines ++ new.line ∷ [];
@@ -178,13 +195,12 @@ goes_on first left0 start old new left later checker next said s a j is =
             text = text_more input done r.lines new.line r.rest f.0 r.read.text f.2.parts;
             within = (let h = handed_more done r.lines new.line old.handed new.handed a.handed r.handed in let w = a.within in let l = a.limit in let m = s.going.limit in omega arith);
             good = r.read.good;
-            simple = r.read.simple;
             each = All-push IsLine r.lines new.line r.read.each a.line;
-            leads = subst (λ ws. Leads Form ws due) (sym (words_more r.lines new.line))
+            leads = subst (λ ws. Reaches Form ws due) (sym (words_more r.lines new.line))
                 (leads_on Form (map words_of r.lines) (words_of new.line) s.due due r.read.leads answer);
           };
           handed = handed_more done r.lines new.line old.handed new.handed a.handed r.handed;
-          number = (let n = r.number in let m = length-append r.lines (new.line ∷ []) in omega arith);
+          number = (let n = r.number in let c = j.count in let m = length-append r.lines (new.line ∷ []) in omega arith);
         }
 
 pub refuses : (first : Reader) (left0 : Option (List ℕ)) (start : Checked) (old new : Reader) (left later : Option (List ℕ)) (checker next : Checked) (said : Said) (number : ℕ) (reason : Reason)
@@ -195,7 +211,7 @@ refuses first left0 start old new left later checker next said number reason s a
     let f = found input done old new left later progress.Line s.due checker.lines s.going.limit r a in
     let g = refused_for checker.lines said s.due (words_of new.line) number reason j.answer j.is j.says is in
     BadLine r.lines new.line f.0 s.due
-    (record { text = r.read.text ∙ ap (λ x. text_before done r.lines ++ x) f.2.parts; within = r.read.within; good = r.read.good; simple = r.read.simple; each = r.read.each; leads = r.read.leads })
+    (record { text = r.read.text ∙ ap (λ x. text_before done r.lines ++ x) f.2.parts; within = r.read.within; good = r.read.good; each = r.read.each; leads = r.read.leads })
     f.2.plain f.2.fits g.0 (let n = r.number in let m = g.1 in omega arith)
 
 no_bytes : (rest : List ℕ) → length rest ≡ 0 → rest ≡ []
@@ -214,15 +230,15 @@ some_lines (d ∷ done) h = let n = length-append (lines_of d) (flat_map lines_o
     has_lines d = omega arith
 
 -- a dossier is whole just where no line of the next one was read
-ended_here : (from : ℕ) (checker : Checked) (due : Reading) → StandsAt from checker due → IsEnded checker.at → (checker.lines ≡ from) × (0 < from)
-ended_here from checker due (AtStart none at is) e = absurd (let f = sym at ∙ e.1 in cc)
-ended_here from checker due (Behind some here d at is) e = (here, some)
-ended_here from checker due (Amid more at) e = absurd (let f = sym at ∙ e.1 in cc)
+ended_here : (from : ℕ) (checker : Checked) (due : Reading) → StandsAt from checker due → (due ≡ Form → checker.lines ≡ from) → IsEnded checker.at → (checker.lines ≡ from) × (0 < from)
+ended_here from checker due (AtFirstLine here (Fresh is) form) none e = absurd (subst (λ c. IsEnded c.at) is e).1
+ended_here from checker due (AtFirstLine here (AtFirst some ended) form) none e = (here, omega (arith, here, some))
+ended_here from checker due (Amid more at) none e = absurd (let h = none (ended_is_first checker.at due e at) in omega (arith, more, h))
 
 here_ended : (from : ℕ) (checker : Checked) (due : Reading) → StandsAt from checker due → checker.lines ≡ from → 0 < from → IsEnded checker.at
-here_ended from checker due (AtStart none at is) e l = absurd (omega arith)
-here_ended from checker due (Behind some here d at is) e l = (d, at)
-here_ended from checker due (Amid more at) e l = absurd (omega arith)
+here_ended from checker due (AtFirstLine here (Fresh is) form) e l = absurd (let n : checker.lines ≡ 0 = ap (λ c. c.lines) is in omega (arith, n, e, l))
+here_ended from checker due (AtFirstLine here (AtFirst some ended) form) e l = ended
+here_ended from checker due (Amid more at) e l = absurd (omega (arith, more, e))
 
 is_fault : (answer : Progress) → answer ≢ progress.Line → told_of answer ≡ None → answer ≡ progress.ReadFault
 is_fault progress.Line stopped told = absurd (stopped refl)
@@ -233,10 +249,20 @@ is_fault progress.ReadFault stopped told = refl
 
 -- where no line comes whole
 module _ (first : Reader) (left0 : Option (List ℕ)) (start : Checked) (old new : Reader) (left later : Option (List ℕ)) (checker : Checked)
+    (first_line : (lines : List Words) → Reaches Form lines Form → lines ≡ [])
     (s : IsSoFar first left0 start old left checker) (input : List ℕ) (done : List Dossier) (b : IsBetween input done first left0 start.lines) where
-  accepts : (r : ReadTo input done old left s.due checker.lines) → IsEnded checker.at → IsPartial (room_after done r.lines) r.rest 0 → IsSimpleInput input done
+  -- where the first line of a dossier is due, no line of it was read
+  at_form : (r : ReadTo input done old left s.due checker.lines) → s.due ≡ Form → checker.lines ≡ start.lines
+  at_form r form =
+      let e = ap length (first_line (map words_of r.lines) (subst (Reaches Form (map words_of r.lines)) form r.read.leads)) in
+      let f = length-map r.lines words_of in
+      let n = r.number in
+      let m = b.number in
+      omega arith
+
+  accepts : (r : ReadTo input done old left s.due checker.lines) → IsEnded checker.at → IsPartial (room_after done r.lines) r.rest 0 → IsAccepted input done
   accepts r ended p =
-      let at = ended_here start.lines checker s.due s.stands ended in
+      let at = ended_here start.lines checker s.due s.stands (at_form r) ended in
       let n = r.number in
       let m = b.number in
       let e : r.lines ≡ [] = no_lines r.lines (omega arith) in
@@ -246,10 +272,7 @@ module _ (first : Reader) (left0 : Option (List ℕ)) (start : Checked) (old new
       let w = s.going.within in
       let h = b.handed in
       let small : length input ≤ 2 ^ 62 = (let i = ap length text in let g = r.handed in let k = ap (λ x. length (text_before done x)) e in let j = ap length (append-nil (flat_map text_of done)) in omega arith) in
-      record {
-        accepted = record { size = small; some = λ x. absurd (let k = ap (λ y. length (flat_map lines_of y)) x in omega arith); good = r.read.good; text = text };
-        simple = r.read.simple;
-      }
+      record { size = small; some = λ x. absurd (let k = ap (λ y. length (flat_map lines_of y)) x in omega arith); good = r.read.good; text = text }
 
   not_over : (r : ReadTo input done old left s.due checker.lines) → IsEnd done r.lines r.rest → IsEnded checker.at
   not_over r e = here_ended start.lines checker s.due s.stands (let n = r.number in let m = b.number in let k = ap length e.between in omega arith) (let m = b.number in let l = some_lines done e.some in omega arith)
@@ -304,46 +327,51 @@ module _ (first : Reader) (left0 : Option (List ℕ)) (start : Checked) (old new
       })
 
 pub stops : (first : Reader) (left0 : Option (List ℕ)) (start : Checked) (old new : Reader) (left later : Option (List ℕ)) (checker after : Checked) (answer : Progress) (outcome : Outcome)
+    → ((lines : List Words) → Reaches Form lines Form → lines ≡ [])
     → IsSoFar first left0 start old left checker → Advances old left answer new later → answer ≢ progress.Line → IsOutcomeAtStop checker answer outcome
     → (input : List ℕ) (done : List Dossier) → IsBetween input done first left0 start.lines → IsOutcome input done new later after outcome
-stops first left0 start old new left later checker after answer outcome s a stopped is input done b =
-    stops_so first left0 start old new left later checker s input done b answer outcome after a stopped is
+stops first left0 start old new left later checker after answer outcome law s a stopped is input done b =
+    stops_so first left0 start old new left later checker law s input done b answer outcome after a stopped is
 
 pub ends_whole : (first : Reader) (left0 : Option (List ℕ)) (start : Checked) (old new : Reader) (left later : Option (List ℕ)) (checker next : Checked) (said : Said) (verdict : Verdict)
-    → ((lines : List (List ℕ)) (d : Dossier) → Answered Form (map words_of lines) d → IsGood d × IsSimple d × (text_of d ≡ text_of_lines lines) × (lines_of d ≡ map words_of lines))
+    → ((lines : List (List ℕ)) (d : Dossier) → Ended Form (map words_of lines) d → IsTrueYes d × (text_of d ≡ text_of_lines lines) × (lines_of d ≡ map words_of lines))
     → (s : IsSoFar first left0 start old left checker) → Advances old left progress.Line new later → IsJudged checker.lines s.due (words_of new.line) said next → said ≡ Whole verdict
-    → (input : List ℕ) (done : List Dossier) → IsBetween input done first left0 start.lines → (d : Dossier) → next.at ≡ Ended d → IsBetween input (done ++ d ∷ []) new later next.lines
-ends_whole first left0 start old new left later checker next said verdict law s a j is input done b d at =
-    let g = whole checker.lines said next s.due (words_of new.line) verdict j.answer j.is j.says j.stands is in
-    let same : g.0 ≡ d = (let x = sym (ap (λ c. c.at) g.2) ∙ at in cc) in
+    → (input : List ℕ) (done : List Dossier) → IsBetween input done first left0 start.lines → IsNext input done verdict new later next.lines
+ends_whole first left0 start old new left later checker next said verdict law s a j is input done b =
+    let g = whole checker.lines said next.at s.due (words_of new.line) verdict j.answer j.is j.says j.stands is in
+    let d = g.0 in
     let r = s.read input done b in
     let lines = r.lines ++ new.line ∷ [] in
     let f = found input done old new left later progress.Line s.due checker.lines s.going.limit r a in
-    let answered : Answered Form (map words_of lines) d = subst (λ ws. Answered Form ws d) (sym (words_more r.lines new.line))
-    (ends Form (map words_of r.lines) (words_of new.line) s.due d r.read.leads (subst (λ x. Answers s.due (words_of new.line) (Ends x)) same g.1)) in
-    let good = law lines d answered in
-    let texts : flat_map text_of (done ++ d ∷ []) ≡ text_before done lines = flat_map-append text_of done (d ∷ []) ∙ ap (λ x. flat_map text_of done ++ x) (append-nil (text_of d) ∙ good.2) in
+    let read : Ended Form (map words_of lines) d = subst (λ ws. Ended Form ws d) (sym (words_more r.lines new.line))
+    (ends Form (map words_of r.lines) (words_of new.line) s.due d r.read.leads g.1) in
+    let good = law lines d read in
+    let texts : flat_map text_of (done ++ d ∷ []) ≡ text_before done lines = flat_map-append text_of done (d ∷ []) ∙ ap (λ x. flat_map text_of done ++ x) (append-nil (text_of d) ∙ good.1) in
     record {
-      rest = f.0;
-      is = f.1;
-      read = record {
-        text = text_more input done r.lines new.line r.rest f.0 r.read.text f.2.parts ∙ ap (λ x. x ++ f.0) (sym texts ∙ sym (append-nil (flat_map text_of (done ++ d ∷ []))));
-        within = (let h = handed_more done r.lines new.line old.handed new.handed a.handed r.handed ∙ ap length (sym texts ∙ sym (append-nil (flat_map text_of (done ++ d ∷ [])))) in
-            let w = a.within in let l = a.limit in let m = s.going.limit in omega arith);
-        good = All-push IsGood done d r.read.good good.0;
-        simple = All-push IsSimple done d r.read.simple good.1;
-        each = All-nil IsLine;
-        leads = refl;
+      dossier = d;
+      says = g.2;
+      true_yes = good.0;
+      between = record {
+        rest = f.0;
+        is = f.1;
+        read = record {
+          text = text_more input done r.lines new.line r.rest f.0 r.read.text f.2.parts ∙ ap (λ x. x ++ f.0) (sym texts ∙ sym (append-nil (flat_map text_of (done ++ d ∷ []))));
+          within = (let h = handed_more done r.lines new.line old.handed new.handed a.handed r.handed ∙ ap length (sym texts ∙ sym (append-nil (flat_map text_of (done ++ d ∷ [])))) in
+              let w = a.within in let l = a.limit in let m = s.going.limit in omega arith);
+          good = All-push IsGood done d r.read.good good.0.good;
+          each = All-nil IsLine;
+          leads = refl;
+        };
+        handed = handed_more done r.lines new.line old.handed new.handed a.handed r.handed ∙ ap length (sym texts);
+        number = (let n = r.number in
+            let e = ap length (flat_map-append lines_of done (d ∷ [])) in
+            let g1 = length-append (flat_map lines_of done) (flat_map lines_of (d ∷ [])) in
+            let h = ap length (append-nil (lines_of d)) in
+            let i = ap length good.2 in
+            let jj = length-map lines words_of in
+            let c = j.count in
+            let k = length-append r.lines (new.line ∷ []) in omega arith);
       };
-      handed = handed_more done r.lines new.line old.handed new.handed a.handed r.handed ∙ ap length (sym texts);
-      number = (let n = r.number in
-          let e = ap length (flat_map-append lines_of done (d ∷ [])) in
-          let g1 = length-append (flat_map lines_of done) (flat_map lines_of (d ∷ [])) in
-          let h = ap length (append-nil (lines_of d)) in
-          let i = ap length good.3 in
-          let jj = length-map lines words_of in
-          let c = ap (λ c. c.lines) g.2 in
-          let k = length-append r.lines (new.line ∷ []) in omega arith);
     }
 
 -- after a dossier the reader and the checker can go on, and more was handed out
@@ -351,11 +379,11 @@ pub opens_next : (first : Reader) (left0 : Option (List ℕ)) (start : Checked) 
     → (s : IsSoFar first left0 start old left checker) → Advances old left progress.Line new later → IsJudged checker.lines s.due (words_of new.line) said next → said ≡ Whole verdict
     → IsOpen new next × (first.handed < new.handed)
 opens_next first left0 start old new left later checker next said verdict s a j is =
-    let g = whole checker.lines said next s.due (words_of new.line) verdict j.answer j.is j.says j.stands is in
-    let count : next.lines ≡ checker.lines + 1 = ap (λ c. c.lines) g.2 in (
+    let g = whole checker.lines said next.at s.due (words_of new.line) verdict j.answer j.is j.says j.stands is in
+    let count = j.count in (
       record {
         going = opens old new left later checker.lines next.lines s.going a count;
-        first = AtFirst (omega arith) (g.0, ap (λ c. c.at) g.2);
+        first = AtFirst (omega (arith, count)) (g.0, g.3);
       },
       (let x = s.grows in let h = a.handed in let n = length-append new.line (10 ∷ []) in let b = s.begun in omega arith),
     )

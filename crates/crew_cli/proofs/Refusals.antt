@@ -12,36 +12,29 @@ use Rattle.dossier_terms.specs.declared.Reason.{Reason}
 use Rattle.dossier_terms.specs.Dossier.{Dossier, IsGood}
 use Rattle.dossier_terms.specs.Lines.{lines_of, text_of}
 use Rattle.dossier_terms.specs.Reading.{Reading, Said, More, Whole, No, Form}
-use Rattle.dossier_terms.specs.Table.{Says, Reaches}
-use Rattle.dossier_terms.specs.Today.{Answers, IsWhole, IsRefused, IsMore, IsDeferred, IsSimple, IsSimpleInput}
-use Rattle.dossier_laws.specs.Path.{Leads, Answered}
+use Rattle.dossier_terms.specs.Table.{Says, Reaches, Ended}
+use Rattle.dossier_terms.specs.Accepted.{IsAccepted}
 use Rattle.text_laws.specs.Texts.{IsFront, AreLine, HasMore}
 use Rattle.crew_cli.specs.Input.{IsRefusal, BadLine, NoLine, HasRead, IsStop, Stops, LineTooLong, InputTooLong, IsEnd, text_of_lines, text_before, lines_before, room_after}
 
-says_more : (s : Reading) (ws : Words) (next : Reading) → Answers s ws (More next) → Says s ws (More next)
-says_more s ws next (IsWhole d says is) = absurd (cc)
-says_more s ws next (IsRefused reason says is) = absurd (cc)
-says_more s ws next (IsMore n says taken is) = subst (Says s ws) (sym is) says
-says_more s ws next (IsDeferred n says later is) = absurd (cc)
-
--- the table leads where the checker's answers do
-pub reaches : (s : Reading) (lines : List Words) (t : Reading) → Leads s lines t → Reaches s lines t
-reaches s [] t h = h
-reaches s (ws ∷ lines) t h = (h.0, says_more s ws h.0 h.1, reaches h.0 lines t h.2)
-
-reach_more : (a : Reading) (xs : List Words) (x : Words) (b c : Reading) → Reaches a xs b → Says b x (More c) → Reaches a (xs ++ x ∷ []) c
-reach_more a [] x b c p q = (c, subst (λ y. Says y x (More c)) (sym p) q, refl)
-reach_more a (y ∷ xs) x b c p q = (p.0, p.1, reach_more p.0 xs x b c p.2 q)
-
 -- one line more
-pub leads_on : (s : Reading) (lines : List Words) (ws : Words) (t u : Reading) → Leads s lines t → Answers t ws (More u) → Leads s (lines ++ ws ∷ []) u
-leads_on s [] ws t u h a = (u, subst (λ x. Answers x ws (More u)) (sym h) a, refl)
+pub leads_on : (s : Reading) (lines : List Words) (ws : Words) (t u : Reading) → Reaches s lines t → Says t ws (More u) → Reaches s (lines ++ ws ∷ []) u
+leads_on s [] ws t u h a = (u, subst (λ x. Says x ws (More u)) (sym h) a, refl)
 leads_on s (w ∷ lines) ws t u h a = (h.0, h.1, leads_on h.0 lines ws t u h.2 a)
 
 -- the line that ends a dossier
-pub ends : (s : Reading) (lines : List Words) (ws : Words) (t : Reading) (d : Dossier) → Leads s lines t → Answers t ws (Whole d) → Answered s (lines ++ ws ∷ []) d
-ends s [] ws t d h a = inl (subst (λ x. Answers x ws (Whole d)) (sym h) a, refl)
+pub ends : (s : Reading) (lines : List Words) (ws : Words) (t : Reading) (d : Dossier) → Reaches s lines t → Says t ws (Whole d) → Ended s (lines ++ ws ∷ []) d
+ends s [] ws t d h a = inl (subst (λ x. Says x ws (Whole d)) (sym h) a, refl)
 ends s (w ∷ lines) ws t d h a = inr (h.0, h.1, ends h.0 lines ws t d h.2 a)
+
+-- lines that lead on, and lines that end a dossier from there
+pub ended_after : (s : Reading) (lines : List Words) (t : Reading) (more : List Words) (d : Dossier) → Reaches s lines t → Ended t more d → Ended s (lines ++ more) d
+ended_after s [] t more d h e = subst (λ x. Ended x more d) (sym h) e
+ended_after s (ws ∷ lines) t more d h e = inr (h.0, h.1, ended_after h.0 lines t more d h.2 e)
+
+pub none_before : (xs ys : List Words) → xs ++ ys ≡ ys → xs ≡ []
+none_before [] ys e = refl
+none_before (x ∷ xs) ys e = absurd (let n = ap length e in let m = length-append xs ys in omega (arith, n, m))
 
 -- the first line before an LF is one
 same_line : (a b x y : List ℕ) → All (λ c. c ≢ 10) a → All (λ c. c ≢ 10) b → with_feed a ++ x ≡ with_feed b ++ y → a ≡ b
@@ -109,7 +102,7 @@ one_stop room rest reason cause (InputTooLong a e) (InputTooLong b f) = e ∙ sy
 -- what is refused behind these lines: the next one, or that none comes whole
 data Stands (done : List Dossier) (lines : List (List ℕ)) (rest : List ℕ) (due : Reading) (reason : Reason) : Type 0 where
   AtLine : (line after : List ℕ) (parts : rest ≡ with_feed line ++ after) (plain : IsLine line) (fits : length line < room_after done lines)
-      (answer : Answers due (words_of line) (No reason)) → Stands done lines rest due reason
+      (answer : Says due (words_of line) (No reason)) → Stands done lines rest due reason
   AtStop : (stop : IsStop (room_after done lines) rest reason) (more : IsEnd done lines rest → ⊥) → Stands done lines rest due reason
 
 -- where an input is refused
@@ -130,11 +123,11 @@ place_of input done number reason (NoLine lines rest due read stop more is) =
 -- a reading that goes on where another stands does so within the same dossier, or beyond it
 data GoesOn (done others : List Dossier) (ws vs m : List Words) : Type 0 where
   Within : (same : done ≡ others) (words : vs ≡ ws ++ m) → GoesOn done others ws vs m
-  Beyond : (d : Dossier) (good : IsGood d) (simple : IsSimple d) (tail : List Words) (words : ws ++ m ≡ lines_of d ++ tail) → GoesOn done others ws vs m
+  Beyond : (d : Dossier) (good : IsGood d) (tail : List Words) (words : ws ++ m ≡ lines_of d ++ tail) → GoesOn done others ws vs m
 
 extend : (d x : Dossier) (done others : List Dossier) (ws vs m : List Words) → d ≡ x → GoesOn done others ws vs m → GoesOn (d ∷ done) (x ∷ others) ws vs m
 extend d x done others ws vs m same (Within s w) = Within (ap (λ y. d ∷ y) s ∙ ap (λ y. y ∷ others) same) w
-extend d x done others ws vs m same (Beyond e g s t w) = Beyond e g s t w
+extend d x done others ws vs m same (Beyond e g t w) = Beyond e g t w
 
 no_text : (d : Dossier) (xs : List Words) → [] ≡ lines_of d ++ xs → ⊥
 no_text d xs e = cc
@@ -153,37 +146,37 @@ lines_read done lines = map line_of (flat_map lines_of done) ++ lines
 
 -- the laws of the table and of texts
 module _
-    (one : (lines : List Words) (s : Reading) (ws : Words) (a b : Said) → Reaches Form lines s → Answers s ws a → Answers s ws b → a ≡ b)
-    (answered : (d : Dossier) → IsGood d → IsSimple d → Answered Form (lines_of d) d)
+    (one : (lines : List Words) (s : Reading) (ws : Words) (a b : Said) → Reaches Form lines s → Says s ws a → Says s ws b → a ≡ b)
+    (is_read : (d : Dossier) → IsGood d → Ended Form (lines_of d) d)
     (front : (ds : List Dossier) (lines : List (List ℕ)) (rest : List ℕ) → All IsGood ds → All IsLine lines
     → flat_map text_of ds ≡ flat_map with_feed lines ++ rest → IsFront (flat_map lines_of ds) lines rest)
     (good : (d : Dossier) → IsGood d → All AreLine (lines_of d))
     (cut : (words : Words) → words ≢ [] → All (All (λ b. b ≢ 32)) words → words_of (line_of words) ≡ words)
     (texts : (ds : List Dossier) (lines : List (List ℕ)) → flat_map lines_of ds ≡ map words_of lines → flat_map text_of ds ≡ flat_map with_feed lines)
     (first : (d e : Dossier) (more : List Words) → IsGood d → IsGood e → lines_of e ≡ lines_of d ++ more → (more ≡ []) × (d ≡ e)) where
-  -- what is answered after lines that lead on is answered from where they lead
-  answered_after : (before : List Words) (s : Reading) (lines more : List Words) (t : Reading) (d : Dossier)
-      → Reaches Form before s → Leads s lines t → Answered s (lines ++ more) d → Answered t more d
-  answered_after before s [] more t d r h a = subst (λ x. Answered x more d) h a
-  answered_after before s (ws ∷ lines) more t d r h (inl w) =
+  -- what is is_read after lines that lead on is is_read from where they lead
+  ended_from : (before : List Words) (s : Reading) (lines more : List Words) (t : Reading) (d : Dossier)
+      → Reaches Form before s → Reaches s lines t → Ended s (lines ++ more) d → Ended t more d
+  ended_from before s [] more t d r h a = subst (λ x. Ended x more d) h a
+  ended_from before s (ws ∷ lines) more t d r h (inl w) =
       let e : More h.0 ≡ Whole d = one before s ws (More h.0) (Whole d) r h.1 w.0 in absurd (cc)
-  answered_after before s (ws ∷ lines) more t d r h (inr n) =
+  ended_from before s (ws ∷ lines) more t d r h (inr n) =
       let e : More h.0 ≡ More n.0 = one before s ws (More h.0) (More n.0) r h.1 n.1 in
       let f : h.0 ≡ n.0 = cc in
-      answered_after (before ++ ws ∷ []) h.0 lines more t d (reach_more Form before ws s h.0 r (says_more s ws h.0 h.1)) h.2
-      (subst (λ x. Answered x (lines ++ more) d) (sym f) n.2)
+      ended_from (before ++ ws ∷ []) h.0 lines more t d (leads_on Form before ws s h.0 r h.1) h.2
+      (subst (λ x. Ended x (lines ++ more) d) (sym f) n.2)
 
   -- no lines lead past the end of a dossier
   leads_not_past : (before : List Words) (s : Reading) (lines more : List Words) (t : Reading) (d : Dossier)
-      → Reaches Form before s → Answered s lines d → Leads s (lines ++ more) t → ⊥
+      → Reaches Form before s → Ended s lines d → Reaches s (lines ++ more) t → ⊥
   leads_not_past before s [] more t d r a h = a
   leads_not_past before s (ws ∷ lines) more t d r (inl w) h =
       let e : More h.0 ≡ Whole d = one before s ws (More h.0) (Whole d) r h.1 w.0 in cc
   leads_not_past before s (ws ∷ lines) more t d r (inr n) h =
       let e : More h.0 ≡ More n.0 = one before s ws (More h.0) (More n.0) r h.1 n.1 in
       let f : h.0 ≡ n.0 = cc in
-      leads_not_past (before ++ ws ∷ []) n.0 lines more t d (reach_more Form before ws s n.0 r (says_more s ws n.0 n.1)) n.2
-      (subst (λ x. Leads x (lines ++ more) t) f h.2)
+      leads_not_past (before ++ ws ∷ []) n.0 lines more t d (leads_on Form before ws s n.0 r n.1) n.2
+      (subst (λ x. Reaches x (lines ++ more) t) f h.2)
 
   -- two good dossiers whose lines begin one text are one
   same_first : (d x : Dossier) (a b : List Words) → IsGood d → IsGood x → lines_of x ++ a ≡ lines_of d ++ b → d ≡ x
@@ -263,25 +256,25 @@ module _
 
   -- lines that lead on lead on from where the first of them lead
   leads_after : (before : List Words) (s : Reading) (lines more : List Words) (t u : Reading)
-      → Reaches Form before s → Leads s lines t → Leads s (lines ++ more) u → Leads t more u
-  leads_after before s [] more t u r h a = subst (λ x. Leads x more u) h a
+      → Reaches Form before s → Reaches s lines t → Reaches s (lines ++ more) u → Reaches t more u
+  leads_after before s [] more t u r h a = subst (λ x. Reaches x more u) h a
   leads_after before s (ws ∷ lines) more t u r h n =
       let e : More h.0 ≡ More n.0 = one before s ws (More h.0) (More n.0) r h.1 n.1 in
       let f : h.0 ≡ n.0 = cc in
-      leads_after (before ++ ws ∷ []) h.0 lines more t u (reach_more Form before ws s h.0 r (says_more s ws h.0 h.1)) h.2
-      (subst (λ x. Leads x (lines ++ more) u) (sym f) n.2)
+      leads_after (before ++ ws ∷ []) h.0 lines more t u (leads_on Form before ws s h.0 r h.1) h.2
+      (subst (λ x. Reaches x (lines ++ more) u) (sym f) n.2)
 
-  goes_on : (done others : List Dossier) (ws vs m : List Words) (due : Reading) → All IsGood done → All IsSimple done → All IsGood others → All IsSimple others
-      → Leads Form vs due → flat_map lines_of others ++ vs ≡ (flat_map lines_of done ++ ws) ++ m → GoesOn done others ws vs m
-  goes_on [] [] ws vs m due gd sd go so leads e = Within refl e
-  goes_on [] (d ∷ ds) ws vs m due gd sd go so leads e = Beyond d (go 0 d (omega arith)) (so 0 d (omega arith)) (flat_map lines_of ds ++ vs)
+  goes_on : (done others : List Dossier) (ws vs m : List Words) (due : Reading) → All IsGood done → All IsGood others
+      → Reaches Form vs due → flat_map lines_of others ++ vs ≡ (flat_map lines_of done ++ ws) ++ m → GoesOn done others ws vs m
+  goes_on [] [] ws vs m due gd go leads e = Within refl e
+  goes_on [] (d ∷ ds) ws vs m due gd go leads e = Beyond d (go 0 d (omega arith)) (flat_map lines_of ds ++ vs)
       (sym e ∙ append_assoc (lines_of d) (flat_map lines_of ds) vs)
-  goes_on (d ∷ done) [] ws vs m due gd sd go so leads e =
+  goes_on (d ∷ done) [] ws vs m due gd go leads e =
       let f : vs ≡ lines_of d ++ ((flat_map lines_of done ++ ws) ++ m) = e ∙ ap (λ x. x ++ m) (append_assoc (lines_of d) (flat_map lines_of done) ws)
       ∙ append_assoc (lines_of d) (flat_map lines_of done ++ ws) m in
-      absurd (leads_not_past [] Form (lines_of d) ((flat_map lines_of done ++ ws) ++ m) due d refl (answered d (gd 0 d (omega arith)) (sd 0 d (omega arith)))
-      (subst (λ x. Leads Form x due) f leads))
-  goes_on (d ∷ done) (x ∷ others) ws vs m due gd sd go so leads e =
+      absurd (leads_not_past [] Form (lines_of d) ((flat_map lines_of done ++ ws) ++ m) due d refl (is_read d (gd 0 d (omega arith)))
+      (subst (λ x. Reaches Form x due) f leads))
+  goes_on (d ∷ done) (x ∷ others) ws vs m due gd go leads e =
       let a = flat_map lines_of others ++ vs in
       let b = (flat_map lines_of done ++ ws) ++ m in
       let f : lines_of x ++ a ≡ lines_of d ++ b = sym (append_assoc (lines_of x) (flat_map lines_of others) vs) ∙ e
@@ -289,50 +282,50 @@ module _
       let same : d ≡ x = same_first d x a b (gd 0 d (omega arith)) (go 0 x (omega arith)) f in
       let g : a ≡ b = cancel (lines_of d) a b (ap (λ y. lines_of y ++ a) same ∙ f) in
       extend d x done others ws vs m same (goes_on done others ws vs m due
-      (λ k y l. gd (suc k) y (omega arith)) (λ k y l. sd (suc k) y (omega arith)) (λ k y l. go (suc k) y (omega arith)) (λ k y l. so (suc k) y (omega arith)) leads g)
+      (λ k y l. gd (suc k) y (omega arith)) (λ k y l. go (suc k) y (omega arith)) leads g)
 
   -- an answer that takes a line
   record IsTaken (due : Reading) (words : Words) : Type 0 where
     said : Said
-    answer : Answers due words said
+    answer : Says due words said
     taken : (reason : Reason) → said ≢ No reason
 
   -- the next line of a dossier
-  taken_in : (ws : List Words) (w : Words) (ms : List Words) (due : Reading) (d : Dossier) (tail : List Words) → IsGood d → IsSimple d
-      → Leads Form ws due → ws ++ w ∷ ms ≡ lines_of d ++ tail → IsTaken due w
-  taken_in ws w ms due d tail g s leads words = elim (front_of ws (lines_of d) (w ∷ ms) tail words) [
-    | inl k ↦ absurd (leads_not_past [] Form (lines_of d) k.0 due d refl (answered d g s) (subst (λ x. Leads Form x due) k.1 leads))
-    | inr k ↦ at k.0 (answered_after [] Form ws k.0 due d refl leads (subst (λ x. Answered Form x d) k.1 (answered d g s)))
+  taken_in : (ws : List Words) (w : Words) (ms : List Words) (due : Reading) (d : Dossier) (tail : List Words) → IsGood d
+      → Reaches Form ws due → ws ++ w ∷ ms ≡ lines_of d ++ tail → IsTaken due w
+  taken_in ws w ms due d tail g leads words = elim (front_of ws (lines_of d) (w ∷ ms) tail words) [
+    | inl k ↦ absurd (leads_not_past [] Form (lines_of d) k.0 due d refl (is_read d g) (subst (λ x. Reaches Form x due) k.1 leads))
+    | inr k ↦ at k.0 (ended_from [] Form ws k.0 due d refl leads (subst (λ x. Ended Form x d) k.1 (is_read d g)))
         (cancel ws (w ∷ ms) (k.0 ++ tail) (words ∙ ap (λ x. x ++ tail) k.1 ∙ append_assoc ws k.0 tail))
   ]
     where
-      at : (k : List Words) → Answered due k d → w ∷ ms ≡ k ++ tail → IsTaken due w
+      at : (k : List Words) → Ended due k d → w ∷ ms ≡ k ++ tail → IsTaken due w
       at [] a f = absurd a
-      at (y ∷ k) (inl z) f = record { said = Whole d; answer = subst (λ x. Answers due x (Whole d)) (let h : y ≡ w = cc in h) z.0; taken = λ reason x. cc }
-      at (y ∷ k) (inr n) f = record { said = More n.0; answer = subst (λ x. Answers due x (More n.0)) (let h : y ≡ w = cc in h) n.1; taken = λ reason x. cc }
+      at (y ∷ k) (inl z) f = record { said = Whole d; answer = subst (λ x. Says due x (Whole d)) (let h : y ≡ w = cc in h) z.0; taken = λ reason x. cc }
+      at (y ∷ k) (inr n) f = record { said = More n.0; answer = subst (λ x. Says due x (More n.0)) (let h : y ≡ w = cc in h) n.1; taken = λ reason x. cc }
 
   next_taken : (done others : List Dossier) (ws vs : List Words) (w : Words) (ms : List Words) (due later : Reading)
-      → Leads Form ws due → Leads Form vs later → GoesOn done others ws vs (w ∷ ms) → IsTaken due w
+      → Reaches Form ws due → Reaches Form vs later → GoesOn done others ws vs (w ∷ ms) → IsTaken due w
   next_taken done others ws vs w ms due later leads on (Within same words) =
-      let l = leads_after [] Form ws (w ∷ ms) due later refl leads (subst (λ y. Leads Form y later) words on) in
+      let l = leads_after [] Form ws (w ∷ ms) due later refl leads (subst (λ y. Reaches Form y later) words on) in
       record { said = More l.0; answer = l.1; taken = λ reason e. cc }
-  next_taken done others ws vs w ms due later leads on (Beyond d g s tail words) = taken_in ws w ms due d tail g s leads words
+  next_taken done others ws vs w ms due later leads on (Beyond d g tail words) = taken_in ws w ms due d tail g leads words
 
   -- a line that is taken is not where an input is refused
-  not_taken : (done : List Dossier) (lines : List (List ℕ)) (rest : List ℕ) (due : Reading) (reason : Reason) (line after : List ℕ) → Leads Form (map words_of lines) due
+  not_taken : (done : List Dossier) (lines : List (List ℕ)) (rest : List ℕ) (due : Reading) (reason : Reason) (line after : List ℕ) → Reaches Form (map words_of lines) due
       → Stands done lines rest due reason → rest ≡ with_feed line ++ after → IsLine line → length line < room_after done lines → IsTaken due (words_of line) → ⊥
   not_taken done lines rest due reason line after leads (AtLine bad behind parts plain fits answer) text whole room t =
       let is : bad ≡ line = same_line bad line behind after plain.whole whole.whole (sym parts ∙ text) in
-      t.taken reason (one (map words_of lines) due (words_of line) t.said (No reason) (reaches Form (map words_of lines) due leads) t.answer
-      (subst (λ x. Answers due (words_of x) (No reason)) is answer))
+      t.taken reason (one (map words_of lines) due (words_of line) t.said (No reason) leads t.answer
+      (subst (λ x. Says due (words_of x) (No reason)) is answer))
   not_taken done lines rest due reason line after leads (AtStop stop more) text whole room t = whole_line (room_after done lines) rest reason line after stop whole room text
 
-  one_stand : (done : List Dossier) (lines : List (List ℕ)) (rest : List ℕ) (due : Reading) (reason cause : Reason) → Leads Form (map words_of lines) due
+  one_stand : (done : List Dossier) (lines : List (List ℕ)) (rest : List ℕ) (due : Reading) (reason cause : Reason) → Reaches Form (map words_of lines) due
       → Stands done lines rest due reason → Stands done lines rest due cause → reason ≡ cause
   one_stand done lines rest due reason cause leads (AtLine a x e p f n) (AtLine b y g q h m) =
       let is : a ≡ b = same_line a b x y p.whole q.whole (sym e ∙ g) in
-      let both : No reason ≡ No cause = one (map words_of lines) due (words_of b) (No reason) (No cause) (reaches Form (map words_of lines) due leads)
-      (subst (λ z. Answers due (words_of z) (No reason)) is n) m in
+      let both : No reason ≡ No cause = one (map words_of lines) due (words_of b) (No reason) (No cause) leads
+      (subst (λ z. Says due (words_of z) (No reason)) is n) m in
       cc
   one_stand done lines rest due reason cause leads (AtLine a x e p f n) (AtStop stop more) = absurd (whole_line (room_after done lines) rest cause a x stop p f e)
   one_stand done lines rest due reason cause leads (AtStop stop more) (AtLine a x e p f n) = absurd (whole_line (room_after done lines) rest reason a x stop p f e)
@@ -343,7 +336,7 @@ module _
       (more : List (List ℕ)) → lines_read others b.lines ≡ lines_read done a.lines ++ more → a.rest ≡ flat_map with_feed more ++ b.rest
       → (done ≡ others) × (number ≡ other) × (reason ≡ cause)
   not_ahead input done others number other reason cause a b more e text = at more e text (goes_on done others (map words_of a.lines) (map words_of b.lines) (map words_of more) b.due
-      a.read.good a.read.simple b.read.good b.read.simple b.read.leads words)
+      a.read.good b.read.good b.read.leads words)
     where
       words : flat_map lines_of others ++ map words_of b.lines ≡ (flat_map lines_of done ++ map words_of a.lines) ++ map words_of more
       words = sym (words_read others b.lines b.read.good) ∙ ap (map words_of) e ∙ map-append words_of (lines_read done a.lines) more
@@ -378,9 +371,9 @@ module _
           let bytes : map line_of (flat_map lines_of done) ++ b.lines ≡ map line_of (flat_map lines_of done) ++ a.lines =
           ap (λ z. map line_of (flat_map lines_of z) ++ b.lines) p ∙ e ∙ append-nil (lines_read done a.lines) in
           same p (sym (cancel (map line_of (flat_map lines_of done)) b.lines a.lines bytes)) text
-          (leads_after [] Form (map words_of a.lines) [] a.due b.due refl a.read.leads (subst (λ y. Leads Form y b.due) w b.read.leads))
-      at [] e text (Beyond d g s tail w) =
-          absurd (leads_not_past [] Form (lines_of d) tail a.due d refl (answered d g s) (subst (λ y. Leads Form y a.due) (sym (append-nil (map words_of a.lines)) ∙ w) a.read.leads))
+          (leads_after [] Form (map words_of a.lines) [] a.due b.due refl a.read.leads (subst (λ y. Reaches Form y b.due) w b.read.leads))
+      at [] e text (Beyond d g tail w) =
+          absurd (leads_not_past [] Form (lines_of d) tail a.due d refl (is_read d g) (subst (λ y. Reaches Form y a.due) (sym (append-nil (map words_of a.lines)) ∙ w) a.read.leads))
 
   pub one_refusal : ((xs ys : List (List ℕ)) (a b : List ℕ) → All IsLine xs → All IsLine ys → flat_map with_feed xs ++ a ≡ flat_map with_feed ys ++ b
       → HasMore xs ys a b ⊎ HasMore ys xs b a)
@@ -398,14 +391,14 @@ module _
       ]
 
   pub refused_is_not_accepted : (input : List ℕ) (done : List Dossier) (number : ℕ) (reason : Reason) (es : List Dossier)
-      → IsRefusal input done number reason → IsSimpleInput input es → ⊥
+      → IsRefusal input done number reason → IsAccepted input es → ⊥
   refused_is_not_accepted input done number reason es refusal h = at t.others refl
     where
       a : IsPlace input done number reason
       a = place_of input done number reason refusal
 
       t : IsTail done es a.lines a.rest
-      t = tail_of done es a.lines a.rest a.read.good h.accepted.good a.read.each (sym h.accepted.text ∙ a.read.text)
+      t = tail_of done es a.lines a.rest a.read.good h.good a.read.each (sym h.text ∙ a.read.text)
 
       nothing : Stands done a.lines a.rest a.due reason → t.others ≡ [] → ⊥
       nothing (AtLine line after parts plain fits answer) e =
@@ -415,14 +408,14 @@ module _
       nothing (AtStop stop more) e =
           let none = both_none (map words_of a.lines) (map words_of t.more) (t.words ∙ ap (flat_map lines_of) e) in
           more (record {
-            some = λ x. h.accepted.some (t.all ∙ ap (λ y. done ++ y) e ∙ append-nil done ∙ x);
+            some = λ x. h.some (t.all ∙ ap (λ y. done ++ y) e ∙ append-nil done ∙ x);
             between = no_words a.lines none.0;
             none = t.text ∙ ap (flat_map with_feed) (no_words t.more none.1);
           })
 
       room : (x : List ℕ) (xs : List (List ℕ)) → a.rest ≡ flat_map with_feed (x ∷ xs) → length x < room_after done a.lines
       room x xs is =
-          let e = h.accepted.size in
+          let e = h.size in
           let f = ap length a.read.text in
           let g = length-append (text_before done a.lines) a.rest in
           let i = ap length is in
@@ -430,20 +423,20 @@ module _
           let k = length-append x (10 ∷ []) in
           omega arith
 
-      something : (d : Dossier) (ds : List Dossier) → t.others ≡ d ∷ ds → IsGood d → IsSimple d → (more : List (List ℕ)) → t.more ≡ more → ⊥
-      something d ds e good simple [] f =
+      something : (d : Dossier) (ds : List Dossier) → t.others ≡ d ∷ ds → IsGood d → (more : List (List ℕ)) → t.more ≡ more → ⊥
+      something d ds e good [] f =
           let words : map words_of a.lines ≡ lines_of d ++ flat_map lines_of ds = sym (append-nil (map words_of a.lines))
           ∙ ap (λ m. map words_of a.lines ++ map words_of m) (sym f) ∙ t.words ∙ ap (flat_map lines_of) e in
-          leads_not_past [] Form (lines_of d) (flat_map lines_of ds) a.due d refl (answered d good simple) (subst (λ y. Leads Form y a.due) words a.read.leads)
-      something d ds e good simple (x ∷ xs) f =
+          leads_not_past [] Form (lines_of d) (flat_map lines_of ds) a.due d refl (is_read d good) (subst (λ y. Reaches Form y a.due) words a.read.leads)
+      something d ds e good (x ∷ xs) f =
           let words : map words_of a.lines ++ map words_of (x ∷ xs) ≡ lines_of d ++ flat_map lines_of ds =
           ap (λ m. map words_of a.lines ++ map words_of m) (sym f) ∙ t.words ∙ ap (flat_map lines_of) e in
           let is : a.rest ≡ flat_map with_feed (x ∷ xs) = t.text ∙ ap (flat_map with_feed) f in
           not_taken done a.lines a.rest a.due reason x (flat_map with_feed xs) a.read.leads a.stands is (subst (All IsLine) f t.each 0 x (omega arith)) (room x xs is)
-          (taken_in (map words_of a.lines) (words_of x) (map words_of xs) a.due d (flat_map lines_of ds) good simple a.read.leads words)
+          (taken_in (map words_of a.lines) (words_of x) (map words_of xs) a.due d (flat_map lines_of ds) good a.read.leads words)
 
       at : (others : List Dossier) → t.others ≡ others → ⊥
       at [] e = nothing a.stands e
       at (d ∷ ds) e =
           let all = t.all ∙ ap (λ x. done ++ x) e in
-          something d ds e (those_behind done (d ∷ ds) es IsGood all h.accepted.good 0 d (omega arith)) (those_behind done (d ∷ ds) es IsSimple all h.simple 0 d (omega arith)) t.more refl
+          something d ds e (those_behind done (d ∷ ds) es IsGood all h.good 0 d (omega arith)) t.more refl

@@ -12,9 +12,10 @@ use Rattle.dossier_terms.specs.Dossier.{Dossier}
 use Rattle.dossier_terms.specs.Lines.{text_of}
 use Rattle.dossier_terms.specs.Reading.{Form}
 use Rattle.dossier_terms.specs.Texts.{yes_line, no_line}
-use Rattle.dossier_terms.specs.Today.{IsSimpleInput}
-use Rattle.cert_checker.specs.Checked.{Checked, IsTrueYes, fresh_checker}
-use Rattle.crew_cli.specs.Input.{Fresh, IsBetween, IsOpen, IsRefusal, IsInterrupted, HasRead}
+use Rattle.dossier_terms.specs.Accepted.{IsAccepted}
+use Rattle.cert_checker.specs.Checked.{Checked, IsTrueYes, fresh_checker, verdict_of}
+use Rattle.cert_checker.specs.declared.checker.Verdict.{Verdict}
+use Rattle.crew_cli.specs.Input.{Fresh, IsBetween, IsNext, IsOpen, IsRefusal, IsInterrupted, HasRead}
 use Rattle.crew_cli.specs.Run.{OfBytes, SaysYes, SaysNo, SaysFront, SaysReadFault, SaysYesLines, Nothing, YesFront, NoFront}
 
 -- these dossiers are read, and their yes lines are written
@@ -50,7 +51,7 @@ appended_front (Some bytes) mid new xs ys p q =
 
 -- nothing is read yet of an input
 none_read : (input : List ℕ) → HasRead input [] [] input Form
-none_read input = record { text = refl; within = omega arith; good = All-nil _; simple = All-nil _; each = All-nil _; leads = refl }
+none_read input = record { text = refl; within = omega arith; good = All-nil _; each = All-nil _; leads = refl }
 
 pub begins : (left got : Option (List ℕ)) (reader : Reader) (checker : Checked) → reader ≡ fresh_reader (2 ^ 62) → checker ≡ fresh_checker → HasSaidOf left got reader left got checker.lines
 begins None got reader checker e f = tt
@@ -62,24 +63,25 @@ begins (Some input) got reader checker e f = subst (λ c. HasSaid input got read
 }))
 
 -- one dossier more, and its yes line
-pub says_one_more : (left0 got0 : Option (List ℕ)) (old new : Reader) (left later got added : Option (List ℕ)) (count more : ℕ) (d : Dossier) → IsTrueYes d
-    → ((input : List ℕ) (done : List Dossier) → IsBetween input done old left count → IsBetween input (done ++ d ∷ []) new later more)
-    → Appended got added (yes_line d) → HasSaidOf left0 got0 old left got count → HasSaidOf left0 got0 new later added more
-says_one_more None got0 old new left later got added count more d true_yes next wrote so = tt
-says_one_more (Some input) got0 old new left later got added count more d true_yes next wrote so =
-    let b = next input so.done so.between in
+pub says_one_more : (left0 got0 : Option (List ℕ)) (old new : Reader) (left later got added : Option (List ℕ)) (count more : ℕ) (verdict : Verdict)
+    → ((input : List ℕ) (done : List Dossier) → IsBetween input done old left count → IsNext input done verdict new later more)
+    → ((d : Dossier) → verdict ≡ verdict_of d → Appended got added (yes_line d)) → HasSaidOf left0 got0 old left got count → HasSaidOf left0 got0 new later added more
+says_one_more None got0 old new left later got added count more verdict next wrote so = tt
+says_one_more (Some input) got0 old new left later got added count more verdict next wrote so =
+    let n = next input so.done so.between in
+    let d = n.dossier in
     let lines : flat_map yes_line so.done ++ yes_line d ≡ flat_map yes_line (so.done ++ d ∷ []) =
     ap (λ x. flat_map yes_line so.done ++ x) (sym (append-nil (yes_line d))) ∙ sym (flat_map-append yes_line so.done (d ∷ [])) in
     record {
       done = so.done ++ d ∷ [];
-      between = b;
-      written = subst (λ bytes. Appended got0 added bytes) lines (appended_both got0 got added (flat_map yes_line so.done) (yes_line d) so.written wrote);
-      each = All-push IsTrueYes so.done d so.each true_yes;
+      between = n.between;
+      written = subst (λ bytes. Appended got0 added bytes) lines (appended_both got0 got added (flat_map yes_line so.done) (yes_line d) so.written (wrote d n.says));
+      each = All-push IsTrueYes so.done d so.each n.true_yes;
     }
 
 -- the input has ended behind a dossier
 pub says_yes : (left0 got0 : Option (List ℕ)) (reader : Reader) (left got : Option (List ℕ)) (count : ℕ)
-    → ((input : List ℕ) (done : List Dossier) → IsBetween input done reader left count → IsSimpleInput input done)
+    → ((input : List ℕ) (done : List Dossier) → IsBetween input done reader left count → IsAccepted input done)
     → HasSaidOf left0 got0 reader left got count → OfBytes left0 got0 got SaysYes
 says_yes None got0 reader left got count whole so = tt
 says_yes (Some input) got0 reader left got count whole so =
@@ -87,7 +89,7 @@ says_yes (Some input) got0 reader left got count whole so =
 
 -- a line is refused behind these dossiers
 pub says_no : (left0 got0 : Option (List ℕ)) (reader : Reader) (left got added : Option (List ℕ)) (count number : ℕ) (reason : Reason)
-    → ((input : List ℕ) (done : List Dossier) (number : ℕ) (reason : Reason) (dossiers : List Dossier) → IsRefusal input done number reason → IsSimpleInput input dossiers → ⊥)
+    → ((input : List ℕ) (done : List Dossier) (number : ℕ) (reason : Reason) (dossiers : List Dossier) → IsRefusal input done number reason → IsAccepted input dossiers → ⊥)
     → ((input : List ℕ) (done : List Dossier) → IsBetween input done reader left count → IsRefusal input done number reason)
     → Appended got added (no_line number reason) → HasSaidOf left0 got0 reader left got count → OfBytes left0 got0 added SaysNo
 says_no None got0 reader left got added count number reason law refused wrote so = tt
@@ -200,13 +202,15 @@ says_read_fault (Some input) got0 old new left later got count stopped so =
     )
 
 -- the front of one more yes line was written
-pub front_yes : (left0 got0 : Option (List ℕ)) (old new : Reader) (left later got added : Option (List ℕ)) (count more : ℕ) (d : Dossier) → IsTrueYes d
-    → ((input : List ℕ) (done : List Dossier) → IsBetween input done old left count → IsBetween input (done ++ d ∷ []) new later more)
-    → AppendedPart got added (yes_line d) → HasSaidOf left0 got0 old left got count → OfBytes left0 got0 added SaysFront
-front_yes None got0 old new left later got added count more d true_yes next wrote so = tt
-front_yes (Some input) got0 old new left later got added count more d true_yes next wrote so =
-    let w = appended_front got0 got added (flat_map yes_line so.done) (yes_line d) so.written wrote in
-    let b = next input so.done so.between in
+pub front_yes : (left0 got0 : Option (List ℕ)) (old new : Reader) (left later got added : Option (List ℕ)) (count more : ℕ) (verdict : Verdict)
+    → ((input : List ℕ) (done : List Dossier) → IsBetween input done old left count → IsNext input done verdict new later more)
+    → ((d : Dossier) → verdict ≡ verdict_of d → AppendedPart got added (yes_line d)) → HasSaidOf left0 got0 old left got count → OfBytes left0 got0 added SaysFront
+front_yes None got0 old new left later got added count more verdict next wrote so = tt
+front_yes (Some input) got0 old new left later got added count more verdict next wrote so =
+    let n = next input so.done so.between in
+    let d = n.dossier in
+    let b = n.between in
+    let w = appended_front got0 got added (flat_map yes_line so.done) (yes_line d) so.written (wrote d n.says) in
     let text : input ≡ flat_map text_of (so.done ++ d ∷ []) ++ b.rest = b.read.text ∙ ap (λ x. x ++ b.rest) (append-nil (flat_map text_of (so.done ++ d ∷ []))) in (
       flat_map yes_line so.done ++ take w.0 (yes_line d),
       w.1,
@@ -217,7 +221,7 @@ front_yes (Some input) got0 old new left later got added count more d true_yes n
         each = so.each;
         part = take w.0 (yes_line d);
         lines = refl;
-        next = YesFront d b.rest text true_yes w.0 refl;
+        next = YesFront d b.rest text n.true_yes w.0 refl;
       },
     )
 

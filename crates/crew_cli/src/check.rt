@@ -1,7 +1,9 @@
 // A check of dossiers, one after another.
-ghost use Rattle.std.specs.Prelude.{◌≡◌, ◌≢◌, ◌≤◌, IfOk, OnErr, IsTrue};
+ghost use Rattle.std.specs.Prelude.{◌≡◌, ◌≢◌, ◌≤◌, ◌^◌, IfOk, OnErr, IsTrue};
 ghost use Rattle.crew_io.specs.Io.{Appended, AppendedPart, Rose};
+ghost use Rattle.crew_io.specs.Lines.{fresh_reader};
 ghost use Rattle.dossier_terms.specs.Texts.{no_line};
+ghost use Rattle.cert_checker.specs.Checked.{fresh_checker};
 ghost use Rattle.crew_cli.specs.Run.{OfBytes, SaysYes, SaysNo, SaysFront, SaysReadFault, SaysYesLines, is_no_or_write_fault};
 
 use crate::input::{INPUT, Outcome, next_dossier};
@@ -38,9 +40,36 @@ pub(crate) fn check<S: Source, K: Sink>(
 {
     let mut reader = LineReader::open(alloc, INPUT)?;
     let mut checker = Checker::open(alloc)?;
+    let status = check_all(&mut reader, &mut checker, src, out)?;
+    Ok(status)
+}
+
+/// Reads all dossiers with a reader and a checker that have read nothing yet.
+fn check_all<S: Source, K: Sink>(
+    reader: &mut LineReader,
+    checker: &mut Checker,
+    src: &mut S,
+    out: &mut K,
+) -> Result<Status, AllocError>
+    requires reader { reader.old ≡ fresh_reader (2 ^ 62) }
+    requires checker { checker.old ≡ fresh_checker }
+    ensures done { IfOk result (λ status. status ≡ Status.Done → OfBytes (S.left src.old) (K.got out.old) (K.got out.new) SaysYes) }
+    ensures no { IfOk result (λ status. status ≡ Status.No → OfBytes (S.left src.old) (K.got out.old) (K.got out.new) SaysNo) }
+    ensures front { OfBytes (S.left src.old) (K.got out.old) (K.got out.new) SaysFront }
+    ensures interrupted { IfOk result (λ status. status ≡ Status.ReadFault
+        → OfBytes (S.left src.old) (K.got out.old) (K.got out.new) (SaysReadFault (S.left src.new))) }
+    ensures memory { OnErr result (OfBytes (S.left src.old) (K.got out.old) (K.got out.new) SaysYesLines) }
+    ensures others { IfOk result (λ status. (status ≢ Status.Words) × (status ≢ Status.Refused) × (status ≢ Status.Memory)) }
+    ensures read_fault { IfOk result (λ status. status ≡ Status.ReadFault → Rose (S.faults src.old) (S.faults src.new)) }
+    ensures write_fault { IfOk result (λ status. status ≡ Status.WriteFault → Rose (K.faults out.old) (K.faults out.new)) }
+    ensures source_later { S.faults src.old ≤ S.faults src.new }
+    ensures sink_later { K.faults out.old ≤ K.faults out.new }
+    ensures steady_source { S.steady src.old → IfOk result (λ status. status ≢ Status.ReadFault) }
+    ensures steady_sink { K.steady out.old → K.steady out.new × IfOk result (λ status. status ≡ Status.WriteFault → K.full out.new) }
+{
     refused_is_not_accepted();
     'dossiers: loop {
-        match next_dossier(&mut reader, &mut checker, src)? {
+        match next_dossier(reader, checker, src)? {
             Outcome::Yes(verdict) => {
                 if let Err(WriteFault) = put_yes(out, verdict) {
                     return Ok(Status::WriteFault);

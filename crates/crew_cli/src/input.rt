@@ -5,7 +5,7 @@ ghost use Rattle.dossier_terms.specs.Dossier.{Dossier};
 ghost use Rattle.cert_checker.specs.Checked.{IsOpen as IsDue};
 ghost use Rattle.crew_cli.specs.Input.{IsBetween, IsOpen, IsOutcome, IsOutcomeAtStop, OpensNext, told_of};
 
-use crate::laws::whole_is_good;
+use crate::laws::{first_line_is_first, whole_is_true};
 use cert_checker::{Checker, Said, Stop, Verdict};
 use crew_io::lines::{LineReader, Progress};
 use crew_io::source::Source;
@@ -69,7 +69,8 @@ pub fn next_dossier<S: Source>(
     ensures later { S.faults src.old ≤ S.faults src.new }
     ensures steady { S.steady src.old → S.steady src.new × IfOk result (λ outcome. outcome ≢ Outcome.ReadFault) }
 {
-    whole_is_good();
+    whole_is_true();
+    first_line_is_first();
     'lines: loop {
         let progress = reader.advance(src);
         let Progress::Line = progress else {

@@ -69,10 +69,9 @@ fn answer<S: Source, K: Sink>(alloc: Global, command: Command, src: &mut S, out:
 }
 
 /// Does what the words ask for. With `check` it reads one dossier after another, and writes a line `yes` with its
-/// counts for each good one whose pool is empty and whose tree is one bare leaf; at the first line that is refused
-/// it writes a line `no` with its number and the reason, and ends. With `apply` it reads a day, and writes the
-/// instance of each round, up to the first record that is refused, and a line `refused` for that one. Other words
-/// have no form: nothing is read or written.
+/// counts for each good one; at the first line that is refused it writes a line `no` with its number and the reason,
+/// and ends. With `apply` it reads a day, and writes the instance of each round, up to the first record that is
+/// refused, and a line `refused` for that one. Other words have no form: nothing is read or written.
 pub fn run<S: Source, K: Sink>(alloc: Global, words: &[String], src: &mut S, out: &mut K) -> Status
     // Each status tells what the input is and what was written, also at a fault.
     ensures says { (command : Command) → AskFor command (map (λ w. string_bytes w) words.now)

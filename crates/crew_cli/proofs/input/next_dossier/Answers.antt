@@ -17,7 +17,7 @@ lines-preserved g c =
     let s = c.lines.invariant.so_far in
     let a = subst (λ p. Advances c.lines.reader (g.S.Source.left c.lines.src) p c.advance-progress.new.self (g.S.Source.left c.advance-progress.new.src)) c.in-Line.is (c.advance-progress.ensures.steps.advances s.going.going) in
     let due = is_due c.args.reader.now (g.S.Source.left c.args.src.now) c.args.checker.now c.lines.reader (g.S.Source.left c.lines.src) c.lines.checker s in
-    let judged = subst (λ ws. IsJudged c.lines.checker.lines s.due ws c.in_ok-said.said c.line-in-lines.new.self) (ap words_of c.line.ensures) (c.in_ok-said.ensures.judged s.due due) in
+    let judged = subst (λ ws. IsJudged c.lines.checker.lines s.due ws c.in_ok-said.said c.line-in-lines.new.self) (ap words_of c.line.ensures) (c.in_ok-said.ensures.judged s.due s.reached due) in
     record {
       so_far = goes_on c.args.reader.now (g.S.Source.left c.args.src.now) c.args.checker.now c.lines.reader c.advance-progress.new.self (g.S.Source.left c.lines.src) (g.S.Source.left c.advance-progress.new.src)
           c.lines.checker c.line-in-lines.new.self c.in_ok-said.said s a judged c.in-More.is;
@@ -30,7 +30,7 @@ returns-in-No-clause-outcome g c =
     let s = c.lines.invariant.so_far in
     let a = subst (λ p. Advances c.lines.reader (g.S.Source.left c.lines.src) p c.advance-progress.new.self (g.S.Source.left c.advance-progress.new.src)) c.in-Line.is (c.advance-progress.ensures.steps.advances s.going.going) in
     let due = is_due c.args.reader.now (g.S.Source.left c.args.src.now) c.args.checker.now c.lines.reader (g.S.Source.left c.lines.src) c.lines.checker s in
-    let judged = subst (λ ws. IsJudged c.lines.checker.lines s.due ws c.in_ok-said.said c.line-in-lines.new.self) (ap words_of c.line.ensures) (c.in_ok-said.ensures.judged s.due due) in
+    let judged = subst (λ ws. IsJudged c.lines.checker.lines s.due ws c.in_ok-said.said c.line-in-lines.new.self) (ap words_of c.line.ensures) (c.in_ok-said.ensures.judged s.due s.reached due) in
     refuses c.args.reader.now (g.S.Source.left c.args.src.now) c.args.checker.now c.lines.reader c.advance-progress.new.self (g.S.Source.left c.lines.src) (g.S.Source.left c.advance-progress.new.src)
     c.lines.checker c.line-in-lines.new.self c.in_ok-said.said c.in-No.line c.in-No.reason s a judged c.in-No.is
 
@@ -39,19 +39,19 @@ returns-in-Whole-clause-outcome g c =
     let s = c.lines.invariant.so_far in
     let a = subst (λ p. Advances c.lines.reader (g.S.Source.left c.lines.src) p c.advance-progress.new.self (g.S.Source.left c.advance-progress.new.src)) c.in-Line.is (c.advance-progress.ensures.steps.advances s.going.going) in
     let due = is_due c.args.reader.now (g.S.Source.left c.args.src.now) c.args.checker.now c.lines.reader (g.S.Source.left c.lines.src) c.lines.checker s in
-    let judged = subst (λ ws. IsJudged c.lines.checker.lines s.due ws c.in_ok-said.said c.line-in-lines.new.self) (ap words_of c.line.ensures) (c.in_ok-said.ensures.judged s.due due) in
+    let judged = subst (λ ws. IsJudged c.lines.checker.lines s.due ws c.in_ok-said.said c.line-in-lines.new.self) (ap words_of c.line.ensures) (c.in_ok-said.ensures.judged s.due s.reached due) in
     ends_whole c.args.reader.now (g.S.Source.left c.args.src.now) c.args.checker.now c.lines.reader c.advance-progress.new.self (g.S.Source.left c.lines.src) (g.S.Source.left c.advance-progress.new.src)
-    c.lines.checker c.line-in-lines.new.self c.in_ok-said.said c.in-Whole.verdict c.whole_is_good.ensures s a judged c.in-Whole.is
+    c.lines.checker c.line-in-lines.new.self c.in_ok-said.said c.in-Whole.verdict c.whole_is_true.ensures s a judged c.in-Whole.is
 
 pub returns-in-Whole-clause-next : goal.returns-in-Whole-clause-next
 returns-in-Whole-clause-next g c =
     let s = c.lines.invariant.so_far in
     let a = subst (λ p. Advances c.lines.reader (g.S.Source.left c.lines.src) p c.advance-progress.new.self (g.S.Source.left c.advance-progress.new.src)) c.in-Line.is (c.advance-progress.ensures.steps.advances s.going.going) in
     let due = is_due c.args.reader.now (g.S.Source.left c.args.src.now) c.args.checker.now c.lines.reader (g.S.Source.left c.lines.src) c.lines.checker s in
-    let judged = subst (λ ws. IsJudged c.lines.checker.lines s.due ws c.in_ok-said.said c.line-in-lines.new.self) (ap words_of c.line.ensures) (c.in_ok-said.ensures.judged s.due due) in
+    let judged = subst (λ ws. IsJudged c.lines.checker.lines s.due ws c.in_ok-said.said c.line-in-lines.new.self) (ap words_of c.line.ensures) (c.in_ok-said.ensures.judged s.due s.reached due) in
     let next = opens_next c.args.reader.now (g.S.Source.left c.args.src.now) c.args.checker.now c.lines.reader c.advance-progress.new.self (g.S.Source.left c.lines.src) (g.S.Source.left c.advance-progress.new.src)
     c.lines.checker c.line-in-lines.new.self c.in_ok-said.said c.in-Whole.verdict s a judged c.in-Whole.is in
-    (c.in_ok-said.ensures.whole c.in-Whole.verdict c.in-Whole.is, next.0, next.1)
+    next
 
 pub returns-in_default : goal.returns-in_default
 returns-in_default g c =
@@ -59,7 +59,7 @@ returns-in_default g c =
     let a = c.advance-progress.ensures.steps.advances s.going.going in
     record {
       outcome = stops c.args.reader.now (g.S.Source.left c.args.src.now) c.args.checker.now c.lines.reader c.advance-progress.new.self (g.S.Source.left c.lines.src) (g.S.Source.left c.advance-progress.new.src)
-          c.lines.checker c.outcome_at_stop-outcome.new.checker c.advance-progress.result c.outcome_at_stop-outcome.result s a c.in_default.not-Line c.outcome_at_stop-outcome.ensures;
+          c.lines.checker c.outcome_at_stop-outcome.new.checker c.advance-progress.result c.outcome_at_stop-outcome.result c.first_line_is_first.ensures s a c.in_default.not-Line c.outcome_at_stop-outcome.ensures;
       next = stop_opens c.args.reader.now c.advance-progress.new.self c.lines.checker c.outcome_at_stop-outcome.new.checker c.advance-progress.result c.outcome_at_stop-outcome.result c.outcome_at_stop-outcome.ensures;
       fault = λ is.
           let e = stop_is_fault c.lines.checker c.advance-progress.result c.outcome_at_stop-outcome.result c.in_default.not-Line c.outcome_at_stop-outcome.ensures is in

@@ -1,7 +1,7 @@
 use Rattle.std.proofs.Common.{◌≤◌, ◌-◌}
 use Rattle.crew_cli.specs.Input.{IsOpen}
 use Rattle.crew_cli.proofs.Said.{HasSaidOf}
-use Rattle.crew_cli.proofs.check.check.Given as goal
+use Rattle.crew_cli.proofs.check.check_all.Given as goal
 
 abbrev pub invariant-dossiers : goal.invariant-dossiers
 invariant-dossiers g l = record {
