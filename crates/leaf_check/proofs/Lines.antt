@@ -16,7 +16,7 @@ use Rattle.cert_format.specs.declared.kinds.Expect.TheVariants as expected
 use Rattle.cert_format.specs.declared.kinds.LineKind.TheVariants as kinds
 use Rattle.cert_format.specs.declared.kinds.LineFault.{LineFault}
 use Rattle.cert_format.specs.declared.kinds.LineFault.TheVariants.{Shape, Number, Name}
-use Rattle.leaf_check.specs.Reader.{reason_for}
+use Rattle.cert_format.specs.Expected.{reason_for}
 
 -- ---- numbers
 
