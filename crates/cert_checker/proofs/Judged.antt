@@ -25,8 +25,8 @@ pub record IsAnswered (reading : Reading) (words : Words) (number : ℕ) (step :
 -- what is told of a step is the answer of the table
 pub answered : (reading : Reading) (words : Words) (number : ℕ) (step : Step) (said : Said) → Tells (Says reading words) step → IsSaidOf number step said
     → IsAnswered reading words number step said
-answered reading words number (More next) said tells says = record { answer = Goes tells.0; is = tells.1.0; says = says; stands = tells.1.1 }
-answered reading words number (Whole ended) said tells says = record { answer = Ends tells.0; is = tells.1.0; says = says tells.0 tells.1.1; stands = tells.1.1 }
+answered reading words number (More next) said tells says = record { answer = Goes tells.0; is = tells.1; says = says; stands = tells.2 }
+answered reading words number (Whole ended) said tells says = record { answer = Ends tells.0; is = tells.1; says = says tells.0 tells.2; stands = tells.2 }
 answered reading words number (No reason) said tells says = record { answer = Refuses reason; is = tells; says = says; stands = refl }
 
 -- what is kept after a step holds
@@ -34,15 +34,15 @@ pub settles : (reading : Reading) (words : Words) (number : ℕ) (step : Step) �
     → ((d n : Reading) (ws : Words) → IsReached d → Says d ws (Goes n) → IsReached n)
     → ((d : Reading) (ws : Words) (w : Dossier) → IsReached d → Says d ws (Ends w) → IsTrueYes w)
     → IsSettled (state_in number step)
-settles reading words number (More next) reached tells goes ends = (tells.0, goes reading tells.0 words reached tells.1.0, tells.1.1)
-settles reading words number (Whole ended) reached tells goes ends = (tells.0, tells.1.1, ends reading words tells.0 reached tells.1.0)
+settles reading words number (More next) reached tells goes ends = (tells.0, goes reading tells.0 words reached tells.1, tells.2)
+settles reading words number (Whole ended) reached tells goes ends = (tells.0, tells.2, ends reading words tells.0 reached tells.1)
 settles reading words number (No reason) reached tells goes ends = tt
 
 -- what is said of a whole dossier is so
 pub is_true : (number : ℕ) (step : Step) (said : Said) (verdict : Verdict) → IsSettled (state_in number step) → IsSaidOf number step said → said ≡ SaidWhole verdict
     → IsTrueVerdict (state_in number step) verdict
 is_true number (More next) said verdict h e f = absurd (let g = sym e ∙ f in cc)
-is_true number (Whole ended) said verdict h e f = record { dossier = h.0; is = h.1.0; says = (let g : SaidWhole verdict ≡ SaidWhole (verdict_of h.0) = sym f ∙ e h.0 h.1.0 in cc); true_yes = h.1.1 }
+is_true number (Whole ended) said verdict h e f = record { dossier = h.0; is = h.1; says = (let g : SaidWhole verdict ≡ SaidWhole (verdict_of h.0) = sym f ∙ e h.0 h.1 in cc); true_yes = h.2 }
 is_true number (No reason) said verdict h e f = absurd (let g = sym e ∙ f in cc)
 
 -- a step is what the table says
