@@ -109,10 +109,10 @@ counted s c t seen h =
 pub not_counted : (s c : TreeCounts) (t : Written) → counts_of s ≡ counts_of_tree t → same_numbers s c ≡ false → IsCounted (counts_of c) t → ⊥
 not_counted s c t seen h is = both_ways (same_numbers s c) h
     (and_from (eqb s.splits c.splits) (eqb s.closed c.closed && (eqb s.left_open c.left_open && eqb s.depth c.depth))
-      (eq-eqb s.splits c.splits (ap (λ (n : Counts). n.splits) seen ∙ is.splits))
+    (eq-eqb s.splits c.splits (ap (λ (n : Counts). n.splits) seen ∙ is.splits))
     (and_from (eqb s.closed c.closed) (eqb s.left_open c.left_open && eqb s.depth c.depth) (eq-eqb s.closed c.closed (ap (λ (n : Counts). n.closed) seen ∙ is.closed))
     (and_from (eqb s.left_open c.left_open) (eqb s.depth c.depth) (eq-eqb s.left_open c.left_open (ap (λ (n : Counts). n.left_open) seen ∙ is.left_open))
-      (eq-eqb s.depth c.depth (ap (λ (n : Counts). n.depth) seen ∙ is.depth)))))
+    (eq-eqb s.depth c.depth (ap (λ (n : Counts). n.depth) seen ∙ is.depth)))))
 
 -- the line is read, and the numbers are those that were claimed
 pub ends_whole : (b : Held) (claimed seen : TreeCounts) (ws : Words) → ws ≡ end_line → same_numbers seen claimed ≡ true

@@ -1,3 +1,4 @@
+pub mod Judged
 pub mod PoolRows
 pub mod PlanRows
 pub mod TreeRows

@@ -4,18 +4,17 @@ use Rattle.std.specs.Prelude.{if◌then◌else◌, codes, Result, IfOk, Ok, Err}
 use Rattle.std.proofs.lemmas.List.{length-map}
 use Rattle.crew_terms.specs.Words.{Words}
 use Rattle.crew_terms.specs.Instance.{Instance}
-use Rattle.crew_terms.specs.Limits.{Limits, root_limits, tasks_in, teams_in, window_of, pair_of}
-use Rattle.crew_terms.specs.declared.Pair.TheVariants.{Free}
+use Rattle.crew_terms.specs.Limits.{Limits, root_limits, tasks_in, teams_in}
 use Rattle.dossier_terms.specs.declared.Reason.TheVariants as reasons
-use Rattle.dossier_terms.specs.Dossier.{Written, Bare, splits, closed, left_open}
+use Rattle.dossier_terms.specs.Dossier.{Written, Bare, closed, left_open}
 use Rattle.dossier_terms.specs.Lines.{window_line, pair_line, bare_line, open_line, closed_line}
-use Rattle.dossier_terms.specs.Reading.{Reading, Said, More as Goes, No as Refuses, Draft, Counts, Frame, Lower, Upper, Without, With, Nodes, Ends, Prices, limits_below, narrowed, node_done, sum_in}
+use Rattle.dossier_terms.specs.Reading.{Said, More as Goes, No as Refuses, Draft, Counts, Frame, Lower, Upper, Without, With, Nodes, Prices, limits_below, node_done, sum_in}
 use Rattle.dossier_terms.specs.Rules.{Holds, Fails, Spelled, Then, Else, On, Begins}
 use Rattle.dossier_terms.specs.Table.{IsCounts, HasRoom, Says, node_row}
 use Rattle.node_limits.specs.Trail.{Trail}
 use Rattle.node_limits.specs.Rest.{Rest, IsRestOver, trail_over}
 use Rattle.tree_walk.specs.Splits.{IsCut, IsFreePair}
-use Rattle.tree_walk.specs.Way.{Walked, IsAt, IsLeaf, LeavesLeaf, Enters, counts_of, leaves_like, split_of}
+use Rattle.tree_walk.specs.Way.{Walked, IsAt, IsLeaf, LeavesLeaf, Enters, counts_of, split_of}
 use Rattle.tree_walk.specs.declared.walk.TreeCounts.{TreeCounts}
 use Rattle.cert_format.specs.Expected.{expect_of}
 use Rattle.cert_format.specs.Lines.{IsFaultOf}

@@ -1,22 +1,22 @@
 -- the rows of the table for the lines of a pool
-use Rattle.std.proofs.Common.{◌≡◌, ◌≢◌, ◌≤◌, ◌<◌, ◌+◌, ◌*◌, ◌-◌, ◌++◌, ◌^◌, ℕ, zero, suc, List, [], ◌∷◌, length, map, replicate, ap, subst, sym, refl, ◌∙◌, arith, w64, to_z, of_z, None, Some}
-use Rattle.std.specs.Prelude.{ℤ, pos, codes, All, Contains}
+use Rattle.std.proofs.Common.{◌≡◌, ◌≢◌, ◌≤◌, ◌<◌, ◌*◌, ◌-◌, ◌++◌, ◌^◌, ℕ, zero, suc, List, [], ◌∷◌, length, map, replicate, ap, subst, sym, refl, ◌∙◌, arith, w64, to_z, of_z, None, Some}
+use Rattle.std.specs.Prelude.{ℤ, pos, codes, All}
 use Rattle.std.specs.List.{AllByRecursion, flat_map}
 use Rattle.std.proofs.lemmas.List.{length-append, length-replicate}
 use Rattle.std.proofs.lemmas.List.Elements.{All-contains}
 use Rattle.std.proofs.lemmas.Int.{to_z_pos}
 use Rattle.crew_terms.specs.Words.{Words}
 use Rattle.crew_terms.specs.Instance.{Instance}
-use Rattle.crew_terms.specs.Limits.{Limits, IsRoute, copies, root_limits}
+use Rattle.crew_terms.specs.Limits.{Limits, copies, root_limits}
 use Rattle.crew_terms.specs.Plan.{Plan, job_of}
 use Rattle.crew_terms.specs.Verdict.{IsPlanOf}
 use Rattle.crew_terms.specs.declared.Visit.{Visit}
 use Rattle.dossier_terms.specs.declared.Reason.TheVariants as reasons
 use Rattle.dossier_terms.specs.Dossier.{Route}
 use Rattle.dossier_terms.specs.Lines.{pool_line, route_line, visit_words}
-use Rattle.dossier_terms.specs.Reading.{Reading, Said, More as Goes, No as Refuses, Draft, Pools, Routes, Plans, routes_due}
+use Rattle.dossier_terms.specs.Reading.{More as Goes, No as Refuses, Draft, Routes, Plans, routes_due}
 use Rattle.dossier_terms.specs.Rules.{Holds, Fails, Spelled, On, Begins}
-use Rattle.dossier_terms.specs.Table.{IsRouteLine, IsPairs, Says, draft, pool_row, route_row}
+use Rattle.dossier_terms.specs.Table.{IsRouteLine, IsPairs, draft, pool_row, route_row}
 use Rattle.node_limits.specs.Rest.{Rest, IsRestOver, limits_over, trail_over}
 use Rattle.node_limits.specs.Trail.{Trail}
 use Rattle.route_pool.specs.Numbers.{AreNumbersOf}
@@ -28,7 +28,6 @@ use Rattle.cert_format.specs.Lines.{IsRouteOf}
 use Rattle.cert_checker.specs.Due.{IsRoot, Tells, draft_of}
 use Rattle.cert_checker.specs.Rules.{TellsRoute}
 use Rattle.cert_checker.specs.declared.due.Draft.{Draft as Held}
-use Rattle.cert_checker.specs.declared.due.Due.{Due}
 use Rattle.cert_checker.specs.declared.due.Step.{Step}
 use Rattle.cert_checker.specs.declared.due.Step.TheVariants.{More, Whole, No}
 

@@ -1,5 +1,5 @@
 -- the row of the table for the line `tree`
-use Rattle.std.proofs.Common.{◌≡◌, ℕ, [], ap, subst, sym, refl, ◌∙◌, None, Some}
+use Rattle.std.proofs.Common.{◌≡◌, [], ap, subst, sym, refl, ◌∙◌, None, Some}
 use Rattle.crew_terms.specs.Words.{Words}
 use Rattle.crew_terms.specs.Instance.{Instance}
 use Rattle.crew_terms.specs.Limits.{root_limits}
@@ -35,7 +35,7 @@ pub tree_begun : (b : Held) (claimed : TreeCounts) (tree : TreeDraft) (ws : Word
 tree_begun b claimed tree ws fits is good e f node reader =
     let root = Nodes (draft_of b) (counts_of claimed) [] in
     let same : root ≡ Nodes (draft_of tree.draft) (counts_of tree.claimed) [] =
-        ap (λ d. Nodes (draft_of d) (counts_of claimed) []) (sym e) ∙ ap (λ c. Nodes (draft_of tree.draft) (counts_of c) []) (sym f) in
+    ap (λ d. Nodes (draft_of d) (counts_of claimed) []) (sym e) ∙ ap (λ c. Nodes (draft_of tree.draft) (counts_of c) []) (sym f) in
     (root, tree_says (draft_of b) (counts_of claimed) ws (Goes root) fits is (good (Goes root) (On refl)), ([], node, reader, same))
 
 -- the limits of the root are kept, and a walk begins there

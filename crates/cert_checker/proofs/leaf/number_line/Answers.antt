@@ -20,9 +20,15 @@ returns-in-More c = λ reading awaited.
     let a = place_of tree fs closed in
     let g : Goal = record { bound = tree.draft.bound; unassigned = c.unassigned.result; is_closed = closed } in
     let told = told_more a (Says reading c.args.words) reader
-    (c.in-More.ensures.judged a reading (goal_at tree t rest c.wake-limits.ensures c.rest-limits.ensures.same c.rest-limits.ensures.over closed g fs leaf.node refl c.unassigned.ensures refl) leaf.stands) in
-    (told.0, told.1, (fs, in_leaf tree t rest c.wake-limits.ensures c.rest-limits.ensures.same c.rest-limits.ensures.over closed reader fs told.0 leaf.node leaf.room
-    c.in-More.ensures.ready told.2))
+    (c.in-More.ensures.judged a reading (goal_at tree t rest c.wake-limits.ensures c.rest-limits.ensures.same c.rest-limits.ensures.over closed g fs leaf.node refl c.unassigned.ensures refl) leaf.stands) in (
+      told.0,
+      told.1,
+      (
+        fs,
+        in_leaf tree t rest c.wake-limits.ensures c.rest-limits.ensures.same c.rest-limits.ensures.over closed reader fs told.0 leaf.node leaf.room
+            c.in-More.ensures.ready told.2,
+      ),
+    )
 
 pub returns-in-Done : goal.returns-in-Done
 returns-in-Done c = λ reading awaited.
@@ -36,12 +42,11 @@ returns-in-Done c = λ reading awaited.
     let a = place_of tree fs closed in
     let g : Goal = record { bound = tree.draft.bound; unassigned = c.unassigned.result; is_closed = closed } in
     let told = told_done a (Says reading c.args.words) reader
-    (c.in-Done.ensures.judged a reading (goal_at tree t rest c.wake-limits.ensures c.rest-limits.ensures.same c.rest-limits.ensures.over closed g fs leaf.node refl c.unassigned.ensures refl) leaf.stands) in
-    (
+    (c.in-Done.ensures.judged a reading (goal_at tree t rest c.wake-limits.ensures c.rest-limits.ensures.same c.rest-limits.ensures.over closed g fs leaf.node refl c.unassigned.ensures refl) leaf.stands) in (
       leaf_done a told.0,
       told.1,
       c.leave.ensures fs (if closed then Closed told.0 else Open told.0)
-        (stays tree t rest c.wake-limits.ensures c.rest-limits.ensures.same c.rest-limits.ensures.over reader fs leaf.node) (is_leaf closed told.0),
+          (stays tree t rest c.wake-limits.ensures c.rest-limits.ensures.same c.rest-limits.ensures.over reader fs leaf.node) (is_leaf closed told.0),
     )
 
 pub returns-in-No : goal.returns-in-No

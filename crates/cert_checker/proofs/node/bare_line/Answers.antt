@@ -23,8 +23,7 @@ returns-then-tree-gt0 c = λ fs node.
 pub returns : goal.returns
 returns c = λ fs node.
     let tree = c.args.tree in
-    let b = draft_of tree.draft in
-    (
+    let b = draft_of tree.draft in (
       node_done b (counts_of tree.claimed) fs Bare,
       bare_more b (counts_of tree.claimed) fs (leaf_room_at tree false fs node (c.has_leaf_room.ensures.0 c.if-not-has_leaf_room.false)) c.if-tree-gt0.false,
       c.leave.ensures fs Bare node refl,

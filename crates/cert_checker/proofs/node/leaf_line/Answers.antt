@@ -18,14 +18,16 @@ returns c = λ fs node.
     let b = draft_of tree.draft in
     let place = place_of tree fs c.args.is_closed in
     let room = c.has_leaf_room.ensures.0 c.if-not-has_leaf_room.false in
-    let reader = c.requires.reader in
-    (
+    let reader = c.requires.reader in (
       Prices place,
       leaf_more b (counts_of tree.claimed) fs c.args.is_closed (leaf_room_at tree c.args.is_closed fs node room),
-      (fs, record {
-        node = record { claimed = node.claimed; over = node.over; at = node.at };
-        ready = c.begin.ensures.ready reader.0 (limits_of place) (instance_below tree.draft.base.instance fs ∙ sym reader.1) reader.2;
-        room = room;
-        stands = c.begin.ensures.stands place;
-      }),
+      (
+        fs,
+        record {
+          node = record { claimed = node.claimed; over = node.over; at = node.at };
+          ready = c.begin.ensures.ready reader.0 (limits_of place) (instance_below tree.draft.base.instance fs ∙ sym reader.1) reader.2;
+          room = room;
+          stands = c.begin.ensures.stands place;
+        },
+      ),
     )

@@ -7,7 +7,6 @@ use Rattle.tree_walk.specs.Way.{counts_of}
 use Rattle.cert_checker.specs.Due.{IsNode, IsStep, Tells, draft_of}
 use Rattle.cert_checker.specs.Rules.{after_bare, after_leaf, after_pair, after_window}
 use Rattle.cert_checker.specs.declared.due.Due.TheVariants.{Node as NodeDue}
-use Rattle.cert_checker.specs.declared.due.Step.{Step}
 use Rattle.cert_checker.specs.declared.due.Step.TheVariants.{No}
 use Rattle.cert_checker.proofs.NodeRows.{if_ok, node_step, node_rest, node_fault, window_says, pair_says, bare_says, open_says, closed_says}
 use Rattle.cert_checker.proofs.node.node_line.Goals as goal

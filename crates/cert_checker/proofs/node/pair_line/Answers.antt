@@ -24,12 +24,11 @@ pub returns : goal.returns
 returns c = λ fs node.
     let tree = c.args.tree in
     let b = draft_of tree.draft in
-    let n = c.wake-limits.result in
-    (
+    let n = c.wake-limits.result in (
       Nodes b (counts_of tree.claimed) (Without c.args.team c.args.task ∷ fs),
       pair_more b (counts_of tree.claimed) fs c.args.team c.args.task n.limits (limits_at tree n fs c.wake-limits.ensures node)
-        (room_at tree fs node (c.has_split_room.ensures.0 c.if-not-has_split_room.false)) (c.is_free.ensures.0 c.if-not-is_free.false),
+          (room_at tree fs node (c.has_split_room.ensures.0 c.if-not-has_split_room.false)) (c.is_free.ensures.0 c.if-not-is_free.false),
       entered_at tree n c.enter_pair.new.limits c.enter_pair.new.self c.rest-limits.result c.wake-limits.ensures
-        c.enter_pair.ensures.instance c.rest-limits.ensures.same c.rest-limits.ensures.over (Without c.args.team c.args.task)
-        c.in_ok-enter_pair.ensures.ok c.requires.reader fs node,
+          c.enter_pair.ensures.instance c.rest-limits.ensures.same c.rest-limits.ensures.over (Without c.args.team c.args.task)
+          c.in_ok-enter_pair.ensures.ok c.requires.reader fs node,
     )

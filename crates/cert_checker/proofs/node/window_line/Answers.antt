@@ -24,12 +24,11 @@ pub returns : goal.returns
 returns c = λ fs node.
     let tree = c.args.tree in
     let b = draft_of tree.draft in
-    let n = c.wake-limits.result in
-    (
+    let n = c.wake-limits.result in (
       Nodes b (counts_of tree.claimed) (Lower c.args.task c.args.cut ∷ fs),
       window_more b (counts_of tree.claimed) fs c.args.task c.args.cut n.limits (limits_at tree n fs c.wake-limits.ensures node)
-        (room_at tree fs node (c.has_split_room.ensures.0 c.if-not-has_split_room.false)) (c.is_inside.ensures.0 c.if-not-is_inside.false),
+          (room_at tree fs node (c.has_split_room.ensures.0 c.if-not-has_split_room.false)) (c.is_inside.ensures.0 c.if-not-is_inside.false),
       entered_at tree n c.enter_window.new.limits c.enter_window.new.self c.rest-limits.result c.wake-limits.ensures
-        c.enter_window.ensures.instance c.rest-limits.ensures.same c.rest-limits.ensures.over (Lower c.args.task c.args.cut)
-        c.in_ok-enter_window.ensures.ok c.requires.reader fs node,
+          c.enter_window.ensures.instance c.rest-limits.ensures.same c.rest-limits.ensures.over (Lower c.args.task c.args.cut)
+          c.in_ok-enter_window.ensures.ok c.requires.reader fs node,
     )

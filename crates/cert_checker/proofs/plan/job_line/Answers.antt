@@ -1,5 +1,5 @@
-use Rattle.std.proofs.Common.{◌≡◌, ◌+◌, suc, length, map, ap, sym, subst, refl, ◌∙◌, arith, Some}
-use Rattle.std.specs.Prelude.{pos, slice_set}
+use Rattle.std.proofs.Common.{◌≡◌, ◌+◌, suc, ap, sym, subst, refl, ◌∙◌, arith, Some}
+use Rattle.std.specs.Prelude.{slice_set}
 use Rattle.crew_terms.specs.Plan.{Job}
 use Rattle.crew_terms.specs.Verdict.{IsPlanOf}
 use Rattle.dossier_terms.specs.declared.Reason.TheVariants as reasons

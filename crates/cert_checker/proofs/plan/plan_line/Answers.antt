@@ -1,4 +1,4 @@
-use Rattle.std.proofs.Common.{◌≡◌, ◌≤◌, ◌-◌, length, sym, subst}
+use Rattle.std.proofs.Common.{◌≤◌, ◌-◌, length, sym, subst}
 use Rattle.cert_format.specs.Lines.{IsPlanLine}
 use Rattle.dossier_terms.specs.Reading.{Draft, jobs_due}
 use Rattle.dossier_terms.specs.Table.{Says}

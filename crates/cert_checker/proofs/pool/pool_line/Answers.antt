@@ -1,7 +1,7 @@
 use Rattle.std.proofs.Common.{◌≡◌, ◌≤◌, ◌<◌, sym, subst, arith}
 use Rattle.std.proofs.lemmas.Int.{ints}
 use Rattle.dossier_terms.specs.declared.Reason.TheVariants as reasons
-use Rattle.dossier_terms.specs.Reading.{More as Goes, No as Refuses, routes_due}
+use Rattle.dossier_terms.specs.Reading.{No as Refuses, routes_due}
 use Rattle.dossier_terms.specs.Table.{Says, draft}
 use Rattle.cert_format.specs.Lines.{IsPoolLine}
 use Rattle.cert_checker.specs.Due.{Awaits, Tells}

@@ -1,5 +1,5 @@
-use Rattle.std.proofs.Common.{◌≡◌, ◌≤◌, ◌<◌, length, ap, sym, subst, refl, ◌∙◌, arith}
-use Rattle.crew_terms.specs.Limits.{Limits, root_limits, teams_in}
+use Rattle.std.proofs.Common.{◌≡◌, ◌<◌, length, ap, sym, subst, refl, ◌∙◌, arith}
+use Rattle.crew_terms.specs.Limits.{root_limits, teams_in}
 use Rattle.dossier_terms.specs.Dossier.{Route}
 use Rattle.dossier_terms.specs.Table.{Says}
 use Rattle.cert_format.specs.Lines.{IsRouteLine}

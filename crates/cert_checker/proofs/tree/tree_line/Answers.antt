@@ -2,9 +2,8 @@ use Rattle.std.proofs.Common.{sym, subst}
 use Rattle.dossier_terms.specs.Reading.{No as Refuses}
 use Rattle.dossier_terms.specs.Table.{Says}
 use Rattle.cert_format.specs.Lines.{IsTreeLine}
-use Rattle.tree_walk.specs.Way.{counts_of}
 use Rattle.tree_walk.specs.declared.walk.TreeCounts.{TreeCounts}
-use Rattle.cert_checker.specs.Due.{Tells, draft_of}
+use Rattle.cert_checker.specs.Due.{Tells}
 use Rattle.cert_checker.specs.declared.due.Due.TheVariants.{Node}
 use Rattle.cert_checker.specs.declared.due.Step.TheVariants.{More}
 use Rattle.cert_checker.proofs.TreeRows.{tree_faulty, tree_begun}
