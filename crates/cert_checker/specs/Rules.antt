@@ -52,5 +52,5 @@ abbrev pub after_bare : Draft → Counts → List Frame → Said → Type 0
 after_bare b c fs = Must (sum_in left_open 0 fs < c.left_open) Count (Must (b.bound ≡ 0) Bound (Goes (node_done b c fs Bare)))
 
 abbrev pub after_leaf : Draft → Counts → List Frame → Bool → Said → Type 0
-after_leaf b c fs is_closed = Must (if is_closed then sum_in closed 0 fs < c.closed else sum_in left_open 0 fs < c.left_open) Count
+after_leaf b c fs is_closed = Must ((if is_closed then sum_in closed 0 fs else sum_in left_open 0 fs) < (if is_closed then c.closed else c.left_open)) Count
     (Goes (Prices (record { draft = b; counts = c; above = fs; is_closed = is_closed })))

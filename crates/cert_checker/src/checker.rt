@@ -127,6 +127,13 @@ fn state_after(step: Step, number: u64) -> State
     }
 }
 
+/// Puts another state in the place of one, which is let go.
+fn put(state: &mut State, next: State)
+    ensures { state.new ≡ next }
+{
+    drop(mem::replace(state, next));
+}
+
 /// The reason that tells why no line comes.
 fn stop_reason(why: Stop) -> Reason
     ensures { result ≡ stop_reason_of why }
@@ -177,7 +184,7 @@ impl Checker {
         let words = self.cuts.split(line);
         let step = judge(self.alloc, due, words)?;
         let said = said_after(&step, self.lines);
-        self.state = state_after(step, self.lines);
+        put(&mut self.state, state_after(step, self.lines));
         Ok(said)
     }
 
@@ -199,9 +206,12 @@ impl Checker {
     {
         match mem::replace(&mut self.state, State::Spent) {
             State::Due(due) => self.judge_line(due, line),
-            State::Whole(_) => self.judge_line(Due::Head(HeadDue::Form), line),
+            State::Whole(ended) => {
+                drop(ended);
+                self.judge_line(Due::Head(HeadDue::Form), line)
+            }
             State::Refused { line, reason } => {
-                self.state = State::Refused { line, reason };
+                put(&mut self.state, State::Refused { line, reason });
                 Ok(Said::No { line, reason })
             }
             State::Spent => Err(AllocError),
@@ -228,7 +238,7 @@ impl Checker {
         }
         let line = self.lines + 1;
         let reason = stop_reason(why);
-        self.state = State::Refused { line, reason };
+        put(&mut self.state, State::Refused { line, reason });
         Some(Said::No { line, reason })
     }
 

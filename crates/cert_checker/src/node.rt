@@ -3,6 +3,7 @@ ghost use Rattle.std.specs.Prelude.{◌≡◌, ◌≤◌, ◌<◌, ◌↔◌, Li
 ghost use Rattle.crew_terms.specs.Limits.{tasks_in, teams_in};
 ghost use Rattle.dossier_terms.specs.Dossier.{Written};
 ghost use Rattle.dossier_terms.specs.Reading.{Frame, node_done};
+ghost use Rattle.tree_walk.specs.Splits.{IsFreePair};
 ghost use Rattle.tree_walk.specs.Way.{IsLeaf, counts_of};
 ghost use Rattle.cert_checker.specs.Due.{Awaits, HasLeafRoom, HasReader, HasSplitRoom, IsAwaited, IsInTree, IsNode, IsStep, Tells, draft_of};
 ghost use Rattle.cert_checker.specs.Rules.{after_bare, after_leaf, after_pair, after_window};

@@ -1,5 +1,5 @@
 -- what is held of the head of a dossier stands for what has been read of it
-use Rattle.std.specs.Prelude.{◌≡◌, ◌≢◌, ◌≤◌, ◌<◌, ◌+◌, ◌-◌, ℕ, suc, ℤ, pos, List, [], length, map, None, Some, slice_index_or}
+use Rattle.std.specs.Prelude.{◌≡◌, ◌≢◌, ◌<◌, ◌+◌, ◌-◌, ℕ, suc, ℤ, pos, List, length, map, None, Some, slice_index_or}
 use Rattle.std.specs.List.{range_with_len}
 use Rattle.crew_terms.specs.Words.{Words}
 use Rattle.crew_terms.specs.Instance.{Instance}

@@ -8,7 +8,7 @@ ghost use Rattle.head_check.specs.Rows.{after_place, after_travel, after_team, a
 ghost use Rattle.dossier_terms.specs.Reading.{places_due, travels_due, teams_due, tasks_due};
 ghost use Rattle.head_check.specs.Head.{Holds, IsHead, IsStep, IsDue, SetsRow, Tells, parts_of, rows_read};
 
-use crate::due::{Base, HeadDue, Head, HeadStep};
+use crate::due::{Base, Head, HeadDue, HeadStep};
 use crate::numbers::{number_at, skill_set};
 use cert_format::{Expect, LineKind, Rest, fault_is_refused, read_line};
 use crew_instance::{BuildFault, Builder, Name, Task, Team};

@@ -8,15 +8,9 @@ use Rattle.crew_terms.specs.Limits.{tasks_in}
 use Rattle.crew_terms.specs.Leaf.{IsPrice}
 use Rattle.dossier_terms.specs.Dossier.{Potentials, IsWorthNumber, IsSigned, minute_count, open_tasks, priced, required_teams}
 use Rattle.dossier_terms.specs.Lines.{price_line, extra_line, worth_line, phi_line}
-use Rattle.dossier_terms.specs.Reading.{Said, Place, No as Refuses, limits_of}
-use Rattle.dossier_terms.specs.Rules.{Holds, Fails, Spelled, Unspelled}
+use Rattle.dossier_terms.specs.Reading.{Said, Place, limits_of}
+use Rattle.dossier_terms.specs.Rules.{Holds, Spelled}
 use Rattle.dossier_terms.specs.Table.{AreNumbers, after_extra, after_phi, price_row, extra_row, worth_row, phi_row}
-use Rattle.cert_format.specs.Lines.{IsFaultOf}
-use Rattle.cert_format.specs.declared.kinds.Expect.TheVariants as expected
-use Rattle.cert_format.specs.declared.kinds.LineKind.TheVariants as kinds
-use Rattle.cert_format.specs.declared.kinds.LineFault.{LineFault}
-use Rattle.cert_format.specs.declared.kinds.LineFault.TheVariants.{Shape, Number, Name}
-use Rattle.cert_format.specs.Expected.{reason_for}
 
 -- ---- numbers
 

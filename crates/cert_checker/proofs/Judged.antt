@@ -1,0 +1,60 @@
+-- where a checker stands after it judged a line
+use Rattle.std.proofs.Common.{◌≡◌, ◌≤◌, ◌<◌, ◌+◌, ◌^◌, ℕ, Some, None, sym, ap, subst, ◌∙◌, refl}
+use Rattle.crew_terms.specs.Words.{Words}
+use Rattle.dossier_terms.specs.Dossier.{Dossier}
+use Rattle.dossier_terms.specs.Reading.{Reading, Said as Answer, More as Goes, Whole as Ends, No as Refuses}
+use Rattle.dossier_terms.specs.Table.{Says}
+use Rattle.cert_checker.specs.Due.{Awaits, IsEndOf, IsStep, Tells}
+use Rattle.cert_checker.specs.Checked.{Checked, IsJudged, IsReached, IsTrueVerdict, IsTrueYes, IsWholeAt, said_of, StandsAfter, verdict_of}
+use Rattle.cert_checker.specs.Kept.{IsKeptFrom, IsSettled, state_in}
+use Rattle.cert_checker.specs.Said.{IsSaidOf}
+use Rattle.cert_checker.specs.declared.checker.Verdict.{Verdict}
+use Rattle.cert_checker.specs.declared.checker.Said.{Said}
+use Rattle.cert_checker.specs.declared.checker.Said.TheVariants.{Whole as SaidWhole}
+use Rattle.cert_checker.specs.declared.due.Due.{Due as Held}
+use Rattle.cert_checker.specs.declared.due.Step.{Step}
+use Rattle.cert_checker.specs.declared.due.Step.TheVariants.{More, Whole, No}
+
+-- the answer of the table, with what it leads to
+pub record IsAnswered (reading : Reading) (words : Words) (number : ℕ) (step : Step) (said : Said) : Type 0 where
+  pub answer : Answer
+  pub is : Says reading words answer
+  pub says : said ≡ said_of number answer
+  pub stands : StandsAfter number answer (state_in number step)
+
+-- what is told of a step is the answer of the table
+pub answered : (reading : Reading) (words : Words) (number : ℕ) (step : Step) (said : Said) → Tells (Says reading words) step → IsSaidOf number step said
+    → IsAnswered reading words number step said
+answered reading words number (More next) said tells says = record { answer = Goes tells.0; is = tells.1; says = says; stands = tells.2 }
+answered reading words number (Whole ended) said tells says = record { answer = Ends tells.0; is = tells.1; says = says tells.0 tells.2; stands = tells.2 }
+answered reading words number (No reason) said tells says = record { answer = Refuses reason; is = tells; says = says; stands = refl }
+
+-- what is kept after a step holds
+pub settles : (reading : Reading) (words : Words) (number : ℕ) (step : Step) → IsReached reading → Tells (Says reading words) step
+    → ((d n : Reading) (ws : Words) → IsReached d → Says d ws (Goes n) → IsReached n)
+    → ((d : Reading) (ws : Words) (w : Dossier) → IsReached d → Says d ws (Ends w) → IsTrueYes w)
+    → IsSettled (state_in number step)
+settles reading words number (More next) reached tells goes ends = (tells.0, goes reading tells.0 words reached tells.1, tells.2)
+settles reading words number (Whole ended) reached tells goes ends = (tells.0, tells.2, ends reading words tells.0 reached tells.1)
+settles reading words number (No reason) reached tells goes ends = tt
+
+-- what is said of a whole dossier is so
+pub is_true : (number : ℕ) (step : Step) (said : Said) (verdict : Verdict) → IsSettled (state_in number step) → IsSaidOf number step said → said ≡ SaidWhole verdict
+    → IsTrueVerdict (state_in number step) verdict
+is_true number (More next) said verdict h e f = absurd (let g = sym e ∙ f in cc)
+is_true number (Whole ended) said verdict h e f = record { dossier = h.0; is = h.1; says = (let g : SaidWhole verdict ≡ SaidWhole (verdict_of h.0) = sym f ∙ e h.0 h.1 in cc); true_yes = h.2 }
+is_true number (No reason) said verdict h e f = absurd (let g = sym e ∙ f in cc)
+
+-- a step is what the table says
+pub judged : (lines : ℕ) (reading : Reading) (words : Words) (step : Step) (said : Said) → IsReached reading → Tells (Says reading words) step
+    → ((d : Reading) (ws : Words) (a b : Answer) → IsReached d → Says d ws a → Says d ws b → b ≡ a)
+    → IsSaidOf (lines + 1) step said
+    → IsJudged lines reading words said (record { lines = lines + 1; at = state_in (lines + 1) step })
+judged lines reading words step said reached tells one says = let it = answered reading words (lines + 1) step said tells says in record {
+  answer = it.answer;
+  is = it.is;
+  only = λ other a. one reading words it.answer other reached it.is a;
+  says = it.says;
+  count = refl;
+  stands = it.stands;
+}

@@ -1,0 +1,131 @@
+-- the lines of a leaf's numbers and the line `end`: what is kept behind them
+use Rattle.std.proofs.Common.{◌≡◌, ℕ, List, Bool, true, false, ap, subst, sym, refl, ◌∙◌, eqb, ◌&&◌}
+use Rattle.std.specs.Prelude.{if◌then◌else◌}
+use Rattle.std.proofs.lemmas.Bool.{and_parts, and_from, eqb-true, eq-eqb, both_ways}
+use Rattle.crew_terms.specs.Words.{Words}
+use Rattle.crew_terms.specs.Limits.{root_limits}
+use Rattle.crew_terms.specs.Plan.{unassigned_count}
+use Rattle.dossier_terms.specs.declared.Reason.{Reason}
+use Rattle.dossier_terms.specs.declared.Reason.TheVariants as reasons
+use Rattle.dossier_terms.specs.Dossier.{Written, Open, Closed, Leaf}
+use Rattle.dossier_terms.specs.Lines.{end_line}
+use Rattle.dossier_terms.specs.Reading.{Reading, Said, More as Goes, Whole as Ends, No as Refuses, Draft, Counts, Frame, Place, Ends as EndDue, leaf_done, limits_of, whole}
+use Rattle.dossier_terms.specs.Rules.{Holds, Fails}
+use Rattle.dossier_terms.specs.Table.{Finish, IsCounted, Says, end_row}
+use Rattle.cert_format.specs.Lines.{IsEndLine}
+use Rattle.cert_format.specs.declared.kinds.LineKind.{LineKind}
+use Rattle.cert_format.specs.declared.kinds.LineKind.TheVariants as kinds
+use Rattle.node_limits.specs.Trail.{Trail}
+use Rattle.node_limits.specs.Rest.{Rest, IsRestOver, trail_over}
+use Rattle.leaf_check.specs.Reader.{IsGoalAt, IsReady, StandsFor, Tells as LeafTells, TellsMore, TellsDone, TellsNo}
+use Rattle.leaf_check.specs.declared.reader.Goal.{Goal}
+use Rattle.leaf_check.specs.declared.reader.LeafReader.{LeafReader}
+use Rattle.leaf_check.specs.declared.reader.LeafStep.TheVariants as steps
+use Rattle.tree_walk.specs.Way.{IsAt, IsLeaf, counts_of, counts_of_tree}
+use Rattle.tree_walk.specs.declared.walk.TreeCounts.{TreeCounts}
+use Rattle.cert_checker.specs.Due.{HasLeafRoom, IsInLeaf, IsNode, IsStep, Tells, draft_of, place_of}
+use Rattle.cert_checker.specs.declared.due.Draft.{Draft as Held}
+use Rattle.cert_checker.specs.declared.due.TreeDraft.{TreeDraft}
+use Rattle.cert_checker.specs.declared.due.Due.TheVariants.{End as EndLine}
+use Rattle.cert_checker.specs.declared.due.Step.{Step}
+use Rattle.cert_checker.specs.declared.due.Step.TheVariants.{More, Whole, No}
+use Rattle.cert_checker.proofs.NodeRows.{at_node, limits_at}
+
+-- ---- what the reader of a leaf tells
+
+module _ (a : Place) (Rules : Said → Type 0) (new : LeafReader) where
+  pub told_more : LeafTells a Rules steps.More new → (next : Reading) × Rules (Goes next) × StandsFor a new next
+  told_more (TellsMore next says stands is) = (next, says, stands)
+  told_more (TellsDone leaf says is) = absurd (cc)
+  told_more (TellsNo reason says is) = absurd (cc)
+
+  pub told_done : LeafTells a Rules steps.Done new → (leaf : Leaf) × Rules (Goes (leaf_done a leaf))
+  told_done (TellsMore next says stands is) = absurd (cc)
+  told_done (TellsDone leaf says is) = (leaf, says)
+  told_done (TellsNo reason says is) = absurd (cc)
+
+  pub told_no : (reason : Reason) → LeafTells a Rules (steps.No reason) new → Rules (Refuses reason)
+  told_no reason (TellsMore next says stands is) = absurd (cc)
+  told_no reason (TellsDone leaf says is) = absurd (cc)
+  told_no reason (TellsNo other says is) = let same : reason ≡ other = cc in subst (λ r. Rules (Refuses r)) (sym same) says
+
+-- a leaf of a kind is one
+pub is_leaf : (is_closed : Bool) (leaf : Leaf) → IsLeaf is_closed (if is_closed then Closed leaf else Open leaf)
+is_leaf true leaf = refl
+is_leaf false leaf = refl
+
+-- ---- what is kept of a leaf
+
+-- the tree with its limits at rest again, and the reader behind a line
+abbrev pub read_on : TreeDraft → Rest → LeafReader → TreeDraft
+read_on tree rest reader = record { draft = tree.draft; claimed = tree.claimed; limits = rest; walk = tree.walk; reader = reader }
+
+module _ (tree : TreeDraft) (t : Trail) (rest : Rest) (woke : t ≡ trail_over tree.draft.base.instance tree.limits)
+    (back : trail_over t.limits.instance rest ≡ t) (over : IsRestOver t.limits.instance rest) where
+  -- the walk stands where it stood
+  pub stays : (reader : LeafReader) (fs : List Frame) → IsNode tree fs → IsNode (read_on tree rest reader) fs
+  stays reader fs node =
+      let h = at_node tree t t tree.walk rest woke refl back over fs node.claimed
+      (subst (λ x. IsAt (root_limits tree.draft.base.instance) x tree.walk fs) (sym woke) node.at) in
+      record { claimed = h.claimed; over = h.over; at = h.at }
+
+  -- the goal is that of the place
+  pub goal_at : (is_closed : Bool) (goal : Goal) (fs : List Frame) → IsNode tree fs → goal.bound ≡ tree.draft.bound → goal.unassigned ≡ unassigned_count tree.draft.plan → goal.is_closed ≡ is_closed
+      → IsGoalAt (place_of tree fs is_closed) t.limits goal
+  goal_at is_closed goal fs node bound count kind = record { limits = sym (limits_at tree t fs woke node); bound = bound; unassigned = count; is_closed = kind }
+
+  -- one more line of the leaf is due
+  pub in_leaf : (is_closed : Bool) (reader : LeafReader) (fs : List Frame) (next : Reading) → IsNode tree fs → HasLeafRoom tree is_closed → IsReady t.limits reader
+      → StandsFor (place_of tree fs is_closed) reader next → IsInLeaf (read_on tree rest reader) is_closed fs next
+  in_leaf is_closed reader fs next node room ready stands = record {
+    node = stays reader fs node;
+    ready = subst (λ n. IsReady n reader) (limits_at tree t fs woke node) ready;
+    room = room;
+    stands = stands;
+  }
+
+-- ---- the line `end`
+
+pub end_is : (ws : Words) (kind : LineKind) → IsEndLine ws kind → ws ≡ end_line
+end_is ws kinds.End h = h
+end_is ws _ h = absurd h
+
+-- the test that two trees have the same numbers
+abbrev same_numbers : TreeCounts → TreeCounts → Bool
+same_numbers s c = eqb s.splits c.splits && (eqb s.closed c.closed && (eqb s.left_open c.left_open && eqb s.depth c.depth))
+
+pub counted : (s c : TreeCounts) (t : Written) → counts_of s ≡ counts_of_tree t → same_numbers s c ≡ true → IsCounted (counts_of c) t
+counted s c t seen h =
+    let p = and_parts (eqb s.splits c.splits) (eqb s.closed c.closed && (eqb s.left_open c.left_open && eqb s.depth c.depth)) h in
+    let q = and_parts (eqb s.closed c.closed) (eqb s.left_open c.left_open && eqb s.depth c.depth) p.1 in
+    let r = and_parts (eqb s.left_open c.left_open) (eqb s.depth c.depth) q.1 in
+    record {
+      splits = sym (ap (λ (n : Counts). n.splits) seen) ∙ eqb-true s.splits c.splits p.0;
+      closed = sym (ap (λ (n : Counts). n.closed) seen) ∙ eqb-true s.closed c.closed q.0;
+      left_open = sym (ap (λ (n : Counts). n.left_open) seen) ∙ eqb-true s.left_open c.left_open r.0;
+      depth = sym (ap (λ (n : Counts). n.depth) seen) ∙ eqb-true s.depth c.depth r.1;
+    }
+
+pub not_counted : (s c : TreeCounts) (t : Written) → counts_of s ≡ counts_of_tree t → same_numbers s c ≡ false → IsCounted (counts_of c) t → ⊥
+not_counted s c t seen h is = both_ways (same_numbers s c) h
+    (and_from (eqb s.splits c.splits) (eqb s.closed c.closed && (eqb s.left_open c.left_open && eqb s.depth c.depth))
+    (eq-eqb s.splits c.splits (ap (λ (n : Counts). n.splits) seen ∙ is.splits))
+    (and_from (eqb s.closed c.closed) (eqb s.left_open c.left_open && eqb s.depth c.depth) (eq-eqb s.closed c.closed (ap (λ (n : Counts). n.closed) seen ∙ is.closed))
+    (and_from (eqb s.left_open c.left_open) (eqb s.depth c.depth) (eq-eqb s.left_open c.left_open (ap (λ (n : Counts). n.left_open) seen ∙ is.left_open))
+    (eq-eqb s.depth c.depth (ap (λ (n : Counts). n.depth) seen ∙ is.depth)))))
+
+-- the line is read, and the numbers are those that were claimed
+pub ends_whole : (b : Held) (claimed seen : TreeCounts) (ws : Words) → ws ≡ end_line → same_numbers seen claimed ≡ true
+    → IsStep (EndLine b claimed seen) ws (Whole (record { draft = b; counts = seen }))
+ends_whole b claimed seen ws is same = λ reading awaited.
+    let t = awaited.0 in
+    let d = whole (draft_of b) t in
+    let row : end_row (draft_of b) (counts_of claimed) t ws (Ends d) = Holds is (Holds (counted seen claimed t awaited.1 same) (Finish refl)) in
+    (d, subst (λ r. Says r ws (Ends d)) (sym awaited.2) row, record { tree = t; is = refl; counts = awaited.1 })
+
+pub ends_miscounted : (b : Held) (claimed seen : TreeCounts) (ws : Words) → ws ≡ end_line → same_numbers seen claimed ≡ false
+    → IsStep (EndLine b claimed seen) ws (No reasons.Count)
+ends_miscounted b claimed seen ws is differ = λ reading awaited.
+    let t = awaited.0 in
+    let row : end_row (draft_of b) (counts_of claimed) t ws (Refuses reasons.Count) = Holds is (Fails (not_counted seen claimed t awaited.1 differ) refl) in
+    subst (λ r. Says r ws (Refuses reasons.Count)) (sym awaited.2) row

@@ -1,0 +1,6 @@
+pub mod Judged
+pub mod PoolRows
+pub mod PlanRows
+pub mod TreeRows
+pub mod NodeRows
+pub mod LeafRows

@@ -1,0 +1,107 @@
+-- the rows of the table for the lines of a plan
+use Rattle.std.proofs.Common.{◌≡◌, ◌≢◌, ◌≤◌, ◌<◌, ◌-◌, ℕ, zero, suc, List, [], ◌∷◌, length, map, ap, subst, sym, refl, ◌∙◌, arith, ◌⊎◌, inl, inr, None, Some, get_or-set_same, get_or-set_other}
+use Rattle.std.specs.Prelude.{pos, Contains, slice_set}
+use Rattle.std.specs.List.{AllByRecursion}
+use Rattle.std.proofs.lemmas.Bool.{cases_eq}
+use Rattle.std.proofs.lemmas.List.{length-set}
+use Rattle.crew_terms.specs.Words.{Words}
+use Rattle.crew_terms.specs.Instance.{Instance}
+use Rattle.crew_terms.specs.Plan.{Plan, Job, job_of, Does, IsLegal}
+use Rattle.crew_terms.specs.Verdict.{IsVerdict, IsPlanOf}
+use Rattle.crew_terms.specs.declared.PlanVerdict.{PlanVerdict}
+use Rattle.dossier_terms.specs.declared.Reason.TheVariants as reasons
+use Rattle.dossier_terms.specs.Lines.{plan_line, do_line}
+use Rattle.dossier_terms.specs.Reading.{Said, More as Goes, Whole as Ends, No as Refuses, Draft, Jobs, Trees, jobs_due}
+use Rattle.dossier_terms.specs.Rules.{Must, Holds, HoldsBy, FailsBy, Spelled, On}
+use Rattle.dossier_terms.specs.Table.{IsDoLine, plan_row, job_row, after_job}
+use Rattle.cert_format.specs.Lines.{IsJobOf}
+use Rattle.head_check.specs.Numbers.{naturals, AreBelow}
+use Rattle.cert_checker.specs.Due.{Tells, draft_of}
+use Rattle.cert_checker.specs.declared.due.Draft.{Draft as Held}
+use Rattle.cert_checker.specs.declared.due.Due.TheVariants.{Job as JobDue, Tree as TreeDue}
+use Rattle.cert_checker.specs.declared.due.Step.{Step}
+use Rattle.cert_checker.specs.declared.due.Step.TheVariants.{More, Whole, No}
+
+-- what is told by the rules of a row is told by the row, where the row is these rules after a line's words
+pub told_by : (Rules Row : Said → Type 0) (step : Step) → ((said : Said) → Rules said → Row said) → Tells Rules step → Tells Row step
+told_by Rules Row (More due) row told = (told.0, row (Goes told.0) told.1, told.2)
+told_by Rules Row (Whole ended) row told = (told.0, row (Ends told.0) told.1, told.2)
+told_by Rules Row (No reason) row told = row (Refuses reason) told
+
+-- ---- the line `plan`
+
+pub jobs_left : (b : Draft) (more from : ℕ) → 0 < more → jobs_due b more from ≡ Jobs b (more - 1) from
+jobs_left b zero from l = absurd (omega arith)
+jobs_left b (suc k) from l = let e : k ≡ suc k - 1 = omega arith in ap (λ n. Jobs b n from) e
+
+pub jobs_none : (b : Draft) (more from : ℕ) → more ≡ 0 → jobs_due b more from ≡ Trees b
+jobs_none b more from e = ap (λ n. jobs_due b n from) e
+
+pub plan_more : (b : Draft) (u l : ℕ) (ws : Words) → u ≤ length b.instance.tasks → l ≤ length b.instance.tasks → ws ≡ plan_line u l
+    → plan_row b ws (Goes (jobs_due (record b { bound = l }) (length b.instance.tasks - u) 0))
+plan_more b u l ws p q is = Holds (_, is, refl) (Spelled (u, l) (p, q) is (On refl))
+
+-- ---- the numbers at the end of a line
+
+pub naturals-pos : (ns : List ℕ) → naturals (map pos ns) ≡ ns
+naturals-pos [] = refl
+naturals-pos (n ∷ ns) = ap (λ xs. n ∷ xs) (naturals-pos ns)
+
+pub below_from : (past most : ℕ) (ns : List ℕ) → past ≤ most → AllByRecursion (λ n. n < past) ns → AreBelow most (map pos ns)
+below_from past most [] le h k d l = absurd (omega arith)
+below_from past most (n ∷ ns) le h zero d l = (n, refl, (let a = h.0 in omega arith))
+below_from past most (n ∷ ns) le h (suc k) d l = below_from past most ns le h.1 k d (omega arith)
+
+-- ---- a line `do`
+
+below_all : (m : ℕ) (ks : List ℕ) → AllByRecursion (λ k. k < m) ks → (k : ℕ) → Contains ks k → k < m
+below_all m [] h k c = absurd (let l = c.1 in omega arith)
+below_all m (x ∷ ks) h k (zero, l, e) = let a = h.0 in omega (arith, e)
+below_all m (x ∷ ks) h k (suc n, l, e) = below_all m ks h.1 k (n, omega arith, e)
+
+-- a job more of known teams
+pub plan_of_more : (i : Instance) (p : Plan) (j start : ℕ) (ks : List ℕ) → IsPlanOf i p → j < length i.tasks → AllByRecursion (λ k. k < length i.teams) ks
+    → IsPlanOf i (slice_set p j (Some (record { start = start; teams = ks })))
+plan_of_more i p j start ks h below known = record {
+  whole = length-set p j (Some job) ∙ h.whole;
+  known = λ k g t d. at k g t d (cases_eq j g);
+}
+  where
+    job : Job
+    job = record { start = start; teams = ks }
+
+    at : (k g t : ℕ) → Does (slice_set p j (Some job)) k g t → (j ≡ g) ⊎ (j ≢ g) → k < length i.teams
+    at k g t d (inl e) =
+        let here : job_of (slice_set p j (Some job)) g ≡ Some job = subst (λ x. job_of (slice_set p j (Some job)) x ≡ Some job) e
+        (get_or-set_same p j (Some job) None (let w = h.whole in omega arith)) in
+        let same : job ≡ d.0 = (let f : Some job ≡ Some d.0 = sym here ∙ d.1 in cc) in
+        below_all (length i.teams) ks known k (subst (λ (o : Job). Contains o.teams k) (sym same) d.3)
+    at k g t d (inr ne) =
+        let there : job_of (slice_set p j (Some job)) g ≡ job_of p g = get_or-set_other p j g (Some job) None (λ e. ne (sym e)) in
+        h.known k g t (d.0, sym there ∙ d.1, d.2, d.3)
+
+pub job_says : (b : Draft) (k from : ℕ) (ws : Words) (p : ℕ × Job) (said : Said) → IsDoLine b.instance p → ws ≡ do_line p
+    → Must (from ≤ p.0) reasons.Shape (after_job (record b { plan = slice_set b.plan p.0 (Some p.1) }) k (suc p.0)) said → job_row b k from ws said
+job_says b k from ws p said fits is rest = Holds (_, is, omega arith) (Spelled p fits is rest)
+
+-- a line that fits the counts fits the instance
+pub line_of_counts : (i : Instance) (m n : ℕ) (p : ℕ × Job) → m ≡ length i.teams → n ≡ length i.tasks → IsJobOf m n p → IsDoLine i p
+line_of_counts i m n p a b h = record {
+  task = subst (λ x. p.0 < x) b h.task;
+  start = h.start;
+  teams = subst (λ x. AllByRecursion (λ k. k < x) p.1.teams) a h.teams;
+}
+
+pub job_goes_on : (b : Held) (more from : ℕ) → 0 < more → IsPlanOf b.base.instance b.plan → Tells (after_job (draft_of b) more from) (More (JobDue b (more - 1) from))
+job_goes_on b zero from l h = absurd (omega arith)
+job_goes_on b (suc more) from l h = let e : suc more - 1 ≡ more = omega arith in
+    subst (λ n. Tells (after_job (draft_of b) (suc more) from) (More (JobDue b n from))) (sym e) (Jobs (draft_of b) more from, On refl, (h, refl))
+
+pub jobs_judged : (b : Held) (more from : ℕ) → more ≡ 0 → IsLegal b.base.instance b.plan → Tells (after_job (draft_of b) more from) (More (TreeDue b))
+jobs_judged b more from none legal = subst (λ n. Tells (after_job (draft_of b) n from) (More (TreeDue b))) (sym none)
+    (Trees (draft_of b), HoldsBy legal (On refl), refl)
+
+pub jobs_faulty : (b : Held) (more from : ℕ) (v : PlanVerdict) → more ≡ 0 → IsVerdict b.base.instance b.plan v → (IsLegal b.base.instance b.plan → ⊥)
+    → Tells (after_job (draft_of b) more from) (No (reasons.Plan v))
+jobs_faulty b more from v none is broken = subst (λ n. Tells (after_job (draft_of b) n from) (No (reasons.Plan v))) (sym none)
+    (FailsBy (reasons.Plan v) (v, is, refl) broken refl)

@@ -1,0 +1,142 @@
+-- the rows of the table for the lines of a pool
+use Rattle.std.proofs.Common.{◌≡◌, ◌≢◌, ◌≤◌, ◌<◌, ◌*◌, ◌-◌, ◌++◌, ◌^◌, ℕ, zero, suc, List, [], ◌∷◌, length, map, replicate, ap, subst, sym, refl, ◌∙◌, arith, w64, to_z, of_z, None, Some}
+use Rattle.std.specs.Prelude.{ℤ, pos, codes, All}
+use Rattle.std.specs.List.{AllByRecursion, flat_map}
+use Rattle.std.proofs.lemmas.List.{length-append, length-replicate}
+use Rattle.std.proofs.lemmas.List.Elements.{All-contains}
+use Rattle.std.proofs.lemmas.Int.{to_z_pos}
+use Rattle.crew_terms.specs.Words.{Words}
+use Rattle.crew_terms.specs.Instance.{Instance}
+use Rattle.crew_terms.specs.Limits.{Limits, copies, root_limits}
+use Rattle.crew_terms.specs.Plan.{Plan, job_of}
+use Rattle.crew_terms.specs.Verdict.{IsPlanOf}
+use Rattle.crew_terms.specs.declared.Visit.{Visit}
+use Rattle.dossier_terms.specs.declared.Reason.TheVariants as reasons
+use Rattle.dossier_terms.specs.Dossier.{Route}
+use Rattle.dossier_terms.specs.Lines.{pool_line, route_line, visit_words}
+use Rattle.dossier_terms.specs.Reading.{More as Goes, No as Refuses, Draft, Routes, Plans, routes_due}
+use Rattle.dossier_terms.specs.Rules.{Holds, Fails, Spelled, On, Begins}
+use Rattle.dossier_terms.specs.Table.{IsRouteLine, IsPairs, draft, pool_row, route_row}
+use Rattle.node_limits.specs.Rest.{Rest, IsRestOver, limits_over, trail_over}
+use Rattle.node_limits.specs.Trail.{Trail}
+use Rattle.route_pool.specs.Numbers.{AreNumbersOf}
+use Rattle.route_pool.specs.Verdict.{IsVerdict, pool_after}
+use Rattle.route_pool.specs.declared.pool.PoolVerdict.{PoolVerdict}
+use Rattle.route_pool.specs.declared.pool.PoolVerdict.TheVariants.{Added, NotRoute, Repeated}
+use Rattle.cert_format.specs.Fields.{visit_numbers}
+use Rattle.cert_format.specs.Lines.{IsRouteOf}
+use Rattle.cert_checker.specs.Due.{IsRoot, Tells, draft_of}
+use Rattle.cert_checker.specs.Rules.{TellsRoute}
+use Rattle.cert_checker.specs.declared.due.Draft.{Draft as Held}
+use Rattle.cert_checker.specs.declared.due.Step.{Step}
+use Rattle.cert_checker.specs.declared.due.Step.TheVariants.{More, Whole, No}
+
+-- ---- what is due
+
+pub routes_left : (b : Draft) (more : ℕ) → 0 < more → routes_due b more ≡ Routes b (more - 1)
+routes_left b zero l = absurd (omega arith)
+routes_left b (suc k) l = let e : k ≡ suc k - 1 = omega arith in ap (Routes b) e
+
+pub routes_none : (b : Draft) (more : ℕ) → more ≡ 0 → routes_due b more ≡ Plans b
+routes_none b more e = ap (routes_due b) e
+
+-- limits that are put to rest are those of the root
+pub rest_is_root : (i : Instance) (t : Trail) (rest : Rest) → t.limits ≡ root_limits i → trail_over t.limits.instance rest ≡ t → IsRestOver t.limits.instance rest → IsRoot i rest
+rest_is_root i t rest e same over =
+    let of : t.limits.instance ≡ i = ap (λ (n : Limits). n.instance) e in record {
+      over = subst (λ x. IsRestOver x rest) of over;
+      root = ap (λ x. limits_over x rest.present) (sym of) ∙ ap (λ (x : Trail). x.limits) same ∙ e;
+    }
+
+-- ---- the empty plan
+
+pub no_jobs : (n : ℕ) → ◌≡◌ {A = Plan} (replicate n None) (copies n None)
+no_jobs zero = refl
+no_jobs (suc n) = ap (λ p. None ∷ p) (no_jobs n)
+
+no_job : (n j : ℕ) → job_of (replicate n None) j ≡ None
+no_job zero j = refl
+no_job (suc n) zero = refl
+no_job (suc n) (suc j) = no_job n j
+
+pub empty_plan : (i : Instance) → IsPlanOf i (replicate (length i.tasks) None)
+empty_plan i = record {
+  whole = length-replicate (length i.tasks) None;
+  known = λ k j t d. absurd (let e : None ≡ Some d.0 = sym (no_job (length i.tasks) j) ∙ d.1 in cc);
+}
+
+-- what is read behind the line `pool`
+pub begun : (i : Instance) (budget kept : ℕ) (pool : List Route) (plan : Plan) → pool ≡ [] → plan ≡ replicate (length i.tasks) None
+    → ◌≡◌ {A = Draft} (record { instance = i; budget = budget; kept = kept; pool = pool; plan = plan; bound = 0 }) (draft i budget kept)
+begun i budget kept pool plan e f =
+    ap (λ x. with_parts x plan) e ∙ ap (λ x. with_parts [] x) (f ∙ no_jobs (length i.tasks))
+  where
+    with_parts : List Route → Plan → Draft
+    with_parts x y = record { instance = i; budget = budget; kept = kept; pool = x; plan = y; bound = 0 }
+
+-- ---- the line `pool`
+
+-- a number that is told is the natural one
+pub natural_is : (n : ℤ) (k r : ℕ) → n ≡ pos k → k ≤ 9223372036854775807 → to_z w64 (of_z w64 n) ≡ pos r → r ≡ k
+natural_is n k r e le f =
+    let g : pos r ≡ pos k = sym f ∙ ap (λ z. to_z w64 (of_z w64 z)) e ∙ to_z_pos w64 k (omega arith) in cc
+
+pub pool_many : (i : Instance) (budget k c : ℕ) (ws : Words) → k ≤ 9223372036854775807 → c ≤ 9223372036854775807 → ws ≡ pool_line k c
+    → c < k → pool_row i budget ws (Refuses reasons.Pool)
+pool_many i budget k c ws a b is more = Holds (_, is, refl) (Spelled (k, c) (a, b) is (Fails (λ le. absurd (omega arith)) refl))
+
+pub pool_more : (i : Instance) (budget k c : ℕ) (ws : Words) → k ≤ 9223372036854775807 → c ≤ 9223372036854775807 → ws ≡ pool_line k c
+    → k ≤ c → pool_row i budget ws (Goes (routes_due (draft i budget k) c))
+pool_more i budget k c ws a b is le = Holds (_, is, refl) (Spelled (k, c) (a, b) is (Holds le (On refl)))
+
+-- ---- a line `route`
+
+visits_length : (vs : List Visit) → length (flat_map visit_words vs) ≡ 2 * length vs
+visits_length [] = refl
+visits_length (v ∷ vs) = let a = visits_length vs in omega (arith, length-append (visit_words v) (flat_map visit_words vs))
+
+route_pairs : (r : Route) → 1 ≤ length r.visits → IsPairs (route_line r)
+route_pairs r some = let a = visits_length r.visits in (length r.visits - 1, omega arith)
+
+-- a line that fits the counts fits the instance
+pub route_of_counts : (i : Instance) (m n : ℕ) (r : Route) → m ≡ length i.teams → n ≡ length i.tasks → IsRouteOf m n r → IsRouteLine i r
+route_of_counts i m n r a b h = record {
+  team = subst (λ x. r.team < x) a h.team;
+  some = h.some;
+  tasks = subst (λ x. AllByRecursion (λ (v : Visit). v.task < x) r.visits) b h.tasks;
+  starts = h.starts;
+}
+
+small_tasks : (n : ℕ) (vs : List Visit) → n ≤ 400 → AllByRecursion (λ (v : Visit). v.task < n) vs → AllByRecursion (λ (v : Visit). v.task < 2 ^ 32) vs
+small_tasks n [] few h = tt
+small_tasks n (v ∷ vs) few h = let a = h.0 in (omega arith, small_tasks n vs few h.1)
+
+small_starts : (vs : List Visit) → AllByRecursion (λ (v : Visit). v.start ≤ 2880) vs → AllByRecursion (λ (v : Visit). v.start < 2 ^ 32) vs
+small_starts [] h = tt
+small_starts (v ∷ vs) h = let a = h.0 in (omega arith, small_starts vs h.1)
+
+pub route_numbers : (m n : ℕ) (r : Route) → n ≤ 400 → IsRouteOf m n r → AreNumbersOf r.visits (map pos (flat_map visit_numbers r.visits))
+route_numbers m n r few h = record { spelled = refl; tasks = small_tasks n r.visits few h.tasks; starts = small_starts r.visits h.starts }
+
+-- the row of a route is what the pool says of it
+pub route_judged : (b : Draft) (more : ℕ) (ws : Words) (r : Route) (new : List Route) (verdict : PoolVerdict) (after : Held) (step : Step)
+    → IsRouteLine b.instance r → ws ≡ route_line r → IsVerdict (root_limits b.instance) b.pool r verdict → pool_after b.pool r new verdict
+    → draft_of after ≡ record b { pool = new } → TellsRoute after more verdict step → Tells (route_row b more ws) step
+route_judged b more ws r new verdict after step fits is says pool e told = at verdict says pool step told
+  where
+    shape : Begins (codes "route") ws × IsPairs ws
+    shape = ((_, is), subst IsPairs (sym is) (route_pairs r fits.some))
+
+    at : (v : PoolVerdict) → IsVerdict (root_limits b.instance) b.pool r v → pool_after b.pool r new v → (s : Step) → TellsRoute after more v s → Tells (route_row b more ws) s
+    at Added h p (More due) t =
+        let next : routes_due (draft_of after) more ≡ routes_due (record b { pool = b.pool ++ r ∷ [] }) more =
+        ap (λ d. routes_due d more) (e ∙ ap (λ (x : List Route). record b { pool = x }) p) in
+        (routes_due (draft_of after) more, Holds shape (Spelled r fits is (Holds h.0 (Holds h.1 (On (ap Goes next))))), t)
+    at Added h p (Whole ended) t = absurd t
+    at Added h p (No reason) t = absurd t
+    at NotRoute h p (No reason) t = Holds shape (Spelled r fits is (Fails h (ap Refuses t)))
+    at NotRoute h p (More due) t = absurd t
+    at NotRoute h p (Whole ended) t = absurd t
+    at Repeated h p (No reason) t = Holds shape (Spelled r fits is (Holds h.0 (Fails (λ (new_one : All (λ (o : Route). o ≢ r) b.pool). All-contains (λ (o : Route). o ≢ r) b.pool r new_one h.1 refl) (ap Refuses t))))
+    at Repeated h p (More due) t = absurd t
+    at Repeated h p (Whole ended) t = absurd t

@@ -1,0 +1,49 @@
+-- the row of the table for the line `tree`
+use Rattle.std.proofs.Common.{◌≡◌, [], ap, subst, sym, refl, ◌∙◌, None, Some}
+use Rattle.crew_terms.specs.Words.{Words}
+use Rattle.crew_terms.specs.Instance.{Instance}
+use Rattle.crew_terms.specs.Limits.{root_limits}
+use Rattle.dossier_terms.specs.declared.Reason.{Reason}
+use Rattle.dossier_terms.specs.Lines.{tree_line}
+use Rattle.dossier_terms.specs.Reading.{Said, More as Goes, No as Refuses, Draft, Counts, Nodes}
+use Rattle.dossier_terms.specs.Rules.{Holds, Spelled, On}
+use Rattle.dossier_terms.specs.Table.{IsCounts, tree_row}
+use Rattle.node_limits.specs.Rest.{Rest, IsRestOver, trail_over}
+use Rattle.node_limits.specs.Trail.{Trail}
+use Rattle.tree_walk.specs.Way.{Walked, IsAt, counts_of}
+use Rattle.tree_walk.specs.declared.walk.TreeCounts.{TreeCounts}
+use Rattle.cert_checker.specs.Due.{HasReader, IsNode, Tells, draft_of}
+use Rattle.cert_checker.specs.Rules.{IsTreeFault, tree_rules}
+use Rattle.cert_checker.specs.declared.due.Draft.{Draft as Held}
+use Rattle.cert_checker.specs.declared.due.TreeDraft.{TreeDraft}
+use Rattle.cert_checker.specs.declared.due.Due.TheVariants.{Node}
+use Rattle.cert_checker.specs.declared.due.Step.TheVariants.{More, No}
+
+tree_says : (b : Draft) (c : Counts) (ws : Words) (said : Said) → IsCounts c → ws ≡ tree_line c.splits c.closed c.left_open c.depth
+    → tree_rules b c said → tree_row b ws said
+tree_says b c ws said fits is rest = Holds (_, is, refl) (Spelled c fits is rest)
+
+pub tree_faulty : (b : Held) (claimed : TreeCounts) (ws : Words) (reason : Reason) → IsCounts (counts_of claimed)
+    → ws ≡ tree_line claimed.splits claimed.closed claimed.left_open claimed.depth → IsTreeFault (draft_of b) (counts_of claimed) (Some reason)
+    → Tells (tree_row (draft_of b) ws) (No reason)
+tree_faulty b claimed ws reason fits is broken = tree_says (draft_of b) (counts_of claimed) ws (Refuses reason) fits is broken
+
+-- the numbers of a tree break no rule, and its root is due
+pub tree_begun : (b : Held) (claimed : TreeCounts) (tree : TreeDraft) (ws : Words) → IsCounts (counts_of claimed)
+    → ws ≡ tree_line claimed.splits claimed.closed claimed.left_open claimed.depth → IsTreeFault (draft_of b) (counts_of claimed) None
+    → tree.draft ≡ b → tree.claimed ≡ claimed → IsNode tree [] → HasReader tree → Tells (tree_row (draft_of b) ws) (More (Node tree))
+tree_begun b claimed tree ws fits is good e f node reader =
+    let root = Nodes (draft_of b) (counts_of claimed) [] in
+    let same : root ≡ Nodes (draft_of tree.draft) (counts_of tree.claimed) [] =
+    ap (λ d. Nodes (draft_of d) (counts_of claimed) []) (sym e) ∙ ap (λ c. Nodes (draft_of tree.draft) (counts_of c) []) (sym f) in
+    (root, tree_says (draft_of b) (counts_of claimed) ws (Goes root) fits is (good (Goes root) (On refl)), ([], node, reader, same))
+
+-- the limits of the root are kept, and a walk begins there
+pub root_over : (i : Instance) (t : Trail) (rest : Rest) → t ≡ record { limits = root_limits i; past = []; spare = 0 } → IsRestOver t.limits.instance rest → IsRestOver i rest
+root_over i t rest e over = subst (λ x. IsRestOver x rest) (ap (λ (x : Trail). x.limits.instance) e) over
+
+pub at_root : (i : Instance) (t : Trail) (rest : Rest) (walk : Walked) → t ≡ record { limits = root_limits i; past = []; spare = 0 }
+    → trail_over t.limits.instance rest ≡ t → ((x : Trail) → x.past ≡ [] → IsAt x.limits x walk []) → IsAt (root_limits i) (trail_over i rest) walk []
+at_root i t rest walk e same begins =
+    let here : trail_over i rest ≡ record { limits = root_limits i; past = []; spare = 0 } = ap (λ x. trail_over x rest) (sym (ap (λ (x : Trail). x.limits.instance) e)) ∙ same ∙ e in
+    subst (λ n. IsAt n (trail_over i rest) walk []) (ap (λ (x : Trail). x.limits) here) (begins (trail_over i rest) (ap (λ (x : Trail). x.past) here))

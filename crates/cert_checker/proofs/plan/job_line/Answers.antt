@@ -1,0 +1,61 @@
+use Rattle.std.proofs.Common.{◌≡◌, ◌+◌, suc, ap, sym, subst, refl, ◌∙◌, arith, Some}
+use Rattle.std.specs.Prelude.{slice_set}
+use Rattle.crew_terms.specs.Plan.{Job}
+use Rattle.crew_terms.specs.Verdict.{IsPlanOf}
+use Rattle.dossier_terms.specs.declared.Reason.TheVariants as reasons
+use Rattle.dossier_terms.specs.Reading.{No as Refuses}
+use Rattle.dossier_terms.specs.Rules.{Holds, Fails}
+use Rattle.dossier_terms.specs.Table.{Says, after_job, job_row}
+use Rattle.cert_format.specs.Lines.{IsJobLine}
+use Rattle.head_check.specs.Numbers.{AreBelow, naturals}
+use Rattle.cert_checker.specs.Due.{Tells, draft_of}
+use Rattle.cert_checker.proofs.PlanRows.{told_by, below_from, naturals-pos, job_says, line_of_counts, plan_of_more}
+use Rattle.cert_checker.proofs.plan.job_line.Goals as goal
+
+pub returns-then-task-from : goal.returns-then-task-from
+returns-then-task-from c = λ reading a.
+    let h = subst (IsJobLine c.teams-teams.result c.tasks-tasks.result c.args.words) c.in-Job.is c.in-Ok.ensures in
+    let b = c.args.draft in
+    let job : Job = record { start = c.in-Job.start; teams = h.0 } in
+    let low = c.if-task-from.true in
+    subst (λ r. Says r c.args.words (Refuses reasons.Shape)) (sym a.1)
+    (job_says (draft_of b) c.args.more c.args.from c.args.words (c.in-Job.task, job) (Refuses reasons.Shape)
+    (line_of_counts b.base.instance c.teams-teams.result c.tasks-tasks.result (c.in-Job.task, job) c.teams-teams.ensures.count c.tasks-tasks.ensures.count h.2) h.3
+    (Fails (λ le. absurd (omega arith)) refl))
+
+pub team_list-requires : goal.team_list-requires
+team_list-requires c =
+    let h = subst (IsJobLine c.teams-teams.result c.tasks-tasks.result c.args.words) c.in-Job.is c.in-Ok.ensures in
+    let few = c.teams-teams.ensures.limits.few_teams in
+    let count = c.teams-teams.ensures.count in
+    subst (AreBelow 64) (sym h.1) (below_from c.teams-teams.result 64 h.0 (omega arith) h.2.teams)
+
+pub judge_job-requires : goal.judge_job-requires
+judge_job-requires c =
+    let h = subst (IsJobLine c.teams-teams.result c.tasks-tasks.result c.args.words) c.in-Job.is c.in-Ok.ensures in
+    let b = c.args.draft in
+    let i = b.base.instance in
+    let job : Job = record { start = c.in-Job.start; teams = h.0 } in
+    let listed : c.deref.result.now ≡ h.0 = c.deref.ensures.value ∙ c.in_ok-teams.ensures ∙ ap naturals h.1 ∙ naturals-pos h.0 in
+    let line = line_of_counts i c.teams-teams.result c.tasks-tasks.result (c.in-Job.task, job) c.teams-teams.ensures.count c.tasks-tasks.ensures.count h.2 in
+    subst (IsPlanOf i) (sym (c.in_ok-assign.ensures.ok ∙ ap (λ ks. slice_set b.plan c.in-Job.task (Some (record job { teams = ks }))) listed))
+    (plan_of_more i b.plan c.in-Job.task c.in-Job.start h.0 c.requires.1.0 line.task line.teams)
+
+pub returns : goal.returns
+returns c = λ reading a.
+    let h = subst (IsJobLine c.teams-teams.result c.tasks-tasks.result c.args.words) c.in-Job.is c.in-Ok.ensures in
+    let b = c.args.draft in
+    let i = b.base.instance in
+    let job : Job = record { start = c.in-Job.start; teams = h.0 } in
+    let listed : c.deref.result.now ≡ h.0 = c.deref.ensures.value ∙ c.in_ok-teams.ensures ∙ ap naturals h.1 ∙ naturals-pos h.0 in
+    let line = line_of_counts i c.teams-teams.result c.tasks-tasks.result (c.in-Job.task, job) c.teams-teams.ensures.count c.tasks-tasks.ensures.count h.2 in
+    let plan : c.assign.new.self ≡ slice_set b.plan c.in-Job.task (Some job) = c.in_ok-assign.ensures.ok ∙ ap (λ ks. slice_set b.plan c.in-Job.task (Some (record job { teams = ks }))) listed in
+    let next : c.in-Job.task + 1 ≡ suc c.in-Job.task = omega arith in
+    let rules = after_job (record (draft_of b) { plan = c.assign.new.self }) c.args.more (c.in-Job.task + 1) in
+    subst (λ r. Tells (Says r c.args.words) c.judge_job.result) (sym a.1)
+    (told_by rules (job_row (draft_of b) c.args.more c.args.from c.args.words) c.judge_job.result
+    (λ said rest. job_says (draft_of b) c.args.more c.args.from c.args.words (c.in-Job.task, job) said line h.3
+    (Holds c.if-task-from.false
+    (subst (λ n. after_job (record (draft_of b) { plan = slice_set b.plan c.in-Job.task (Some job) }) c.args.more n said) next
+    (subst (λ p. after_job (record (draft_of b) { plan = p }) c.args.more (c.in-Job.task + 1) said) plan rest))))
+    c.judge_job.ensures)

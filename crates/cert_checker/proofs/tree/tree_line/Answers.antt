@@ -1,0 +1,26 @@
+use Rattle.std.proofs.Common.{sym, subst}
+use Rattle.dossier_terms.specs.Reading.{No as Refuses}
+use Rattle.dossier_terms.specs.Table.{Says}
+use Rattle.cert_format.specs.Lines.{IsTreeLine}
+use Rattle.tree_walk.specs.declared.walk.TreeCounts.{TreeCounts}
+use Rattle.cert_checker.specs.Due.{Tells}
+use Rattle.cert_checker.specs.declared.due.Due.TheVariants.{Node}
+use Rattle.cert_checker.specs.declared.due.Step.TheVariants.{More}
+use Rattle.cert_checker.proofs.TreeRows.{tree_faulty, tree_begun}
+use Rattle.cert_checker.proofs.tree.tree_line.Goals as goal
+
+pub returns-in-Some : goal.returns-in-Some
+returns-in-Some c = λ reading e.
+    let h = subst (IsTreeLine c.args.words) c.in-Tree.is c.in-Ok.ensures in
+    let claimed : TreeCounts = record { splits = c.in-Tree.splits; closed = c.in-Tree.closed; left_open = c.in-Tree.left_open; depth = c.in-Tree.depth } in
+    subst (λ r. Says r c.args.words (Refuses c.in-Some.reason)) (sym e)
+    (tree_faulty c.args.draft claimed c.args.words c.in-Some.reason h.0 h.1 c.in-Some.ensures)
+
+pub returns : goal.returns
+returns c = λ reading e.
+    let h = subst (IsTreeLine c.args.words) c.in-Tree.is c.in-Ok.ensures in
+    let claimed : TreeCounts = record { splits = c.in-Tree.splits; closed = c.in-Tree.closed; left_open = c.in-Tree.left_open; depth = c.in-Tree.depth } in
+    let tree = c.in_ok-tree.tree in
+    let none = c.in_default-fault_of_tree.ensures in
+    subst (λ r. Tells (Says r c.args.words) (More (Node tree))) (sym e)
+    (tree_begun c.args.draft claimed tree c.args.words h.0 h.1 none c.in_ok-tree.ensures.draft c.in_ok-tree.ensures.claimed c.in_ok-tree.ensures.node c.in_ok-tree.ensures.reader)
