@@ -1,7 +1,6 @@
 -- what is written of a day, entry by entry
-use Rattle.std.proofs.Common.{◌≡◌, ◌≢◌, ◌≤◌, ◌<◌, ◌+◌, ◌++◌, ◌∷◌, [], ℕ, suc, List, Option, None, Some, Result, Ok, Err, length, take, drop, get_or, ap, subst, sym, refl, ◌∙◌, arith, append_assoc, append-nil, length-append, length-take}
-use Rattle.std.specs.Prelude.{IfSome, IfOk, IfErr, OnErr, IsTrue, codes, option_map}
-use Rattle.std.specs.List.{flat_map}
+use Rattle.std.proofs.Common.{◌≡◌, ◌≢◌, ◌≤◌, ◌<◌, ◌+◌, ◌++◌, ◌∷◌, [], ℕ, suc, List, Option, None, Some, Result, Ok, Err, length, take, drop, get_or, ap, subst, sym, refl, ◌∙◌, arith, append_assoc, append-nil, length-take}
+use Rattle.std.specs.Prelude.{IfSome, IfErr, IsTrue, codes, option_map}
 use Rattle.std.specs.Fmt.{decimal}
 use Rattle.std.proofs.lemmas.List.{take_more, take_all, take-append-le, take-append-drop}
 use Rattle.std.proofs.lemmas.List.Concat.{flat_map-append}
@@ -23,7 +22,7 @@ use Rattle.flight_changes.specs.Faults.{fault_of}
 use Rattle.flight_changes.specs.declared.faults.ChangeFault.{ChangeFault}
 use Rattle.flight_changes.specs.declared.faults.ChangeFault.TheVariants.{OutOfMemory, MissingTravel}
 use Rattle.crew_cli.specs.Refused.{refused_line}
-use Rattle.crew_cli.specs.Rounds.{DAY, AreTaken, DayStop, ComesTo, AllTaken, BadRecord, BadChange, rounds_text, stop_text, SaysRounds, IsRefusedOutput, IsTooLong, IsStopped, IsOutput, OfRounds, OfRefusal, SaysOutputPart, NoByte, SomeBytes, SaysFirstRounds, NoRound, Rounds, SaysNothingRead}
+use Rattle.crew_cli.specs.Rounds.{DAY, AreTaken, DayStop, ComesTo, AllTaken, BadRecord, BadChange, rounds_text, stop_text, IsRefusedOutput, IsTooLong, IsStopped, IsOutput, OfRounds, OfRefusal, SaysOutputPart, NoByte, SomeBytes, SaysFirstRounds, NoRound, Rounds}
 use Rattle.crew_cli.specs.Applied.{IsApplied, IsDay, Wrote, is_taken_or_write_fault, is_refused_or_write_fault, is_of_day}
 use Rattle.crew_cli.specs.Run.{OfBytes, Says, IsFine}
 use Rattle.crew_cli.specs.declared.run.Command.TheVariants as command
@@ -31,9 +30,8 @@ use Rattle.crew_cli.specs.declared.status.Status.{Status}
 use Rattle.crew_cli.specs.declared.status.Status.TheVariants as status
 use Rattle.crew_cli.specs.declared.apply.Applied.{Applied}
 use Rattle.crew_cli.specs.declared.apply.Applied.TheVariants.{Taken, Refused as IsRefused, WriteFault}
-use Rattle.crew_cli.specs.declared.refused.DayFault.{DayFault}
 use Rattle.crew_cli.specs.declared.refused.DayFault.TheVariants.{TooLong, InItself, Change}
-use Rattle.crew_cli.proofs.Days.{GoesOn, goes_on, one_end, round_text, text_more, taken_more, state_more}
+use Rattle.crew_cli.proofs.Days.{goes_on, one_end, round_text, text_more, taken_more, state_more}
 use Rattle.crew_cli.proofs.Said.{appended_none, appended_both}
 
 -- ---- one entry

@@ -1,6 +1,6 @@
 -- a day's entries, one after another
-use Rattle.std.proofs.Common.{◌≡◌, ◌≤◌, ◌<◌, ◌+◌, ◌++◌, ◌∷◌, [], ℕ, List, Option, None, Some, length, take, ap, subst, sym, refl, ◌∙◌, arith, append_assoc, append-nil, length-append}
-use Rattle.std.specs.List.{fold, flat_map}
+use Rattle.std.proofs.Common.{◌≡◌, ◌+◌, ◌++◌, ◌∷◌, [], ℕ, List, Option, None, Some, length, ap, subst, sym, refl, ◌∙◌, append_assoc, append-nil}
+use Rattle.std.specs.List.{fold}
 use Rattle.std.proofs.lemmas.List.Sums.{fold-append}
 use Rattle.std.proofs.lemmas.List.Concat.{flat_map-append}
 use Rattle.dossier_terms.specs.Lines.{instance_text}

@@ -15,7 +15,7 @@ use Rattle.dossier_terms.specs.Lines.{lines_of, text_of}
 use Rattle.dossier_terms.specs.Reading.{Reading, Form, Said as Answer, More as Goes, Whole as Ends, No as Refuses}
 use Rattle.dossier_terms.specs.Table.{Says, Reaches, Ended}
 use Rattle.dossier_terms.specs.Accepted.{IsAccepted}
-use Rattle.cert_checker.specs.Checked.{Checked, IsDueAt, IsEnded, IsJudged, IsOpen as IsDue, IsReached, IsTrueYes, IsWholeAt, StandsAfter, fresh_checker, said_of, stop_reason_of, verdict_of}
+use Rattle.cert_checker.specs.Checked.{Checked, IsDueAt, IsEnded, IsJudged, IsReached, IsTrueYes, IsWholeAt, StandsAfter, said_of, stop_reason_of, verdict_of}
 use Rattle.cert_checker.specs.declared.checker.State.{State}
 use Rattle.cert_checker.specs.declared.checker.State.TheVariants as states
 use Rattle.cert_checker.specs.declared.checker.Verdict.{Verdict}

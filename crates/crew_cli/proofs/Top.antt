@@ -1,8 +1,7 @@
 -- what the statuses of a call say
-use Rattle.std.proofs.Common.{◌≡◌, ◌≢◌, ◌⊎◌, inl, inr, List, ℕ, [], ◌∷◌, Option, None, Some, ap, subst, sym, refl, ◌∙◌, arith}
+use Rattle.std.proofs.Common.{◌≡◌, ◌≢◌, ◌⊎◌, inl, inr, List, ℕ, [], Option, None, Some, ap, subst, sym, refl, ◌∙◌, arith}
 use Rattle.std.specs.Prelude.{IfSome, IsTrue, slice_index, slice_index_or}
-use Rattle.crew_cli.specs.Rounds.{SaysFirstRounds}
-use Rattle.crew_cli.specs.Run.{OfBytes, AskFor, Says, IsFine, SaysYes, SaysNo, SaysFront, SaysReadFault, SaysYesLines, ends_with}
+use Rattle.crew_cli.specs.Run.{OfBytes, AskFor, Says, IsFine, SaysYes, SaysNo, SaysFront, SaysReadFault, ends_with}
 use Rattle.crew_cli.specs.declared.run.Command.{Command}
 use Rattle.crew_cli.specs.declared.run.Command.TheVariants.{Check, Apply}
 use Rattle.crew_cli.specs.declared.status.Status.{Status}

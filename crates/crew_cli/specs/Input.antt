@@ -12,7 +12,7 @@ use Rattle.dossier_terms.specs.Lines.{lines_of, text_of}
 use Rattle.dossier_terms.specs.Reading.{Reading, No as Refuses, Form}
 use Rattle.dossier_terms.specs.Table.{Says, Reaches}
 use Rattle.dossier_terms.specs.Accepted.{IsAccepted}
-use Rattle.cert_checker.specs.Checked.{Checked, IsEnded, IsTrueYes, IsWholeAt, fresh_checker, stop_reason_of, verdict_of}
+use Rattle.cert_checker.specs.Checked.{Checked, IsEnded, IsTrueYes, fresh_checker, stop_reason_of, verdict_of}
 use Rattle.cert_checker.specs.declared.checker.Verdict.{Verdict}
 use Rattle.cert_checker.specs.declared.checker.Stop.{Stop}
 use Rattle.cert_checker.specs.declared.checker.Stop.TheVariants as stops

@@ -2,7 +2,6 @@
 use Rattle.std.specs.Prelude.{ℕ, List, [], ◌∷◌, codes}
 use Rattle.std.specs.Fmt.{decimal}
 use Rattle.crew_terms.specs.Words.{Words, line_text}
-use Rattle.field_table.specs.declared.fields.FieldFault.{FieldFault}
 use Rattle.field_table.specs.declared.fields.Cause.{Cause}
 use Rattle.field_table.specs.declared.fields.Cause.TheVariants.{Count, Spelling, Range}
 use Rattle.day_terms.specs.declared.DayCause.{DayCause}

@@ -40,8 +40,7 @@ pub(crate) fn check<S: Source, K: Sink>(
 {
     let mut reader = LineReader::open(alloc, INPUT)?;
     let mut checker = Checker::open(alloc)?;
-    let status = check_all(&mut reader, &mut checker, src, out)?;
-    Ok(status)
+    check_all(&mut reader, &mut checker, src, out)
 }
 
 /// Reads all dossiers with a reader and a checker that have read nothing yet.

@@ -10,7 +10,9 @@ ghost use Rattle.dossier_terms.specs.Table.{Ended, Reaches};
 ghost use Rattle.cert_checker.specs.Checked.{IsTrueYes};
 ghost use Rattle.crew_cli.specs.Input.{IsRefusal, text_of_lines};
 
-use dossier_laws::{good_bounds, good_is_read, one_dossier, read_is_good, says_one_thing, sheet_is_good};
+use dossier_laws::{
+    good_bounds, good_is_read, one_dossier, read_is_good, says_one_thing, sheet_is_good,
+};
 use text_laws::{good_lines, lines_in_text, read_front, words_of_line};
 
 /// An input with a line that is refused is accepted as no list of dossiers.

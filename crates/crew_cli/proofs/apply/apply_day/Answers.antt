@@ -1,4 +1,4 @@
-use Rattle.std.proofs.Common.{◌<◌, ◌≤◌, length, subst, sym, arith}
+use Rattle.std.proofs.Common.{◌<◌, length, subst, sym, arith}
 use Rattle.crew_cli.specs.Applied.{IsApplied, IsDay}
 use Rattle.crew_cli.proofs.Applies.{at_refused, at_front, at_memory, at_taken, at_end, at_stop}
 use Rattle.crew_cli.proofs.Said.{on_err}

@@ -1,4 +1,4 @@
-use Rattle.std.proofs.Common.{◌≡◌, None, [], ap, subst, sym, refl, ◌∙◌, arith}
+use Rattle.std.proofs.Common.{subst, sym, refl, ◌∙◌, arith}
 use Rattle.std.proofs.lemmas.Bool.{false≢true}
 use Rattle.crew_io.specs.Io.{Appended}
 use Rattle.day_terms.specs.Refusal.{refusal_of}

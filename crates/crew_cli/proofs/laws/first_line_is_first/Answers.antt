@@ -1,4 +1,4 @@
-use Rattle.std.proofs.Common.{◌≡◌, ◌++◌, ℕ, List, [], ◌∷◌, length, ap, refl, arith, length-append, subst, ◌∙◌, sym}
+use Rattle.std.proofs.Common.{◌++◌}
 use Rattle.dossier_laws.specs.Sheet.{sheet}
 use Rattle.dossier_terms.specs.Lines.{lines_of}
 use Rattle.crew_cli.proofs.Refusals.{ended_after, none_before}
