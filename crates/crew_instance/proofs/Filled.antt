@@ -78,3 +78,8 @@ grown_set n b r s x h less e =
 
 pub rows_written : (n : ℕ) (rows : List Row) (a b : ℕ) (r v : Row) (x : Option ℕ) → a < length rows → r ≡ get_or rows a r → filled n v.items ≡ set (filled n r.items) b x → filled_rows n (set rows a v) ≡ set (filled_rows n rows) a (set (get_or (filled_rows n rows) a []) b x)
 rows_written n rows a b r v x h e w = rows_set n rows a v (set (get_or (filled_rows n rows) a []) b x) (w ∙ ap (λ t. set t b x) (sym (row_of n rows a r h e)))
+
+-- the item after the last is written by a push
+pub pushed_set : (r : List (Option ℕ)) (x : Option ℕ) → set (r ++ None ∷ []) (length r) x ≡ r ++ x ∷ []
+pushed_set [] x = refl
+pushed_set (y ∷ r) x = ap (λ t. y ∷ t) (pushed_set r x)

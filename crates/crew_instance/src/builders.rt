@@ -275,6 +275,10 @@ fn set_time(row: &mut Vec<Option<u32>>, b: u32, minutes: u32) -> Result<(), Allo
     ensures err { OnErr result (row.new.items ≡ row.old.items) }
 {
     let b = b as usize;
+    if row.len() == b {
+        row.push(Some(minutes))?;
+        return Ok(());
+    }
     if row.len() <= b {
         row.resize(b + 1, None)?;
     }

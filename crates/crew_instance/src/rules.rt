@@ -14,13 +14,27 @@ const LONGEST_TASK: u32 = 2880;
 
 const MOST_TEAMS_PER_TASK: u32 = 8;
 
+/// Whether the bytes are the same. The last one tells most names apart, so it is looked at first.
+fn is_same(a: &[u8], b: &[u8]) -> bool
+    ensures { IsTrue result ↔ (a.now ≡ b.now) }
+{
+    let n = a.len();
+    if n != b.len() {
+        return false;
+    }
+    if n > 0 && a[n - 1] != b[n - 1] {
+        return false;
+    }
+    a == b
+}
+
 /// Whether one of the places has the name.
 pub(crate) fn has_place(places: &[Name], name: &Name) -> bool
     ensures answer { IsTrue result ↔ Contains places.now name.now }
     ensures name { IsName name.now }
 {
     let bytes = name.bytes();
-    places.iter().any(|p| p.bytes() == bytes)
+    places.iter().any(|p| is_same(p.bytes(), bytes))
 }
 
 /// Whether one of the teams has the name.
@@ -29,7 +43,7 @@ pub(crate) fn has_team(teams: &[Team], name: &Name) -> bool
     ensures name { IsName name.now }
 {
     let bytes = name.bytes();
-    teams.iter().any(|t| t.name.bytes() == bytes)
+    teams.iter().any(|t| is_same(t.name.bytes(), bytes))
 }
 
 /// Whether one of the tasks has the name.
@@ -38,7 +52,7 @@ pub(crate) fn has_task(tasks: &[Task], name: &Name) -> bool
     ensures name { IsName name.now }
 {
     let bytes = name.bytes();
-    tasks.iter().any(|t| t.name.bytes() == bytes)
+    tasks.iter().any(|t| is_same(t.name.bytes(), bytes))
 }
 
 /// Refuses a team whose home or shift breaks a rule, where there are this many places.

@@ -1,21 +1,32 @@
-use Rattle.std.proofs.Common.{◌≡◌, ◌≤◌, ◌<◌, ◌++◌, ◌+◌, ◌-◌, None, Some, length, replicate, arith, ap, ◌∙◌}
+use Rattle.std.proofs.Common.{◌≡◌, ◌≤◌, ◌<◌, ◌++◌, ◌+◌, ◌-◌, [], ◌∷◌, sym, None, Some, length, replicate, set, arith, ap, ◌∙◌}
 use Rattle.std.proofs.lemmas.List.{take_all}
-use Rattle.crew_instance.proofs.Filled.{filled_set, grown_set}
+use Rattle.crew_instance.specs.Draft.{filled}
+use Rattle.crew_instance.proofs.Filled.{filled_set, grown_set, pushed_set}
 use Rattle.crew_instance.proofs.builders.set_time.Goals as goal
-use Rattle.crew_instance.proofs.builders.set_time.Goals.{then-len-b+in_ok-resize, else-len-b}
+use Rattle.crew_instance.proofs.builders.set_time.Goals.{then-len-b-2+in_ok-resize, else-len-b-2}
 
 pub returns-clause-ok : goal.returns-clause-ok
 returns-clause-ok c n less =
-    elim c.if-len-b.branch [
-      | then-len-b+in_ok-resize w ↦
+    elim c.if-len-b-2.branch [
+      | then-len-b-2+in_ok-resize w ↦
           let old = c.args.row.now.items in
           let h : length old ≤ c.args.b = omega arith in
           let k : c.args.b + 1 - c.args.row.now.len ≡ c.args.b + 1 - length old = omega arith in
-          let e : c.if-len-b.row.items ≡ old ++ replicate (c.args.b + 1 - length old) None =
+          let e : c.if-len-b-2.row.items ≡ old ++ replicate (c.args.b + 1 - length old) None =
           ap (λ v. v.items) w.row-is ∙ w.in_ok-resize.ensures.items ∙ ap (λ t. t ++ replicate (c.args.b + 1 - c.args.row.now.len) None) (take_all (c.args.b + 1) old (omega arith)) ∙ ap (λ j. old ++ replicate j None) k in
-          grown_set n c.args.b old c.if-len-b.row.items (Some c.args.minutes) h less e
-      | else-len-b w ↦
+          grown_set n c.args.b old c.if-len-b-2.row.items (Some c.args.minutes) h less e
+      | else-len-b-2 w ↦
           let e = ap (λ v. v.items) w.row-is in
           let h : c.args.b < length c.args.row.now.items = omega arith in
           rw e (filled_set n c.args.row.now.items c.args.b (Some c.args.minutes) h)
     ]
+
+pub returns-then-len-b-clause-ok : goal.returns-then-len-b-clause-ok
+returns-then-len-b-clause-ok c n less =
+    let old = c.args.row.now.items in
+    let here : length old ≡ c.args.b = (let t = c.if-len-b.true in omega arith) in
+    let one : replicate (c.args.b + 1 - length old) None ≡ None ∷ [] = ap (λ k. replicate k None) (let k : c.args.b + 1 - length old ≡ 1 = omega arith in k) in
+    let grown = grown_set n c.args.b old (old ++ None ∷ []) (Some c.args.minutes) (omega arith) less (ap (λ t. old ++ t) (sym one)) in
+    let pushed : set (old ++ None ∷ []) c.args.b (Some c.args.minutes) ≡ old ++ Some c.args.minutes ∷ [] =
+    ap (λ k. set (old ++ None ∷ []) k (Some c.args.minutes)) (sym here) ∙ pushed_set old (Some c.args.minutes) in
+    ap (filled n) (c.in_ok-push.ensures.items ∙ sym pushed) ∙ grown
