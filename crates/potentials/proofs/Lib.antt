@@ -6,3 +6,5 @@ pub mod Rows
 pub mod Priced
 pub mod TeamRules
 pub mod Sums
+pub mod Walked
+pub mod Preorders

@@ -4,3 +4,5 @@ pub mod Table
 pub mod Kept
 pub mod Rules
 pub mod Sums
+pub mod Trees
+pub mod Levels

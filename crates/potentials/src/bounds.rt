@@ -12,17 +12,6 @@ use node_limits::Limits;
 /// Prices are whole multiples of 1/D of a task.
 pub const D: i64 = 840_000_000;
 
-/// What is said of a leaf of a branch tree.
-#[derive(Clone, Copy, Debug, PartialEq, Eq)]
-pub enum LeafState {
-    /// It has no prices, and proves nothing.
-    Bare,
-    /// Its prices prove the tree's bound.
-    Open,
-    /// Its prices prove the tree's bound, and as many unassigned tasks as the plan has.
-    Closed,
-}
-
 // What the teams of task `j` earn together.
 fn price_of_task(limits: &Limits<'_>, prices: &Prices, j: u32) -> i128
     requires task { j < tasks_in limits.now.limits }
