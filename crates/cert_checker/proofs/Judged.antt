@@ -2,15 +2,17 @@
 use Rattle.std.proofs.Common.{◌≡◌, ◌≤◌, ◌<◌, ◌+◌, ◌^◌, ℕ, Some, None, sym, ap, subst, ◌∙◌, refl}
 use Rattle.crew_terms.specs.Words.{Words}
 use Rattle.dossier_terms.specs.Dossier.{Dossier}
-use Rattle.dossier_terms.specs.Reading.{Reading, Said as Answer, More as Goes, Whole as Ends, No as Refuses}
+use Rattle.dossier_terms.specs.Reading.{Reading, Form, Said as Answer, More as Goes, Whole as Ends, No as Refuses}
 use Rattle.dossier_terms.specs.Table.{Says}
 use Rattle.cert_checker.specs.Due.{Awaits, IsEndOf, IsStep, Tells}
-use Rattle.cert_checker.specs.Checked.{Checked, IsJudged, IsReached, IsTrueVerdict, IsTrueYes, IsWholeAt, said_of, StandsAfter, verdict_of}
+use Rattle.cert_checker.specs.Checked.{Checked, IsEnded, IsOpen, IsJudged, IsReached, IsTrueVerdict, IsTrueYes, IsWholeAt, said_of, StandsAfter, verdict_of}
 use Rattle.cert_checker.specs.Kept.{IsKeptFrom, IsSettled, state_in}
 use Rattle.cert_checker.specs.Said.{IsSaidOf}
 use Rattle.cert_checker.specs.declared.checker.Verdict.{Verdict}
 use Rattle.cert_checker.specs.declared.checker.Said.{Said}
 use Rattle.cert_checker.specs.declared.checker.Said.TheVariants.{Whole as SaidWhole}
+use Rattle.cert_checker.specs.declared.checker.State.{State}
+use Rattle.cert_checker.specs.declared.checker.State.TheVariants as states
 use Rattle.cert_checker.specs.declared.due.Due.{Due as Held}
 use Rattle.cert_checker.specs.declared.due.Step.{Step}
 use Rattle.cert_checker.specs.declared.due.Step.TheVariants.{More, Whole, No}
@@ -58,3 +60,10 @@ judged lines reading words step said reached tells one says = let it = answered 
   count = refl;
   stands = it.stands;
 }
+
+-- behind a whole dossier a line is due
+pub ended_is_open : (at : State) → IsEnded at → IsOpen at
+ended_is_open (states.Due due) e = absurd e.1
+ended_is_open (states.Whole ended) e = (Form, refl)
+ended_is_open (states.Refused line reason) e = absurd e.1
+ended_is_open states.Spent e = absurd e.1
