@@ -9,6 +9,8 @@ mod leaf;
 mod node;
 mod plan;
 mod pool;
+#[cfg(test)]
+mod tests;
 mod tree;
 
 pub use checker::{Checker, Said, Stop, Verdict};

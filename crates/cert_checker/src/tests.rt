@@ -1,0 +1,115 @@
+// A small dossier line by line, with a pool, a split and closed leaves, and the ways in which lines end.
+use crate::{Checker, Reason, Said, Stop, Verdict};
+use std::alloc::Global;
+use std::test::Fail;
+
+/// A good dossier: two teams do one task in two windows, split between them; its two leaves are closed.
+const SPLIT: &[&[u8]] = &[
+    b"crew dossier 1",
+    b"size 2 1 2 3",
+    b"place BASE",
+    b"place G1",
+    b"travel 0 10",
+    b"travel 10 0",
+    b"team T1 0 410 460",
+    b"team T2 0 440 490",
+    b"task J 1 420 480 30 2",
+    b"pool 0 2",
+    b"route 0 0 420",
+    b"route 1 0 450",
+    b"plan 1 1",
+    b"tree 1 2 0 1",
+    b"window 0 435",
+    b"leaf closed",
+    b"price 420000000",
+    b"worth 420000000",
+    b"phi 0 420000000",
+    b"worth 0",
+    b"leaf closed",
+    b"price 420000000",
+    b"worth 0",
+    b"worth 420000000",
+    b"phi 0 420000000",
+    b"end",
+];
+
+/// What that dossier says.
+const SPLIT_SAYS: Verdict = Verdict {
+    unassigned: 1,
+    bound: 1,
+    splits: 1,
+    closed: 2,
+    left_open: 0,
+};
+
+/// What is said of one more line.
+fn said_of(checker: &mut Checker, line: &[u8]) -> Result<Said, Fail> {
+    if line.len() > 60 || line.contains(&b'\n') || checker.lines() > 1000 {
+        return Err(Fail::from("the line"));
+    }
+    Ok(checker.line(line)?)
+}
+
+/// Reads all lines but the last.
+fn read_most(checker: &mut Checker) -> Result<(), Fail> {
+    for line in &SPLIT[..25] {
+        let said = said_of(checker, line)?;
+        if said != Said::More {
+            return Err(Fail::from("a line of a good dossier"));
+        }
+    }
+    Ok(())
+}
+
+/// The verdict on the whole dossier, with the numbers of tasks in its instance and in its plan, and what is said
+/// where the input ends then.
+type Kept = (Verdict, usize, usize, Option<Said>);
+
+/// Reads the last line.
+fn read_end(checker: &mut Checker) -> Result<Kept, Fail> {
+    if checker.lines() > 1000 {
+        return Err(Fail::from("the lines"));
+    }
+    let said = checker.line(b"end")?;
+    let Said::Whole(verdict) = said else {
+        return Err(Fail::from("the last line"));
+    };
+    let tasks = checker.instance().tasks();
+    let slots = checker.plan().len();
+    Ok((
+        verdict,
+        tasks,
+        slots,
+        checker.stopped(Stop::End { partial: 0 }),
+    ))
+}
+
+/// Reads the whole dossier.
+fn read_all(checker: &mut Checker) -> Result<Kept, Fail> {
+    read_most(checker)?;
+    read_end(checker)
+}
+
+#[test]
+fn reads_a_whole_dossier(rt: HostRuntime) -> Result<(), Fail> {
+    let mut checker = Checker::open(rt.alloc())?;
+    let kept = read_all(&mut checker);
+    drop(checker);
+    assert_eq!(rt; kept?, (SPLIT_SAYS, 1, 1, None));
+    Ok(())
+}
+
+#[test]
+fn is_refused_where_a_line_is_too_long(rt: HostRuntime) -> Result<(), Fail> {
+    let mut checker = Checker::open(rt.alloc())?;
+    let said = checker.stopped(Stop::TooLong);
+    drop(checker);
+    assert_eq!(rt;
+        said,
+        Some(Said::No {
+            line: 1,
+            reason: Reason::TooLong
+        })
+    );
+    Ok(())
+}
