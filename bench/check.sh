@@ -56,9 +56,9 @@ full_leaf() {
     for (j = 0; j < 400; j++) row = row " " one
     print row
     row = ""
-    for (t = 600; t <= 1320; t++) row = row " " one * (int((1320 - t) / 300) + 1)
+    for (t = 600; t <= 1320; t++) row = row " " sprintf("%.0f", one * (int((1320 - t) / 300) + 1))
     for (k = 0; k < 64; k++) {
-      print "worth " 3 * one
+      print "worth " sprintf("%.0f", 3 * one)
       for (j = 0; j < 400; j++) print "phi " j row
     }
     print "end"
