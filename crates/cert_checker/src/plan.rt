@@ -15,9 +15,9 @@ use plan_check::check_plan;
 use std::alloc::{AllocError, Global};
 
 /// What is due where so many jobs are to come, of tasks from `from` on.
-fn due_jobs(draft: Draft, more: u32, from: u32) -> Due
-    requires { IsPlanOf draft.base.instance draft.plan }
-    ensures { Awaits result (jobs_due (draft_of draft) more from) }
+fn due_jobs(draft: Box<Draft>, more: u32, from: u32) -> Due
+    requires { IsPlanOf draft.value.base.instance draft.value.plan }
+    ensures { Awaits result (jobs_due (draft_of draft.value) more from) }
 {
     if more > 0 {
         Due::Job {
@@ -31,7 +31,7 @@ fn due_jobs(draft: Draft, more: u32, from: u32) -> Due
 }
 
 /// The line `plan`.
-pub fn plan_line(mut draft: Draft, words: LineWords<'_>) -> Step
+pub fn plan_line(mut draft: Box<Draft>, words: LineWords<'_>) -> Step
     requires { IsAwaited (Due.Plan draft) }
     ensures { IsStep (Due.Plan draft) words.entry result }
 {
@@ -49,9 +49,9 @@ pub fn plan_line(mut draft: Draft, words: LineWords<'_>) -> Step
 }
 
 /// What is said after a job, where so many more are to come.
-fn judge_job(draft: Draft, more: u32, from: u32) -> Step
-    requires { IsPlanOf draft.base.instance draft.plan }
-    ensures { Tells (after_job (draft_of draft) more from) result }
+fn judge_job(draft: Box<Draft>, more: u32, from: u32) -> Step
+    requires { IsPlanOf draft.value.base.instance draft.value.plan }
+    ensures { Tells (after_job (draft_of draft.value) more from) result }
 {
     if more > 0 {
         return Step::More(Due::Job {
@@ -69,7 +69,7 @@ fn judge_job(draft: Draft, more: u32, from: u32) -> Step
 /// A line `do`.
 pub fn job_line(
     alloc: Global,
-    mut draft: Draft,
+    mut draft: Box<Draft>,
     more: u32,
     from: u32,
     words: LineWords<'_>,

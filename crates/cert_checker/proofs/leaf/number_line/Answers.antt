@@ -18,7 +18,7 @@ returns-in-More c = λ reading awaited.
     let fs = awaited.0 in
     let leaf = awaited.1 in
     let a = place_of tree fs closed in
-    let g : Goal = record { bound = tree.draft.bound; unassigned = c.unassigned.result; is_closed = closed } in
+    let g : Goal = record { bound = tree.draft.value.bound; unassigned = c.unassigned.result; is_closed = closed } in
     let told = told_more a (Says reading c.args.words) reader
     (c.in-More.ensures.judged a reading (goal_at tree t rest c.wake-limits.ensures c.rest-limits.ensures.same c.rest-limits.ensures.over closed g fs leaf.node refl c.unassigned.ensures refl) leaf.stands) in (
       told.0,
@@ -40,7 +40,7 @@ returns-in-Done c = λ reading awaited.
     let fs = awaited.0 in
     let leaf = awaited.1 in
     let a = place_of tree fs closed in
-    let g : Goal = record { bound = tree.draft.bound; unassigned = c.unassigned.result; is_closed = closed } in
+    let g : Goal = record { bound = tree.draft.value.bound; unassigned = c.unassigned.result; is_closed = closed } in
     let told = told_done a (Says reading c.args.words) reader
     (c.in-Done.ensures.judged a reading (goal_at tree t rest c.wake-limits.ensures c.rest-limits.ensures.same c.rest-limits.ensures.over closed g fs leaf.node refl c.unassigned.ensures refl) leaf.stands) in (
       leaf_done a told.0,
@@ -58,6 +58,6 @@ returns-in-No c = λ reading awaited.
     let fs = awaited.0 in
     let leaf = awaited.1 in
     let a = place_of tree fs closed in
-    let g : Goal = record { bound = tree.draft.bound; unassigned = c.unassigned.result; is_closed = closed } in
+    let g : Goal = record { bound = tree.draft.value.bound; unassigned = c.unassigned.result; is_closed = closed } in
     told_no a (Says reading c.args.words) c.line-step.new.self c.in-No.reason
     (c.in-No.ensures.judged a reading (goal_at tree t rest c.wake-limits.ensures c.rest-limits.ensures.same c.rest-limits.ensures.over closed g fs leaf.node refl c.unassigned.ensures refl) leaf.stands)

@@ -11,19 +11,19 @@ use Rattle.cert_checker.proofs.node.bare_line.Goals as goal
 pub returns-then-not-has_leaf_room : goal.returns-then-not-has_leaf_room
 returns-then-not-has_leaf_room c = λ fs node.
     let tree = c.args.tree in
-    bare_no_room (draft_of tree.draft) (counts_of tree.claimed) fs
+    bare_no_room (draft_of tree.draft.value) (counts_of tree.claimed) fs
     (λ room. both_ways c.has_leaf_room.result c.if-not-has_leaf_room.true (c.has_leaf_room.ensures.1 (leaf_room_above tree false fs node room)))
 
 pub returns-then-tree-gt0 : goal.returns-then-tree-gt0
 returns-then-tree-gt0 c = λ fs node.
     let tree = c.args.tree in
-    bare_high (draft_of tree.draft) (counts_of tree.claimed) fs
+    bare_high (draft_of tree.draft.value) (counts_of tree.claimed) fs
     (leaf_room_at tree false fs node (c.has_leaf_room.ensures.0 c.if-not-has_leaf_room.false)) c.if-tree-gt0.true
 
 pub returns : goal.returns
 returns c = λ fs node.
     let tree = c.args.tree in
-    let b = draft_of tree.draft in (
+    let b = draft_of tree.draft.value in (
       node_done b (counts_of tree.claimed) fs Bare,
       bare_more b (counts_of tree.claimed) fs (leaf_room_at tree false fs node (c.has_leaf_room.ensures.0 c.if-not-has_leaf_room.false)) c.if-tree-gt0.false,
       c.leave.ensures fs Bare node refl,

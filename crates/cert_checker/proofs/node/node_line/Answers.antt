@@ -14,7 +14,7 @@ use Rattle.cert_checker.proofs.node.node_line.Goals as goal
 pub returns-in-Err : goal.returns-in-Err
 returns-in-Err c =
     let tree = c.args.tree in
-    let b = draft_of tree.draft in
+    let b = draft_of tree.draft.value in
     let n = counts_of tree.claimed in
     let ws = c.args.words in
     node_step tree ws (No c.reason.result) (λ fs node. subst (λ r. node_row b n fs ws (Refuses r)) (sym c.reason.ensures)
@@ -24,13 +24,13 @@ returns-in-Err c =
 pub returns-in-Window : goal.returns-in-Window
 returns-in-Window c =
     let tree = c.args.tree in
-    let b = draft_of tree.draft in
+    let b = draft_of tree.draft.value in
     let n = counts_of tree.claimed in
     let ws = c.args.words in
     let j = c.in-Window.task in
     let cut = c.in-Window.cut in
     let h = subst (IsNodeLine c.teams-teams.result c.tasks-tasks.result ws) c.in-Window.is c.in-Ok.ensures in
-    let task : j < length tree.draft.base.instance.tasks = subst (λ x. j < x) c.tasks-tasks.ensures.count h.0 in
+    let task : j < length tree.draft.value.base.instance.tasks = subst (λ x. j < x) c.tasks-tasks.ensures.count h.0 in
     if_ok c.window_line.result (λ step. (fs : List Frame) → IsNode tree fs → Tells (after_window b n fs j cut) step) (IsStep (NodeDue tree) ws)
     (λ step told. node_rest tree ws step (λ fs. after_window b n fs j cut) (λ fs said rest. window_says b n fs j cut ws said task h.1 h.2 rest) told)
     c.window_line.ensures
@@ -38,14 +38,14 @@ returns-in-Window c =
 pub returns-in-Pair : goal.returns-in-Pair
 returns-in-Pair c =
     let tree = c.args.tree in
-    let b = draft_of tree.draft in
+    let b = draft_of tree.draft.value in
     let n = counts_of tree.claimed in
     let ws = c.args.words in
     let k = c.in-Pair.team in
     let j = c.in-Pair.task in
     let h = subst (IsNodeLine c.teams-teams.result c.tasks-tasks.result ws) c.in-Pair.is c.in-Ok.ensures in
-    let team : k < length tree.draft.base.instance.teams = subst (λ x. k < x) c.teams-teams.ensures.count h.0 in
-    let task : j < length tree.draft.base.instance.tasks = subst (λ x. j < x) c.tasks-tasks.ensures.count h.1 in
+    let team : k < length tree.draft.value.base.instance.teams = subst (λ x. k < x) c.teams-teams.ensures.count h.0 in
+    let task : j < length tree.draft.value.base.instance.tasks = subst (λ x. j < x) c.tasks-tasks.ensures.count h.1 in
     if_ok c.pair_line.result (λ step. (fs : List Frame) → IsNode tree fs → Tells (after_pair b n fs k j) step) (IsStep (NodeDue tree) ws)
     (λ step told. node_rest tree ws step (λ fs. after_pair b n fs k j) (λ fs said rest. pair_says b n fs k j ws said team task h.2 rest) told)
     c.pair_line.ensures
@@ -53,7 +53,7 @@ returns-in-Pair c =
 pub returns-in-LeafBare : goal.returns-in-LeafBare
 returns-in-LeafBare c =
     let tree = c.args.tree in
-    let b = draft_of tree.draft in
+    let b = draft_of tree.draft.value in
     let n = counts_of tree.claimed in
     let ws = c.args.words in
     let h = subst (IsNodeLine c.teams-teams.result c.tasks-tasks.result ws) c.in-LeafBare.is c.in-Ok.ensures in
@@ -62,7 +62,7 @@ returns-in-LeafBare c =
 pub returns-in-LeafOpen : goal.returns-in-LeafOpen
 returns-in-LeafOpen c =
     let tree = c.args.tree in
-    let b = draft_of tree.draft in
+    let b = draft_of tree.draft.value in
     let n = counts_of tree.claimed in
     let ws = c.args.words in
     let h = subst (IsNodeLine c.teams-teams.result c.tasks-tasks.result ws) c.in-LeafOpen.is c.in-Ok.ensures in
@@ -71,7 +71,7 @@ returns-in-LeafOpen c =
 pub returns-in-LeafClosed : goal.returns-in-LeafClosed
 returns-in-LeafClosed c =
     let tree = c.args.tree in
-    let b = draft_of tree.draft in
+    let b = draft_of tree.draft.value in
     let n = counts_of tree.claimed in
     let ws = c.args.words in
     let h = subst (IsNodeLine c.teams-teams.result c.tasks-tasks.result ws) c.in-LeafClosed.is c.in-Ok.ensures in

@@ -9,21 +9,21 @@ use Rattle.cert_checker.proofs.node.window_line.Goals as goal
 pub returns-then-not-has_split_room : goal.returns-then-not-has_split_room
 returns-then-not-has_split_room c = λ fs node.
     let tree = c.args.tree in
-    window_no_room (draft_of tree.draft) (counts_of tree.claimed) fs c.args.task c.args.cut
+    window_no_room (draft_of tree.draft.value) (counts_of tree.claimed) fs c.args.task c.args.cut
     (λ room. both_ways c.has_split_room.result c.if-not-has_split_room.true (c.has_split_room.ensures.1 (room_above tree fs node room)))
 
 pub returns-then-not-is_inside : goal.returns-then-not-is_inside
 returns-then-not-is_inside c = λ fs node.
     let tree = c.args.tree in
     let n = c.wake-limits.result.limits in
-    window_no_cut (draft_of tree.draft) (counts_of tree.claimed) fs c.args.task c.args.cut n (limits_at tree c.wake-limits.result fs c.wake-limits.ensures node)
+    window_no_cut (draft_of tree.draft.value) (counts_of tree.claimed) fs c.args.task c.args.cut n (limits_at tree c.wake-limits.result fs c.wake-limits.ensures node)
     (room_at tree fs node (c.has_split_room.ensures.0 c.if-not-has_split_room.false)) c.requires.task
     (λ is. both_ways c.is_inside.result c.if-not-is_inside.true (c.is_inside.ensures.1 is))
 
 pub returns : goal.returns
 returns c = λ fs node.
     let tree = c.args.tree in
-    let b = draft_of tree.draft in
+    let b = draft_of tree.draft.value in
     let n = c.wake-limits.result in (
       Nodes b (counts_of tree.claimed) (Lower c.args.task c.args.cut ∷ fs),
       window_more b (counts_of tree.claimed) fs c.args.task c.args.cut n.limits (limits_at tree n fs c.wake-limits.ensures node)

@@ -10,14 +10,14 @@ use Rattle.cert_checker.proofs.plan.plan_line.Goals as goal
 pub returns : goal.returns
 returns c = λ reading a.
     let h = subst (IsPlanLine c.tasks-tasks.result c.args.words) c.in-Plan.is c.in-Ok.ensures in
-    let i = c.args.draft.base.instance in
+    let i = c.args.draft.value.base.instance in
     let size = c.tasks-tasks.ensures.count in
     let u = c.in-Plan.unassigned in
     let l = c.in-Plan.bound in
-    let bounded : Draft = record (draft_of c.args.draft) { bound = l } in
+    let bounded : Draft = record (draft_of c.args.draft.value) { bound = l } in
     let next : Awaits c.due_jobs.result (jobs_due bounded (length i.tasks - u) 0) = subst (λ n. Awaits c.due_jobs.result (jobs_due bounded (n - u) 0)) size c.due_jobs.ensures in
     subst (λ r. Tells (Says r c.args.words) (More c.due_jobs.result)) (sym a.1) (
       jobs_due bounded (length i.tasks - u) 0,
-      plan_more (draft_of c.args.draft) u l c.args.words (subst (λ n. u ≤ n) size h.0) (subst (λ n. l ≤ n) size h.1) h.2,
+      plan_more (draft_of c.args.draft.value) u l c.args.words (subst (λ n. u ≤ n) size h.0) (subst (λ n. l ≤ n) size h.1) h.2,
       next,
     )

@@ -23,7 +23,7 @@ pub add-requires : goal.add-requires
 add-requires c =
     let h = subst (IsRouteLine c.teams-teams.result c.tasks-tasks.result c.args.words) c.in-Route.is c.in-Ok.ensures in
     let route : Route = record { team = c.in-Route.team; visits = h.0 } in
-    let i = c.args.draft.base.instance in
+    let i = c.args.draft.value.base.instance in
     let count = c.tasks-tasks.ensures.count in
     let few = c.tasks-tasks.ensures.limits.few_tasks in
     let numbers = subst (AreNumbersOf h.0) (sym h.1) (route_numbers c.teams-teams.result c.tasks-tasks.result route (omega arith) h.2) in
