@@ -17,9 +17,10 @@ pub fn number_line(tree: TreeDraft, is_closed: bool, words: LineWords<'_>) -> St
     requires { IsAwaited (Due.Leaf tree is_closed) }
     ensures { IsStep (Due.Leaf tree is_closed) words.entry result }
 {
+    let p = &*tree.draft;
     let goal = Goal {
-        bound: tree.draft.bound,
-        unassigned: unassigned(&tree.draft.plan),
+        bound: p.bound,
+        unassigned: unassigned(&p.plan),
         is_closed,
     };
     let TreeDraft {

@@ -184,8 +184,9 @@ pub fn node_line(tree: TreeDraft, words: LineWords<'_>) -> Result<Step, AllocErr
     ensures { IfOk result (IsStep (Due.Node tree) words.entry) }
 {
     fault_is_refused();
-    let teams = tree.draft.base.instance.teams() as u32;
-    let tasks = tree.draft.base.instance.tasks() as u32;
+    let instance = &tree.draft.base.instance;
+    let teams = instance.teams() as u32;
+    let tasks = instance.tasks() as u32;
     let kind = match read_line(Expect::Node { teams, tasks }, words) {
         Ok(kind) => kind,
         Err(fault) => return Ok(Step::No(fault.reason())),

@@ -104,8 +104,9 @@ pub fn route_line(
     ensures { IfOk result (IsStep (Due.Route draft root more) words.entry) }
 {
     fault_is_refused();
-    let teams = draft.base.instance.teams() as u32;
-    let tasks = draft.base.instance.tasks() as u32;
+    let p = &mut *draft;
+    let teams = p.base.instance.teams() as u32;
+    let tasks = p.base.instance.tasks() as u32;
     let kind = match read_line(Expect::Route { teams, tasks }, words) {
         Ok(kind) => kind,
         Err(fault) => return Ok(Step::No(fault.reason())),
@@ -114,7 +115,6 @@ pub fn route_line(
         unreachable!()
     };
     let route = Route::read(alloc, team, &visits)?;
-    let p = &mut *draft;
     let limits = Limits::wake(&p.base.instance, root);
     let verdict = p.pool.add(&limits, route)?;
     let root = limits.rest();

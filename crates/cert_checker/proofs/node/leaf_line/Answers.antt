@@ -1,6 +1,7 @@
-use Rattle.std.proofs.Common.{sym, ◌∙◌}
+use Rattle.std.proofs.Common.{sym, subst, ◌∙◌}
 use Rattle.std.proofs.lemmas.Bool.{both_ways}
 use Rattle.dossier_terms.specs.Reading.{Prices, limits_of}
+use Rattle.leaf_check.specs.Reader.{IsReady}
 use Rattle.tree_walk.specs.Way.{counts_of}
 use Rattle.cert_checker.specs.Due.{draft_of, place_of}
 use Rattle.cert_checker.proofs.NodeRows.{instance_below, leaf_room_above, leaf_room_at, leaf_no_room, leaf_more}
@@ -25,7 +26,8 @@ returns c = λ fs node.
         fs,
         record {
           node = record { claimed = node.claimed; over = node.over; at = node.at };
-          ready = c.begin.ensures.ready reader.0 (limits_of place) (instance_below tree.draft.value.base.instance fs ∙ sym reader.1) reader.2;
+          ready = c.begin.ensures.ready reader.0 (limits_of place) (instance_below tree.draft.value.base.instance fs ∙ sym reader.1)
+              (subst (IsReady reader.0) (sym c.deref_mut.ensures.value) reader.2);
           room = room;
           stands = c.begin.ensures.stands place;
         },
