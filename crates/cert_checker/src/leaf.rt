@@ -48,7 +48,12 @@ pub fn number_line(tree: TreeDraft, is_closed: bool, words: LineWords<'_>) -> St
 }
 
 /// The line `end`.
-pub fn end_line(draft: Box<Draft>, claimed: TreeCounts, seen: TreeCounts, words: LineWords<'_>) -> Step
+pub fn end_line(
+    draft: Box<Draft>,
+    claimed: TreeCounts,
+    seen: TreeCounts,
+    words: LineWords<'_>,
+) -> Step
     requires { IsAwaited (Due.End draft claimed seen) }
     ensures { IsStep (Due.End draft claimed seen) words.entry result }
 {

@@ -34,7 +34,11 @@ fn fault_of_tree(draft: &Draft, claimed: TreeCounts) -> Option<Reason>
 }
 
 /// A dossier whose tree is to be read from its root on. No memory is taken by the numbers that are claimed.
-fn begin_tree(alloc: Global, draft: Box<Draft>, claimed: TreeCounts) -> Result<TreeDraft, AllocError>
+fn begin_tree(
+    alloc: Global,
+    draft: Box<Draft>,
+    claimed: TreeCounts,
+) -> Result<TreeDraft, AllocError>
     requires { IsCounts (counts_of claimed) }
     ensures draft { IfOk result (λ tree. tree.draft ≡ draft) }
     ensures claimed { IfOk result (λ tree. tree.claimed ≡ claimed) }
