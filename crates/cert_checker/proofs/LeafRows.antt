@@ -1,6 +1,7 @@
 -- the lines of a leaf's numbers and the line `end`: what is kept behind them
 use Rattle.std.proofs.Common.{◌≡◌, ℕ, List, Bool, true, false, ap, subst, sym, refl, ◌∙◌, eqb, ◌&&◌}
 use Rattle.std.specs.Prelude.{if◌then◌else◌}
+use Rattle.std.specs.Global.{Box}
 use Rattle.std.proofs.lemmas.Bool.{and_parts, and_from, eqb-true, eq-eqb, both_ways}
 use Rattle.crew_terms.specs.Words.{Words}
 use Rattle.crew_terms.specs.Limits.{root_limits}
@@ -57,29 +58,29 @@ is_leaf false leaf = refl
 -- ---- what is kept of a leaf
 
 -- the tree with its limits at rest again, and the reader behind a line
-abbrev pub read_on : TreeDraft → Rest → LeafReader → TreeDraft
+abbrev pub read_on : TreeDraft → Rest → Box LeafReader → TreeDraft
 read_on tree rest reader = record { draft = tree.draft; claimed = tree.claimed; limits = rest; walk = tree.walk; reader = reader }
 
-module _ (tree : TreeDraft) (t : Trail) (rest : Rest) (woke : t ≡ trail_over tree.draft.base.instance tree.limits)
+module _ (tree : TreeDraft) (t : Trail) (rest : Rest) (woke : t ≡ trail_over tree.draft.value.base.instance tree.limits)
     (back : trail_over t.limits.instance rest ≡ t) (over : IsRestOver t.limits.instance rest) where
   -- the walk stands where it stood
-  pub stays : (reader : LeafReader) (fs : List Frame) → IsNode tree fs → IsNode (read_on tree rest reader) fs
+  pub stays : (reader : Box LeafReader) (fs : List Frame) → IsNode tree fs → IsNode (read_on tree rest reader) fs
   stays reader fs node =
       let h = at_node tree t t tree.walk rest woke refl back over fs node.claimed
-      (subst (λ x. IsAt (root_limits tree.draft.base.instance) x tree.walk fs) (sym woke) node.at) in
+      (subst (λ x. IsAt (root_limits tree.draft.value.base.instance) x tree.walk fs) (sym woke) node.at) in
       record { claimed = h.claimed; over = h.over; at = h.at }
 
   -- the goal is that of the place
-  pub goal_at : (is_closed : Bool) (goal : Goal) (fs : List Frame) → IsNode tree fs → goal.bound ≡ tree.draft.bound → goal.unassigned ≡ unassigned_count tree.draft.plan → goal.is_closed ≡ is_closed
+  pub goal_at : (is_closed : Bool) (goal : Goal) (fs : List Frame) → IsNode tree fs → goal.bound ≡ tree.draft.value.bound → goal.unassigned ≡ unassigned_count tree.draft.value.plan → goal.is_closed ≡ is_closed
       → IsGoalAt (place_of tree fs is_closed) t.limits goal
   goal_at is_closed goal fs node bound count kind = record { limits = sym (limits_at tree t fs woke node); bound = bound; unassigned = count; is_closed = kind }
 
   -- one more line of the leaf is due
-  pub in_leaf : (is_closed : Bool) (reader : LeafReader) (fs : List Frame) (next : Reading) → IsNode tree fs → HasLeafRoom tree is_closed → IsReady t.limits reader
-      → StandsFor (place_of tree fs is_closed) reader next → IsInLeaf (read_on tree rest reader) is_closed fs next
+  pub in_leaf : (is_closed : Bool) (reader : Box LeafReader) (fs : List Frame) (next : Reading) → IsNode tree fs → HasLeafRoom tree is_closed → IsReady t.limits reader.value
+      → StandsFor (place_of tree fs is_closed) reader.value next → IsInLeaf (read_on tree rest reader) is_closed fs next
   in_leaf is_closed reader fs next node room ready stands = record {
     node = stays reader fs node;
-    ready = subst (λ n. IsReady n reader) (limits_at tree t fs woke node) ready;
+    ready = subst (λ n. IsReady n reader.value) (limits_at tree t fs woke node) ready;
     room = room;
     stands = stands;
   }
@@ -115,17 +116,17 @@ not_counted s c t seen h is = both_ways (same_numbers s c) h
     (eq-eqb s.depth c.depth (ap (λ (n : Counts). n.depth) seen ∙ is.depth)))))
 
 -- the line is read, and the numbers are those that were claimed
-pub ends_whole : (b : Held) (claimed seen : TreeCounts) (ws : Words) → ws ≡ end_line → same_numbers seen claimed ≡ true
+pub ends_whole : (b : Box Held) (claimed seen : TreeCounts) (ws : Words) → ws ≡ end_line → same_numbers seen claimed ≡ true
     → IsStep (EndLine b claimed seen) ws (Whole (record { draft = b; counts = seen }))
 ends_whole b claimed seen ws is same = λ reading awaited.
     let t = awaited.0 in
-    let d = whole (draft_of b) t in
-    let row : end_row (draft_of b) (counts_of claimed) t ws (Ends d) = Holds is (Holds (counted seen claimed t awaited.1 same) (Finish refl)) in
+    let d = whole (draft_of b.value) t in
+    let row : end_row (draft_of b.value) (counts_of claimed) t ws (Ends d) = Holds is (Holds (counted seen claimed t awaited.1 same) (Finish refl)) in
     (d, subst (λ r. Says r ws (Ends d)) (sym awaited.2) row, record { tree = t; is = refl; counts = awaited.1 })
 
-pub ends_miscounted : (b : Held) (claimed seen : TreeCounts) (ws : Words) → ws ≡ end_line → same_numbers seen claimed ≡ false
+pub ends_miscounted : (b : Box Held) (claimed seen : TreeCounts) (ws : Words) → ws ≡ end_line → same_numbers seen claimed ≡ false
     → IsStep (EndLine b claimed seen) ws (No reasons.Count)
 ends_miscounted b claimed seen ws is differ = λ reading awaited.
     let t = awaited.0 in
-    let row : end_row (draft_of b) (counts_of claimed) t ws (Refuses reasons.Count) = Holds is (Fails (not_counted seen claimed t awaited.1 differ) refl) in
+    let row : end_row (draft_of b.value) (counts_of claimed) t ws (Refuses reasons.Count) = Holds is (Fails (not_counted seen claimed t awaited.1 differ) refl) in
     subst (λ r. Says r ws (Refuses reasons.Count)) (sym awaited.2) row

@@ -54,49 +54,49 @@ abbrev pub moved : TreeDraft → Rest → Walked → TreeDraft
 moved tree rest to = record { draft = tree.draft; claimed = tree.claimed; limits = rest; walk = to; reader = tree.reader }
 
 module _ (tree : TreeDraft) (old new : Trail) (to : Walked) (rest : Rest)
-    (woke : old ≡ trail_over tree.draft.base.instance tree.limits) (same : new.limits.instance ≡ old.limits.instance)
+    (woke : old ≡ trail_over tree.draft.value.base.instance tree.limits) (same : new.limits.instance ≡ old.limits.instance)
     (back : trail_over new.limits.instance rest ≡ new) (over : IsRestOver new.limits.instance rest) where
-  of_instance : new.limits.instance ≡ tree.draft.base.instance
+  of_instance : new.limits.instance ≡ tree.draft.value.base.instance
   of_instance = same ∙ ap (λ (t : Trail). t.limits.instance) woke
 
   -- the limits at rest are those of the node where the walk stands
-  pub at_node : (gs : List Frame) → IsCounts (counts_of tree.claimed) → IsAt (root_limits tree.draft.base.instance) new to gs → IsNode (moved tree rest to) gs
+  pub at_node : (gs : List Frame) → IsCounts (counts_of tree.claimed) → IsAt (root_limits tree.draft.value.base.instance) new to gs → IsNode (moved tree rest to) gs
   at_node gs claimed at =
-      let i = tree.draft.base.instance in
+      let i = tree.draft.value.base.instance in
       record {
         claimed = claimed;
         over = subst (λ x. IsRestOver x rest) of_instance over;
         at = subst (λ t. IsAt (root_limits i) t to gs) (sym (subst (λ x. trail_over x rest ≡ new) of_instance back)) at;
       }
 
-  woken : (fs : List Frame) → IsNode tree fs → IsAt (root_limits tree.draft.base.instance) old tree.walk fs
-  woken fs node = subst (λ t. IsAt (root_limits tree.draft.base.instance) t tree.walk fs) (sym woke) node.at
+  woken : (fs : List Frame) → IsNode tree fs → IsAt (root_limits tree.draft.value.base.instance) old tree.walk fs
+  woken fs node = subst (λ t. IsAt (root_limits tree.draft.value.base.instance) t tree.walk fs) (sym woke) node.at
 
   -- past a leaf the walk stands at the node that is due
   pub left_at : (is_closed : Bool) → LeavesLeaf is_closed old tree.walk new to false → HasReader tree → (fs : List Frame) (leaf : Written) → IsNode tree fs → IsLeaf is_closed leaf
-      → Awaits (NodeDue (moved tree rest to)) (node_done (draft_of tree.draft) (counts_of tree.claimed) fs leaf)
+      → Awaits (NodeDue (moved tree rest to)) (node_done (draft_of tree.draft.value) (counts_of tree.claimed) fs leaf)
   left_at is_closed leaves reader fs leaf node is =
-      let p = leaves (root_limits tree.draft.base.instance) fs leaf (draft_of tree.draft) (counts_of tree.claimed) (woken fs node) is in
+      let p = leaves (root_limits tree.draft.value.base.instance) fs leaf (draft_of tree.draft.value) (counts_of tree.claimed) (woken fs node) is in
       (p.0, at_node p.0 node.claimed p.2, reader, p.1)
 
   -- below a split the walk stands in its first child
   pub entered_at : (f : Frame) → Enters f old tree.walk new to → HasReader tree → (fs : List Frame) → IsNode tree fs
-      → Awaits (NodeDue (moved tree rest to)) (Nodes (draft_of tree.draft) (counts_of tree.claimed) (f ∷ fs))
-  entered_at f enters reader fs node = (f ∷ fs, at_node (f ∷ fs) node.claimed (enters (root_limits tree.draft.base.instance) fs (woken fs node)), reader, refl)
+      → Awaits (NodeDue (moved tree rest to)) (Nodes (draft_of tree.draft.value) (counts_of tree.claimed) (f ∷ fs))
+  entered_at f enters reader fs node = (f ∷ fs, at_node (f ∷ fs) node.claimed (enters (root_limits tree.draft.value.base.instance) fs (woken fs node)), reader, refl)
 
 -- past the last leaf the whole tree is seen
 pub ended_at : (tree : TreeDraft) (old new : Trail) (to : Walked) (seen : TreeCounts) (is_closed : Bool)
-    → old ≡ trail_over tree.draft.base.instance tree.limits → LeavesLeaf is_closed old tree.walk new to true → seen ≡ to.seen
+    → old ≡ trail_over tree.draft.value.base.instance tree.limits → LeavesLeaf is_closed old tree.walk new to true → seen ≡ to.seen
     → (fs : List Frame) (leaf : Written) → IsNode tree fs → IsLeaf is_closed leaf
-    → Awaits (EndDue tree.draft tree.claimed seen) (node_done (draft_of tree.draft) (counts_of tree.claimed) fs leaf)
+    → Awaits (EndDue tree.draft tree.claimed seen) (node_done (draft_of tree.draft.value) (counts_of tree.claimed) fs leaf)
 ended_at tree old new to seen is_closed woke leaves saw fs leaf node is =
-    let at : IsAt (root_limits tree.draft.base.instance) old tree.walk fs = subst (λ t. IsAt (root_limits tree.draft.base.instance) t tree.walk fs) (sym woke) node.at in
-    let p = leaves (root_limits tree.draft.base.instance) fs leaf (draft_of tree.draft) (counts_of tree.claimed) at is in
+    let at : IsAt (root_limits tree.draft.value.base.instance) old tree.walk fs = subst (λ t. IsAt (root_limits tree.draft.value.base.instance) t tree.walk fs) (sym woke) node.at in
+    let p = leaves (root_limits tree.draft.value.base.instance) fs leaf (draft_of tree.draft.value) (counts_of tree.claimed) at is in
     (p.0, ap counts_of saw ∙ p.2.seen, p.1)
 
 -- the limits that woke are those of the node
-pub limits_at : (tree : TreeDraft) (t : Trail) (fs : List Frame) → t ≡ trail_over tree.draft.base.instance tree.limits → IsNode tree fs
-    → t.limits ≡ limits_below (root_limits tree.draft.base.instance) fs
+pub limits_at : (tree : TreeDraft) (t : Trail) (fs : List Frame) → t ≡ trail_over tree.draft.value.base.instance tree.limits → IsNode tree fs
+    → t.limits ≡ limits_below (root_limits tree.draft.value.base.instance) fs
 limits_at tree t fs woke node = ap (λ (x : Trail). x.limits) woke ∙ node.at.way.limits
 
 -- ---- room
@@ -237,14 +237,14 @@ closed_says b c fs ws said is rest = leaf_says b c fs ws said _ is (λ w p. Else
 
 -- a node is due, and the step is what its row says
 pub node_step : (tree : TreeDraft) (ws : Words) (step : Step)
-    → ((fs : List Frame) → IsNode tree fs → Tells (node_row (draft_of tree.draft) (counts_of tree.claimed) fs ws) step) → IsStep (NodeDue tree) ws step
+    → ((fs : List Frame) → IsNode tree fs → Tells (node_row (draft_of tree.draft.value) (counts_of tree.claimed) fs ws) step) → IsStep (NodeDue tree) ws step
 node_step tree ws step f = λ reading awaited. subst (λ r. Tells (Says r ws) step) (sym awaited.3) (f awaited.0 awaited.1)
 
 -- what some rules tell behind the words of a line, its row tells
 pub node_rest : (tree : TreeDraft) (ws : Words) (step : Step) (Rules : List Frame → Said → Type 0)
-    → ((fs : List Frame) (said : Said) → Rules fs said → node_row (draft_of tree.draft) (counts_of tree.claimed) fs ws said)
+    → ((fs : List Frame) (said : Said) → Rules fs said → node_row (draft_of tree.draft.value) (counts_of tree.claimed) fs ws said)
     → ((fs : List Frame) → IsNode tree fs → Tells (Rules fs) step) → IsStep (NodeDue tree) ws step
-node_rest tree ws step Rules row told = node_step tree ws step (λ fs node. tells_row (Rules fs) (node_row (draft_of tree.draft) (counts_of tree.claimed) fs ws) step (row fs) (told fs node))
+node_rest tree ws step Rules row told = node_step tree ws step (λ fs node. tells_row (Rules fs) (node_row (draft_of tree.draft.value) (counts_of tree.claimed) fs ws) step (row fs) (told fs node))
 
 -- a fault of a line of these counts is one where the node is due
 pub node_fault : (b : Draft) (c : Counts) (fs : List Frame) (teams tasks : ℕ) (ws : Words) (fault : LineFault) → teams ≡ length b.instance.teams → tasks ≡ length b.instance.tasks

@@ -1,6 +1,7 @@
 -- the rows of the table for the lines of a plan
 use Rattle.std.proofs.Common.{◌≡◌, ◌≢◌, ◌≤◌, ◌<◌, ◌-◌, ℕ, zero, suc, List, [], ◌∷◌, length, map, ap, subst, sym, refl, ◌∙◌, arith, ◌⊎◌, inl, inr, None, Some, get_or-set_same, get_or-set_other}
 use Rattle.std.specs.Prelude.{pos, Contains, slice_set}
+use Rattle.std.specs.Global.{Box}
 use Rattle.std.specs.List.{AllByRecursion}
 use Rattle.std.proofs.lemmas.Bool.{cases_eq}
 use Rattle.std.proofs.lemmas.List.{length-set}
@@ -92,16 +93,16 @@ line_of_counts i m n p a b h = record {
   teams = subst (λ x. AllByRecursion (λ k. k < x) p.1.teams) a h.teams;
 }
 
-pub job_goes_on : (b : Held) (more from : ℕ) → 0 < more → IsPlanOf b.base.instance b.plan → Tells (after_job (draft_of b) more from) (More (JobDue b (more - 1) from))
+pub job_goes_on : (b : Box Held) (more from : ℕ) → 0 < more → IsPlanOf b.value.base.instance b.value.plan → Tells (after_job (draft_of b.value) more from) (More (JobDue b (more - 1) from))
 job_goes_on b zero from l h = absurd (omega arith)
 job_goes_on b (suc more) from l h = let e : suc more - 1 ≡ more = omega arith in
-    subst (λ n. Tells (after_job (draft_of b) (suc more) from) (More (JobDue b n from))) (sym e) (Jobs (draft_of b) more from, On refl, (h, refl))
+    subst (λ n. Tells (after_job (draft_of b.value) (suc more) from) (More (JobDue b n from))) (sym e) (Jobs (draft_of b.value) more from, On refl, (h, refl))
 
-pub jobs_judged : (b : Held) (more from : ℕ) → more ≡ 0 → IsLegal b.base.instance b.plan → Tells (after_job (draft_of b) more from) (More (TreeDue b))
-jobs_judged b more from none legal = subst (λ n. Tells (after_job (draft_of b) n from) (More (TreeDue b))) (sym none)
-    (Trees (draft_of b), HoldsBy legal (On refl), refl)
+pub jobs_judged : (b : Box Held) (more from : ℕ) → more ≡ 0 → IsLegal b.value.base.instance b.value.plan → Tells (after_job (draft_of b.value) more from) (More (TreeDue b))
+jobs_judged b more from none legal = subst (λ n. Tells (after_job (draft_of b.value) n from) (More (TreeDue b))) (sym none)
+    (Trees (draft_of b.value), HoldsBy legal (On refl), refl)
 
-pub jobs_faulty : (b : Held) (more from : ℕ) (v : PlanVerdict) → more ≡ 0 → IsVerdict b.base.instance b.plan v → (IsLegal b.base.instance b.plan → ⊥)
-    → Tells (after_job (draft_of b) more from) (No (reasons.Plan v))
-jobs_faulty b more from v none is broken = subst (λ n. Tells (after_job (draft_of b) n from) (No (reasons.Plan v))) (sym none)
+pub jobs_faulty : (b : Box Held) (more from : ℕ) (v : PlanVerdict) → more ≡ 0 → IsVerdict b.value.base.instance b.value.plan v → (IsLegal b.value.base.instance b.value.plan → ⊥)
+    → Tells (after_job (draft_of b.value) more from) (No (reasons.Plan v))
+jobs_faulty b more from v none is broken = subst (λ n. Tells (after_job (draft_of b.value) n from) (No (reasons.Plan v))) (sym none)
     (FailsBy (reasons.Plan v) (v, is, refl) broken refl)

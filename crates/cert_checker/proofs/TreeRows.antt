@@ -1,5 +1,6 @@
 -- the row of the table for the line `tree`
 use Rattle.std.proofs.Common.{◌≡◌, [], ap, subst, sym, refl, ◌∙◌, None, Some}
+use Rattle.std.specs.Global.{Box}
 use Rattle.crew_terms.specs.Words.{Words}
 use Rattle.crew_terms.specs.Instance.{Instance}
 use Rattle.crew_terms.specs.Limits.{root_limits}
@@ -23,20 +24,20 @@ tree_says : (b : Draft) (c : Counts) (ws : Words) (said : Said) → IsCounts c �
     → tree_rules b c said → tree_row b ws said
 tree_says b c ws said fits is rest = Holds (_, is, refl) (Spelled c fits is rest)
 
-pub tree_faulty : (b : Held) (claimed : TreeCounts) (ws : Words) (reason : Reason) → IsCounts (counts_of claimed)
-    → ws ≡ tree_line claimed.splits claimed.closed claimed.left_open claimed.depth → IsTreeFault (draft_of b) (counts_of claimed) (Some reason)
-    → Tells (tree_row (draft_of b) ws) (No reason)
-tree_faulty b claimed ws reason fits is broken = tree_says (draft_of b) (counts_of claimed) ws (Refuses reason) fits is broken
+pub tree_faulty : (b : Box Held) (claimed : TreeCounts) (ws : Words) (reason : Reason) → IsCounts (counts_of claimed)
+    → ws ≡ tree_line claimed.splits claimed.closed claimed.left_open claimed.depth → IsTreeFault (draft_of b.value) (counts_of claimed) (Some reason)
+    → Tells (tree_row (draft_of b.value) ws) (No reason)
+tree_faulty b claimed ws reason fits is broken = tree_says (draft_of b.value) (counts_of claimed) ws (Refuses reason) fits is broken
 
 -- the numbers of a tree break no rule, and its root is due
-pub tree_begun : (b : Held) (claimed : TreeCounts) (tree : TreeDraft) (ws : Words) → IsCounts (counts_of claimed)
-    → ws ≡ tree_line claimed.splits claimed.closed claimed.left_open claimed.depth → IsTreeFault (draft_of b) (counts_of claimed) None
-    → tree.draft ≡ b → tree.claimed ≡ claimed → IsNode tree [] → HasReader tree → Tells (tree_row (draft_of b) ws) (More (Node tree))
+pub tree_begun : (b : Box Held) (claimed : TreeCounts) (tree : TreeDraft) (ws : Words) → IsCounts (counts_of claimed)
+    → ws ≡ tree_line claimed.splits claimed.closed claimed.left_open claimed.depth → IsTreeFault (draft_of b.value) (counts_of claimed) None
+    → tree.draft ≡ b → tree.claimed ≡ claimed → IsNode tree [] → HasReader tree → Tells (tree_row (draft_of b.value) ws) (More (Node tree))
 tree_begun b claimed tree ws fits is good e f node reader =
-    let root = Nodes (draft_of b) (counts_of claimed) [] in
-    let same : root ≡ Nodes (draft_of tree.draft) (counts_of tree.claimed) [] =
-    ap (λ d. Nodes (draft_of d) (counts_of claimed) []) (sym e) ∙ ap (λ c. Nodes (draft_of tree.draft) (counts_of c) []) (sym f) in
-    (root, tree_says (draft_of b) (counts_of claimed) ws (Goes root) fits is (good (Goes root) (On refl)), ([], node, reader, same))
+    let root = Nodes (draft_of b.value) (counts_of claimed) [] in
+    let same : root ≡ Nodes (draft_of tree.draft.value) (counts_of tree.claimed) [] =
+    ap (λ (d : Box Held). Nodes (draft_of d.value) (counts_of claimed) []) (sym e) ∙ ap (λ c. Nodes (draft_of tree.draft.value) (counts_of c) []) (sym f) in
+    (root, tree_says (draft_of b.value) (counts_of claimed) ws (Goes root) fits is (good (Goes root) (On refl)), ([], node, reader, same))
 
 -- the limits of the root are kept, and a walk begins there
 pub root_over : (i : Instance) (t : Trail) (rest : Rest) → t ≡ record { limits = root_limits i; past = []; spare = 0 } → IsRestOver t.limits.instance rest → IsRestOver i rest

@@ -30,8 +30,8 @@ pub record IsRoot (i : Instance) (limits : Rest) : Type 0 where
 -- the walk stands at the node below these splits, and the limits are its
 pub record IsNode (tree : TreeDraft) (above : List Frame) : Type 0 where
   pub claimed : IsCounts (counts_of tree.claimed)
-  pub over : IsRestOver tree.draft.base.instance tree.limits
-  pub at : IsAt (root_limits tree.draft.base.instance) (trail_over tree.draft.base.instance tree.limits) tree.walk above
+  pub over : IsRestOver tree.draft.value.base.instance tree.limits
+  pub at : IsAt (root_limits tree.draft.value.base.instance) (trail_over tree.draft.value.base.instance tree.limits) tree.walk above
 
 -- the walk stands at a node
 abbrev pub IsInTree : TreeDraft → Type 0
@@ -39,7 +39,7 @@ IsInTree tree = (above : List Frame) × IsNode tree above
 
 -- the reader has room for the leaves of the instance
 abbrev pub HasReader : TreeDraft → Type 0
-HasReader tree = (n : Bounds) × (n.instance ≡ tree.draft.base.instance) × IsReady n tree.reader
+HasReader tree = (n : Bounds) × (n.instance ≡ tree.draft.value.base.instance) × IsReady n tree.reader.value
 
 -- the numbers that are claimed have room for one more split of the node, and for one more leaf of a kind
 pub record HasSplitRoom (tree : TreeDraft) : Type 0 where
@@ -51,27 +51,27 @@ HasLeafRoom tree is_closed = leaves_like is_closed tree.walk.seen < leaves_like 
 
 -- where a leaf below these splits stands in its dossier
 abbrev pub place_of : TreeDraft → List Frame → Bool → Place
-place_of tree above is_closed = record { draft = draft_of tree.draft; counts = counts_of tree.claimed; above = above; is_closed = is_closed }
+place_of tree above is_closed = record { draft = draft_of tree.draft.value; counts = counts_of tree.claimed; above = above; is_closed = is_closed }
 
 -- the reader stands for what has been read of the leaf below these splits
 pub record IsInLeaf (tree : TreeDraft) (is_closed : Bool) (above : List Frame) (reading : Reading) : Type 0 where
   pub node : IsNode tree above
-  pub ready : IsReady (limits_of (place_of tree above is_closed)) tree.reader
+  pub ready : IsReady (limits_of (place_of tree above is_closed)) tree.reader.value
   pub room : HasLeafRoom tree is_closed
-  pub stands : StandsFor (place_of tree above is_closed) tree.reader reading
+  pub stands : StandsFor (place_of tree above is_closed) tree.reader.value reading
 
 -- what is kept stands for this state of the table of lines. It is that state but for the numbers of the leaves, of
 -- which no more is kept than the next lines need.
 abbrev pub Awaits : Due → Reading → Type 0
 Awaits (Head due) r = IsLineDue due × HoldsHead due × (r ≡ reading_of due)
 Awaits (Pool base) r = r ≡ Pools base.instance base.nodes
-Awaits (Route b root more) r = IsRoot b.base.instance root × IsPlanOf b.base.instance b.plan × (r ≡ Routes (draft_of b) more)
-Awaits (Plan b) r = IsPlanOf b.base.instance b.plan × (r ≡ Plans (draft_of b))
-Awaits (Job b more from) r = IsPlanOf b.base.instance b.plan × (r ≡ Jobs (draft_of b) more from)
-Awaits (Tree b) r = r ≡ Trees (draft_of b)
-Awaits (Node tree) r = (above : List Frame) × IsNode tree above × HasReader tree × (r ≡ Nodes (draft_of tree.draft) (counts_of tree.claimed) above)
+Awaits (Route b root more) r = IsRoot b.value.base.instance root × IsPlanOf b.value.base.instance b.value.plan × (r ≡ Routes (draft_of b.value) more)
+Awaits (Plan b) r = IsPlanOf b.value.base.instance b.value.plan × (r ≡ Plans (draft_of b.value))
+Awaits (Job b more from) r = IsPlanOf b.value.base.instance b.value.plan × (r ≡ Jobs (draft_of b.value) more from)
+Awaits (Tree b) r = r ≡ Trees (draft_of b.value)
+Awaits (Node tree) r = (above : List Frame) × IsNode tree above × HasReader tree × (r ≡ Nodes (draft_of tree.draft.value) (counts_of tree.claimed) above)
 Awaits (Leaf tree is_closed) r = (above : List Frame) × IsInLeaf tree is_closed above r
-Awaits (End b claimed seen) r = (t : Written) × (counts_of seen ≡ counts_of_tree t) × (r ≡ EndDue (draft_of b) (counts_of claimed) t)
+Awaits (End b claimed seen) r = (t : Written) × (counts_of seen ≡ counts_of_tree t) × (r ≡ EndDue (draft_of b.value) (counts_of claimed) t)
 
 -- what is kept stands for some state of the table
 abbrev pub IsAwaited : Due → Type 0
@@ -80,7 +80,7 @@ IsAwaited due = (reading : Reading) × Awaits due reading
 -- what is kept stands for this dossier, whose tree has these numbers
 pub record IsEndOf (ended : Ended) (d : Dossier) : Type 0 where
   pub tree : Written
-  pub is : d ≡ whole (draft_of ended.draft) tree
+  pub is : d ≡ whole (draft_of ended.draft.value) tree
   pub counts : counts_of ended.counts ≡ counts_of_tree tree
 
 -- the step is what these rules say, and what is kept stands for what they lead to

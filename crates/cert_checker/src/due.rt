@@ -22,19 +22,19 @@ pub struct Draft {
 /// A dossier whose tree is being read.
 #[derive(Drop)]
 pub struct TreeDraft {
-    pub draft: Draft,
+    pub draft: Box<Draft>,
     /// The numbers of the line `tree`.
     pub claimed: TreeCounts,
     /// The limits of the node that is due.
     pub limits: Held,
     pub walk: Walk,
-    pub reader: LeafReader,
+    pub reader: Box<LeafReader>,
 }
 
 /// A whole dossier: all but its tree, of which it has the numbers.
 #[derive(Drop)]
 pub struct Ended {
-    pub draft: Draft,
+    pub draft: Box<Draft>,
     pub counts: TreeCounts,
 }
 
@@ -46,20 +46,20 @@ pub enum Due {
         base: Base,
     },
     Route {
-        draft: Draft,
+        draft: Box<Draft>,
         root: Held,
         more: u64,
     },
     Plan {
-        draft: Draft,
+        draft: Box<Draft>,
     },
     Job {
-        draft: Draft,
+        draft: Box<Draft>,
         more: u32,
         from: u32,
     },
     Tree {
-        draft: Draft,
+        draft: Box<Draft>,
     },
     Node {
         tree: TreeDraft,
@@ -69,7 +69,7 @@ pub enum Due {
         is_closed: bool,
     },
     End {
-        draft: Draft,
+        draft: Box<Draft>,
         claimed: TreeCounts,
         seen: TreeCounts,
     },

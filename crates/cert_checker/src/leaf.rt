@@ -17,9 +17,10 @@ pub fn number_line(tree: TreeDraft, is_closed: bool, words: LineWords<'_>) -> St
     requires { IsAwaited (Due.Leaf tree is_closed) }
     ensures { IsStep (Due.Leaf tree is_closed) words.entry result }
 {
+    let p = &*tree.draft;
     let goal = Goal {
-        bound: tree.draft.bound,
-        unassigned: unassigned(&tree.draft.plan),
+        bound: p.bound,
+        unassigned: unassigned(&p.plan),
         is_closed,
     };
     let TreeDraft {
@@ -47,7 +48,12 @@ pub fn number_line(tree: TreeDraft, is_closed: bool, words: LineWords<'_>) -> St
 }
 
 /// The line `end`.
-pub fn end_line(draft: Draft, claimed: TreeCounts, seen: TreeCounts, words: LineWords<'_>) -> Step
+pub fn end_line(
+    draft: Box<Draft>,
+    claimed: TreeCounts,
+    seen: TreeCounts,
+    words: LineWords<'_>,
+) -> Step
     requires { IsAwaited (Due.End draft claimed seen) }
     ensures { IsStep (Due.End draft claimed seen) words.entry result }
 {

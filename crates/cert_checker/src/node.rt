@@ -41,7 +41,7 @@ pub fn leave(tree: TreeDraft, is_closed: bool) -> Due
     requires reader { HasReader tree }
     requires room { HasLeafRoom tree is_closed }
     ensures { (fs : List Frame) (leaf : Written) → IsNode tree fs → IsLeaf is_closed leaf
-        → Awaits result (node_done (draft_of tree.draft) (counts_of tree.claimed) fs leaf) }
+        → Awaits result (node_done (draft_of tree.draft.value) (counts_of tree.claimed) fs leaf) }
 {
     let TreeDraft {
         draft,
@@ -75,8 +75,8 @@ pub fn leave(tree: TreeDraft, is_closed: bool) -> Due
 fn window_line(tree: TreeDraft, task: u32, cut: u32) -> Result<Step, AllocError>
     requires node { IsInTree tree }
     requires reader { HasReader tree }
-    requires task { task < length tree.draft.base.instance.tasks }
-    ensures { IfOk result (λ step. (fs : List Frame) → IsNode tree fs → Tells (after_window (draft_of tree.draft) (counts_of tree.claimed) fs task cut) step) }
+    requires task { task < length tree.draft.value.base.instance.tasks }
+    ensures { IfOk result (λ step. (fs : List Frame) → IsNode tree fs → Tells (after_window (draft_of tree.draft.value) (counts_of tree.claimed) fs task cut) step) }
 {
     if !has_split_room(&tree) {
         return Ok(Step::No(Reason::Count));
@@ -120,9 +120,9 @@ fn is_free(limits: &Limits<'_>, team: u32, task: u32) -> bool
 fn pair_line(tree: TreeDraft, team: u32, task: u32) -> Result<Step, AllocError>
     requires node { IsInTree tree }
     requires reader { HasReader tree }
-    requires team { team < length tree.draft.base.instance.teams }
-    requires task { task < length tree.draft.base.instance.tasks }
-    ensures { IfOk result (λ step. (fs : List Frame) → IsNode tree fs → Tells (after_pair (draft_of tree.draft) (counts_of tree.claimed) fs team task) step) }
+    requires team { team < length tree.draft.value.base.instance.teams }
+    requires task { task < length tree.draft.value.base.instance.tasks }
+    ensures { IfOk result (λ step. (fs : List Frame) → IsNode tree fs → Tells (after_pair (draft_of tree.draft.value) (counts_of tree.claimed) fs team task) step) }
 {
     if !has_split_room(&tree) {
         return Ok(Step::No(Reason::Count));
@@ -154,7 +154,7 @@ fn pair_line(tree: TreeDraft, team: u32, task: u32) -> Result<Step, AllocError>
 fn bare_line(tree: TreeDraft) -> Step
     requires node { IsInTree tree }
     requires reader { HasReader tree }
-    ensures { (fs : List Frame) → IsNode tree fs → Tells (after_bare (draft_of tree.draft) (counts_of tree.claimed) fs) result }
+    ensures { (fs : List Frame) → IsNode tree fs → Tells (after_bare (draft_of tree.draft.value) (counts_of tree.claimed) fs) result }
 {
     if !has_leaf_room(&tree, false) {
         return Step::No(Reason::Count);
@@ -169,7 +169,7 @@ fn bare_line(tree: TreeDraft) -> Step
 fn leaf_line(mut tree: TreeDraft, is_closed: bool) -> Step
     requires node { IsInTree tree }
     requires reader { HasReader tree }
-    ensures { (fs : List Frame) → IsNode tree fs → Tells (after_leaf (draft_of tree.draft) (counts_of tree.claimed) fs is_closed) result }
+    ensures { (fs : List Frame) → IsNode tree fs → Tells (after_leaf (draft_of tree.draft.value) (counts_of tree.claimed) fs is_closed) result }
 {
     if !has_leaf_room(&tree, is_closed) {
         return Step::No(Reason::Count);
@@ -184,8 +184,9 @@ pub fn node_line(tree: TreeDraft, words: LineWords<'_>) -> Result<Step, AllocErr
     ensures { IfOk result (IsStep (Due.Node tree) words.entry) }
 {
     fault_is_refused();
-    let teams = tree.draft.base.instance.teams() as u32;
-    let tasks = tree.draft.base.instance.tasks() as u32;
+    let instance = &tree.draft.base.instance;
+    let teams = instance.teams() as u32;
+    let tasks = instance.tasks() as u32;
     let kind = match read_line(Expect::Node { teams, tasks }, words) {
         Ok(kind) => kind,
         Err(fault) => return Ok(Step::No(fault.reason())),

@@ -15,9 +15,9 @@ use plan_check::check_plan;
 use std::alloc::{AllocError, Global};
 
 /// What is due where so many jobs are to come, of tasks from `from` on.
-fn due_jobs(draft: Draft, more: u32, from: u32) -> Due
-    requires { IsPlanOf draft.base.instance draft.plan }
-    ensures { Awaits result (jobs_due (draft_of draft) more from) }
+fn due_jobs(draft: Box<Draft>, more: u32, from: u32) -> Due
+    requires { IsPlanOf draft.value.base.instance draft.value.plan }
+    ensures { Awaits result (jobs_due (draft_of draft.value) more from) }
 {
     if more > 0 {
         Due::Job {
@@ -31,12 +31,13 @@ fn due_jobs(draft: Draft, more: u32, from: u32) -> Due
 }
 
 /// The line `plan`.
-pub fn plan_line(mut draft: Draft, words: LineWords<'_>) -> Step
+pub fn plan_line(mut draft: Box<Draft>, words: LineWords<'_>) -> Step
     requires { IsAwaited (Due.Plan draft) }
     ensures { IsStep (Due.Plan draft) words.entry result }
 {
     fault_is_refused();
-    let tasks = draft.base.instance.tasks() as u32;
+    let p = &mut *draft;
+    let tasks = p.base.instance.tasks() as u32;
     let kind = match read_line(Expect::Plan { tasks }, words) {
         Ok(kind) => kind,
         Err(fault) => return Step::No(fault.reason()),
@@ -44,14 +45,14 @@ pub fn plan_line(mut draft: Draft, words: LineWords<'_>) -> Step
     let LineKind::Plan { unassigned, bound } = kind else {
         unreachable!()
     };
-    draft.bound = bound;
+    p.bound = bound;
     Step::More(due_jobs(draft, tasks - unassigned, 0))
 }
 
 /// What is said after a job, where so many more are to come.
-fn judge_job(draft: Draft, more: u32, from: u32) -> Step
-    requires { IsPlanOf draft.base.instance draft.plan }
-    ensures { Tells (after_job (draft_of draft) more from) result }
+fn judge_job(draft: Box<Draft>, more: u32, from: u32) -> Step
+    requires { IsPlanOf draft.value.base.instance draft.value.plan }
+    ensures { Tells (after_job (draft_of draft.value) more from) result }
 {
     if more > 0 {
         return Step::More(Due::Job {
@@ -60,7 +61,8 @@ fn judge_job(draft: Draft, more: u32, from: u32) -> Step
             from,
         });
     }
-    match check_plan(&draft.base.instance, &draft.plan) {
+    let p = &*draft;
+    match check_plan(&p.base.instance, &p.plan) {
         PlanVerdict::Legal => Step::More(Due::Tree { draft }),
         verdict => Step::No(Reason::Plan(verdict)),
     }
@@ -69,7 +71,7 @@ fn judge_job(draft: Draft, more: u32, from: u32) -> Step
 /// A line `do`.
 pub fn job_line(
     alloc: Global,
-    mut draft: Draft,
+    mut draft: Box<Draft>,
     more: u32,
     from: u32,
     words: LineWords<'_>,
@@ -78,8 +80,9 @@ pub fn job_line(
     ensures { IfOk result (IsStep (Due.Job draft more from) words.entry) }
 {
     fault_is_refused();
-    let teams = draft.base.instance.teams() as u32;
-    let tasks = draft.base.instance.tasks() as u32;
+    let p = &mut *draft;
+    let teams = p.base.instance.teams() as u32;
+    let tasks = p.base.instance.tasks() as u32;
     let kind = match read_line(Expect::Job { teams, tasks }, words) {
         Ok(kind) => kind,
         Err(fault) => return Ok(Step::No(fault.reason())),
@@ -91,6 +94,6 @@ pub fn job_line(
         return Ok(Step::No(Reason::Shape));
     }
     let teams = team_list(alloc, &teams)?;
-    draft.plan.assign(task, start, &teams)?;
+    p.plan.assign(task, start, &teams)?;
     Ok(judge_job(draft, more, task + 1))
 }

@@ -27,10 +27,10 @@ fn natural(n: i64) -> u64
 }
 
 /// What is due where so many routes are to come.
-fn due_routes(draft: Draft, root: Held, more: u64) -> Due
-    requires root { IsRoot draft.base.instance root }
-    requires plan { IsPlanOf draft.base.instance draft.plan }
-    ensures { Awaits result (routes_due (draft_of draft) more) }
+fn due_routes(draft: Box<Draft>, root: Held, more: u64) -> Due
+    requires root { IsRoot draft.value.base.instance root }
+    requires plan { IsPlanOf draft.value.base.instance draft.value.plan }
+    ensures { Awaits result (routes_due (draft_of draft.value) more) }
 {
     if more > 0 {
         Due::Route {
@@ -57,6 +57,7 @@ fn begin_pool(alloc: Global, base: Base, kept: u64, columns: u64) -> Result<Due,
         plan,
         bound: 0,
     };
+    let draft = Box::new(alloc, draft)?;
     Ok(due_routes(draft, root, columns))
 }
 
@@ -80,10 +81,10 @@ pub fn pool_line(alloc: Global, base: Base, words: LineWords<'_>) -> Result<Step
 }
 
 /// What is said behind a route, of which the pool says this, where so many more are to come.
-fn judge_route(draft: Draft, root: Held, more: u64, verdict: PoolVerdict) -> Step
-    requires root { IsRoot draft.base.instance root }
-    requires plan { IsPlanOf draft.base.instance draft.plan }
-    ensures { TellsRoute draft more verdict result }
+fn judge_route(draft: Box<Draft>, root: Held, more: u64, verdict: PoolVerdict) -> Step
+    requires root { IsRoot draft.value.base.instance root }
+    requires plan { IsPlanOf draft.value.base.instance draft.value.plan }
+    ensures { TellsRoute draft.value more verdict result }
 {
     match verdict {
         PoolVerdict::Added => Step::More(due_routes(draft, root, more)),
@@ -94,7 +95,7 @@ fn judge_route(draft: Draft, root: Held, more: u64, verdict: PoolVerdict) -> Ste
 /// A line `route`.
 pub fn route_line(
     alloc: Global,
-    mut draft: Draft,
+    mut draft: Box<Draft>,
     root: Held,
     more: u64,
     words: LineWords<'_>,
@@ -103,8 +104,9 @@ pub fn route_line(
     ensures { IfOk result (IsStep (Due.Route draft root more) words.entry) }
 {
     fault_is_refused();
-    let teams = draft.base.instance.teams() as u32;
-    let tasks = draft.base.instance.tasks() as u32;
+    let p = &mut *draft;
+    let teams = p.base.instance.teams() as u32;
+    let tasks = p.base.instance.tasks() as u32;
     let kind = match read_line(Expect::Route { teams, tasks }, words) {
         Ok(kind) => kind,
         Err(fault) => return Ok(Step::No(fault.reason())),
@@ -113,8 +115,8 @@ pub fn route_line(
         unreachable!()
     };
     let route = Route::read(alloc, team, &visits)?;
-    let limits = Limits::wake(&draft.base.instance, root);
-    let verdict = draft.pool.add(&limits, route)?;
+    let limits = Limits::wake(&p.base.instance, root);
+    let verdict = p.pool.add(&limits, route)?;
     let root = limits.rest();
     Ok(judge_route(draft, root, more, verdict))
 }

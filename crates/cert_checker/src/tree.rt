@@ -34,7 +34,11 @@ fn fault_of_tree(draft: &Draft, claimed: TreeCounts) -> Option<Reason>
 }
 
 /// A dossier whose tree is to be read from its root on. No memory is taken by the numbers that are claimed.
-fn begin_tree(alloc: Global, draft: Draft, claimed: TreeCounts) -> Result<TreeDraft, AllocError>
+fn begin_tree(
+    alloc: Global,
+    draft: Box<Draft>,
+    claimed: TreeCounts,
+) -> Result<TreeDraft, AllocError>
     requires { IsCounts (counts_of claimed) }
     ensures draft { IfOk result (λ tree. tree.draft ≡ draft) }
     ensures claimed { IfOk result (λ tree. tree.claimed ≡ claimed) }
@@ -42,7 +46,7 @@ fn begin_tree(alloc: Global, draft: Draft, claimed: TreeCounts) -> Result<TreeDr
     ensures reader { IfOk result HasReader }
 {
     let limits = Limits::root(alloc, &draft.base.instance)?;
-    let reader = LeafReader::open(alloc, &limits)?;
+    let reader = Box::new(alloc, LeafReader::open(alloc, &limits)?)?;
     let limits = limits.rest();
     Ok(TreeDraft {
         draft,
@@ -54,7 +58,7 @@ fn begin_tree(alloc: Global, draft: Draft, claimed: TreeCounts) -> Result<TreeDr
 }
 
 /// The line `tree`.
-pub fn tree_line(alloc: Global, draft: Draft, words: LineWords<'_>) -> Result<Step, AllocError>
+pub fn tree_line(alloc: Global, draft: Box<Draft>, words: LineWords<'_>) -> Result<Step, AllocError>
     requires { IsAwaited (Due.Tree draft) }
     ensures { IfOk result (IsStep (Due.Tree draft) words.entry) }
 {

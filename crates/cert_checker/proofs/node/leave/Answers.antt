@@ -1,11 +1,20 @@
+use Rattle.std.proofs.Common.{◌≡◌, ◌∙◌, ap}
+use Rattle.node_limits.specs.Rest.{trail_over}
+use Rattle.cert_checker.specs.declared.due.Draft.{Draft}
 use Rattle.cert_checker.proofs.NodeRows.{left_at, ended_at}
 use Rattle.cert_checker.proofs.node.leave.Goals as goal
 
 pub returns-then-is_whole : goal.returns-then-is_whole
-returns-then-is_whole c = ended_at c.args.tree c.wake-limits.result c.leave-is_whole.new.limits c.leave-is_whole.new.self c.seen-seen.result c.args.is_closed
-    c.wake-limits.ensures c.if-is_whole.ensures.leaves c.seen-seen.ensures
+returns-then-is_whole c =
+    let tree = c.args.tree in
+    let woke : c.wake-limits.result ≡ trail_over tree.draft.value.base.instance tree.limits = c.wake-limits.ensures ∙ ap (λ (d : Draft). trail_over d.base.instance tree.limits) c.deref.ensures in
+    ended_at tree c.wake-limits.result c.leave-is_whole.new.limits c.leave-is_whole.new.self c.seen-seen.result c.args.is_closed
+    woke c.if-is_whole.ensures.leaves c.seen-seen.ensures
 
 pub returns : goal.returns
-returns c = left_at c.args.tree c.wake-limits.result c.leave-is_whole.new.limits c.leave-is_whole.new.self c.rest-limits.result
-    c.wake-limits.ensures c.leave-is_whole.ensures.instance c.rest-limits.ensures.same c.rest-limits.ensures.over
+returns c =
+    let tree = c.args.tree in
+    let woke : c.wake-limits.result ≡ trail_over tree.draft.value.base.instance tree.limits = c.wake-limits.ensures ∙ ap (λ (d : Draft). trail_over d.base.instance tree.limits) c.deref.ensures in
+    left_at tree c.wake-limits.result c.leave-is_whole.new.limits c.leave-is_whole.new.self c.rest-limits.result
+    woke c.leave-is_whole.ensures.instance c.rest-limits.ensures.same c.rest-limits.ensures.over
     c.args.is_closed c.if-is_whole.ensures.leaves c.requires.reader

@@ -1,8 +1,9 @@
-use Rattle.std.proofs.Common.{◌≤◌, ◌-◌, length, sym, subst}
+use Rattle.std.proofs.Common.{◌≡◌, ◌≤◌, ◌-◌, length, ap, sym, subst, ◌∙◌}
 use Rattle.cert_format.specs.Lines.{IsPlanLine}
-use Rattle.dossier_terms.specs.Reading.{Draft, jobs_due}
+use Rattle.dossier_terms.specs.Reading.{Draft, Plans, jobs_due}
 use Rattle.dossier_terms.specs.Table.{Says}
 use Rattle.cert_checker.specs.Due.{Awaits, Tells, draft_of}
+use Rattle.cert_checker.specs.declared.due.Draft.{Draft as Kept}
 use Rattle.cert_checker.specs.declared.due.Step.TheVariants.{More}
 use Rattle.cert_checker.proofs.PlanRows.{plan_more}
 use Rattle.cert_checker.proofs.plan.plan_line.Goals as goal
@@ -10,14 +11,16 @@ use Rattle.cert_checker.proofs.plan.plan_line.Goals as goal
 pub returns : goal.returns
 returns c = λ reading a.
     let h = subst (IsPlanLine c.tasks-tasks.result c.args.words) c.in-Plan.is c.in-Ok.ensures in
-    let i = c.args.draft.base.instance in
+    let b : Kept = c.deref_mut-p.result.now in
+    let same : b ≡ c.args.draft.value = c.deref_mut-p.ensures.value in
+    let i = b.base.instance in
     let size = c.tasks-tasks.ensures.count in
     let u = c.in-Plan.unassigned in
     let l = c.in-Plan.bound in
-    let bounded : Draft = record (draft_of c.args.draft) { bound = l } in
+    let bounded : Draft = record (draft_of b) { bound = l } in
     let next : Awaits c.due_jobs.result (jobs_due bounded (length i.tasks - u) 0) = subst (λ n. Awaits c.due_jobs.result (jobs_due bounded (n - u) 0)) size c.due_jobs.ensures in
-    subst (λ r. Tells (Says r c.args.words) (More c.due_jobs.result)) (sym a.1) (
+    subst (λ r. Tells (Says r c.args.words) (More c.due_jobs.result)) (sym (a.1 ∙ ap (λ (d : Kept). Plans (draft_of d)) (sym same))) (
       jobs_due bounded (length i.tasks - u) 0,
-      plan_more (draft_of c.args.draft) u l c.args.words (subst (λ n. u ≤ n) size h.0) (subst (λ n. l ≤ n) size h.1) h.2,
+      plan_more (draft_of b) u l c.args.words (subst (λ n. u ≤ n) size h.0) (subst (λ n. l ≤ n) size h.1) h.2,
       next,
     )
