@@ -40,7 +40,10 @@ pub(crate) fn check<S: Source, K: Sink>(
 {
     let mut reader = LineReader::open(alloc, INPUT)?;
     let mut checker = Checker::open(alloc)?;
-    check_all(&mut reader, &mut checker, src, out)
+    let status = check_all(&mut reader, &mut checker, src, out);
+    // By name, so that its many parts are let go of in one call.
+    drop(checker);
+    status
 }
 
 /// Reads all dossiers with a reader and a checker that have read nothing yet.
