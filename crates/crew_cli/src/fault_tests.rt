@@ -4,7 +4,7 @@ ghost use Rattle.std.specs.Prelude.{◌≤◌};
 use crate::apply_tests::DAY;
 use crate::run::{Status, run};
 use crate::steady::{run_in_memory, run_steady};
-use crate::tests::{GOOD, YES, joined};
+use crate::tests::{GOOD, WITH_POOL, YES, joined};
 use crew_io::sink::{MemSink, SteadySink};
 use crew_io::source::{MemSource, SteadySource};
 use std::alloc::{AllocError, Global};
@@ -181,11 +181,13 @@ fn what_does_not_fail_is_no_fault(rt: HostRuntime) -> Result<(), Fail> {
 
 #[test]
 fn the_first_calls_fail(rt: HostRuntime) -> Result<(), Fail> {
-    let (read, nothing) = answer_over(rt.alloc(), "check", GOOD, 10, &[3], ROOM, &[])?;
-    assert_eq!(rt; read, Status::ReadFault);
-    assert!(rt; nothing.is_empty());
-    let (write, none) = answer_over(rt.alloc(), "check", GOOD, 10, &[], ROOM, &[1])?;
-    assert_eq!(rt; write, Status::WriteFault);
-    assert!(rt; none.is_empty());
+    for text in [GOOD, WITH_POOL] {
+        let (read, nothing) = answer_over(rt.alloc(), "check", text, 10, &[3], ROOM, &[])?;
+        assert_eq!(rt; read, Status::ReadFault);
+        assert!(rt; nothing.is_empty());
+        let (write, none) = answer_over(rt.alloc(), "check", text, 10, &[], ROOM, &[1])?;
+        assert_eq!(rt; write, Status::WriteFault);
+        assert!(rt; none.is_empty());
+    }
     Ok(())
 }

@@ -91,6 +91,7 @@ const TREES: &[Case] = &[
     (WITH_WINDOW, 15, b"window 0 480", b"no 15 Cut\n"),
     (WITH_WINDOW, 15, b"window 0 419", b"no 15 Cut\n"),
     (WITH_WINDOW, 15, b"window 0 479", b"no 21 Shape\n"),
+    (WITH_WINDOW, 25, b"end", b"no 25 Shape\n"),
     (WITH_WINDOW, 14, b"tree 1 2 0 0", b"no 15 Count\n"),
     (WITH_WINDOW, 14, b"tree 1 2 0 2", b"no 26 Count\n"),
     (WITH_WINDOW, 14, b"tree 2 1 2 1", b"no 21 Count\n"),
