@@ -1,5 +1,5 @@
 // A team's tasks in the order in which it does them, and the first that it can't come to in time.
-ghost use Rattle.std.specs.Prelude.{◌≡◌, ◌≤◌, ◌<◌, ◌+◌, ◌↔◌, ◌∷◌, ℕ, length, All, IfSome, IsTrue, MatchOption};
+ghost use Rattle.std.specs.Prelude.{◌≡◌, ◌≤◌, ◌<◌, ◌+◌, ◌↔◌, ◌∷◌, ℕ, length, All, Contains, IfSome, IsTrue, MatchOption};
 ghost use Rattle.std.specs.List.Sorted.{IsPermutation};
 ghost use Rattle.crew_terms.specs.Instance.{CanFollow, task_of};
 ghost use Rattle.crew_terms.specs.Plan.{Does, IsLegal};
@@ -31,13 +31,20 @@ fn put_in_order(turns: &mut ArrayVec<Turn, 400>, turn: Turn)
     turns.insert(at, turn);
 }
 
+// Whether team `k` is one of the teams. They are few, and looked at one by one.
+fn is_among(teams: &[u32], k: u32) -> bool
+    ensures { IsTrue result ↔ Contains teams.now k }
+{
+    teams.iter().any(|team| *team == k)
+}
+
 // The turn of team `k` at a task, if it does the task.
 fn turn_at(plan: &Plan, k: u32, task: u32) -> Option<Turn>
     requires { task < length plan.now }
     ensures { MatchOption result ((t : ℕ) → Does plan.now k task t → ⊥) (λ v. (v.task ≡ task) × Does plan.now k v.task v.start) }
 {
     let start = plan.start(task)?;
-    if plan.teams(task).contains(&k) {
+    if is_among(plan.teams(task), k) {
         Some(Turn { start, task })
     } else {
         None
