@@ -1,6 +1,6 @@
 // A builder of instances.
-ghost use Rattle.std.specs.Prelude.{◌≡◌, ◌≤◌, ◌<◌, ◌↔◌, ◌⊎◌, ℕ, [], ◌∷◌, ◌++◌, length, slice_set, OnOk, OnErr, IfErr, IfNone, IfOk, IfSome, IsErrOf, Contains};
-ghost use Rattle.crew_instance.specs.Draft.{IsDraft, IsFirstMissing, IsMissing, filled, instance_of, minutes_from, minutes_of, rows_of, time_of, with_place, with_time};
+ghost use Rattle.std.specs.Prelude.{◌≡◌, ◌≤◌, ◌<◌, ◌↔◌, ◌⊎◌, ℕ, [], ◌∷◌, ◌++◌, length, slice_index_or, slice_set, map, Some, None, All, OnOk, OnErr, IfErr, IfNone, IfOk, IfSome, IsErrOf, Contains};
+ghost use Rattle.crew_instance.specs.Draft.{IsDraft, IsFirstMissing, IsMissing, filled, instance_of, minutes_from, minutes_of, rows_of, time_of, times_from, times_in, with_place, with_row, with_time};
 ghost use Rattle.crew_instance.specs.Rules.{IsPlaceFault, IsTravelFault, IsTeamFault, IsTaskFault, IsFinishFault, IsShift, IsWindow, IsTeamCount, HasTeam, HasTask, TakesTeam, TakesTask};
 
 use crate::faults::BuildFault;
@@ -24,9 +24,17 @@ pub struct Builder {
     pub(crate) places: Vec<Name>,
     pub(crate) teams: Vec<Team>,
     pub(crate) tasks: Vec<Task>,
-    // A row for each place, as long as the times that were given need.
-    times: Vec<Vec<Option<u32>>>,
+    // A row for each place.
+    times: Vec<Row>,
     default_minutes: Option<u32>,
+}
+
+/// The travel times from one place, as far as they were given: those to the first places, of which none
+/// is missing, and those to the places after them, up to the last that was given.
+#[derive(Drop)]
+struct Row {
+    given: Vec<u32>,
+    further: Vec<Option<u32>>,
 }
 
 impl Model for Builder {
@@ -96,7 +104,7 @@ impl Builder {
             return Err(BuildFault::SameName);
         }
         self.places.reserve(1)?;
-        self.times.push(Vec::new(self.alloc))?;
+        self.times.push(Row::new(self.alloc))?;
         self.places.push(name).unwrap();
         Ok(())
     }
@@ -114,6 +122,26 @@ impl Builder {
             return Err(BuildFault::NoPlace);
         }
         set_time(&mut self.times[a as usize], b, minutes)?;
+        Ok(())
+    }
+
+    /// Sets the minutes from place `a` to each place, in their order. It takes no memory. It is refused
+    /// where there is no place `a`.
+    pub fn travel_from(&mut self, a: u32, row: Vec<u32>) -> Result<(), BuildFault>
+        requires count { length row.items ≡ length self.old.places }
+        requires day { All (λ minutes. minutes ≤ 2880) row.items }
+        ensures ok { OnOk result (self.new ≡ with_row self.old a row.items) }
+        ensures err { OnErr result (self.new ≡ self.old) }
+        ensures no_place { IsErrOf result BuildFault.NoPlace ↔ (length self.old.places ≤ a) }
+        ensures no_other { IfErr result (λ fault. fault ≡ BuildFault.NoPlace) }
+    {
+        if a as usize >= self.places.len() {
+            return Err(BuildFault::NoPlace);
+        }
+        self.times[a as usize] = Row {
+            given: row,
+            further: Vec::new(self.alloc),
+        };
         Ok(())
     }
 
@@ -211,6 +239,9 @@ impl Builder {
         ensures found { IfSome result (λ b. IsMissing self.now a b × ((y : ℕ) → y < b → ¬ (IsMissing self.now a y))) }
         ensures none { IfNone result ((y : ℕ) → ¬ (IsMissing self.now a y)) }
     {
+        if self.whole_row(a).is_some() {
+            return None;
+        }
         for to in 0..self.places.len() as u32 {
             if a != to && self.time(a, to).is_none() {
                 return Some(to);
@@ -224,11 +255,20 @@ impl Builder {
         requires { a < length self.now.places }
         ensures { result ≡ time_of self.now a b }
     {
+        self.times[a as usize].time(b)
+    }
+
+    /// The times from place `a`, where each of them was given.
+    fn whole_row(&self, a: u32) -> Option<&[u32]>
+        requires { a < length self.now.places }
+        ensures count { IfSome result (λ row. length row.now ≡ length self.now.places) }
+        ensures times { IfSome result (λ row. times_from self.now a ≡ map Some row.now) }
+    {
         let row = &self.times[a as usize];
-        if b as usize >= row.len() {
+        if row.given.len() < self.places.len() {
             return None;
         }
-        row[b as usize]
+        Some(&row.given)
     }
 
     /// The minutes from place `a` to place `b`.
@@ -250,6 +290,9 @@ impl Builder {
         requires { a < length self.now.places }
         ensures { IfOk result (λ row. row.items ≡ minutes_from self.now a) }
     {
+        if let Some(row) = self.whole_row(a) {
+            return Vec::from_slice(self.alloc, row);
+        }
         let mut row = Vec::with_capacity(self.alloc, self.places.len())?;
         for b in 0..self.places.len() as u32 {
             row.push(self.minutes(a, b))?;
@@ -269,8 +312,53 @@ impl Builder {
     }
 }
 
-/// Writes a time into a row, which grows up to it.
-fn set_time(row: &mut Vec<Option<u32>>, b: u32, minutes: u32) -> Result<(), AllocError>
+impl Row {
+    /// A row of no times yet.
+    fn new(alloc: Global) -> Row
+        ensures { times_in result ≡ [] }
+    {
+        Row {
+            given: Vec::new(alloc),
+            further: Vec::new(alloc),
+        }
+    }
+
+    /// The time that was given to place `b`.
+    fn time(&self, b: u32) -> Option<u32>
+        ensures { result ≡ slice_index_or (times_in self.now) b None }
+    {
+        let b = b as usize;
+        let n = self.given.len();
+        if b < n {
+            return Some(self.given[b]);
+        }
+        if b - n >= self.further.len() {
+            return None;
+        }
+        self.further[b - n]
+    }
+}
+
+/// Writes a time into a row.
+fn set_time(row: &mut Row, b: u32, minutes: u32) -> Result<(), AllocError>
+    ensures ok { OnOk result ((n : ℕ) → b < n → filled n (times_in row.new) ≡ slice_set (filled n (times_in row.old)) b (Some minutes)) }
+    ensures err { OnErr result (times_in row.new ≡ times_in row.old) }
+{
+    let n = row.given.len();
+    if (b as usize) < n {
+        row.given[b as usize] = minutes;
+        return Ok(());
+    }
+    if b as usize == n && row.further.is_empty() {
+        row.given.push(minutes)?;
+        return Ok(());
+    }
+    set_further(&mut row.further, b - n as u32, minutes)?;
+    Ok(())
+}
+
+/// Writes a time into a row that may lack some, which grows up to it.
+fn set_further(row: &mut Vec<Option<u32>>, b: u32, minutes: u32) -> Result<(), AllocError>
     ensures ok { OnOk result ((n : ℕ) → b < n → filled n row.new.items ≡ slice_set (filled n row.old.items) b (Some minutes)) }
     ensures err { OnErr result (row.new.items ≡ row.old.items) }
 {
