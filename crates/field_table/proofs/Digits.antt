@@ -4,7 +4,10 @@ use Rattle.std.specs.Str.{all_ascii_digits}
 use Rattle.std.specs.Fmt.{decimal}
 use Rattle.std.specs.Char.{is_ascii_digit}
 use Rattle.std.proofs.lemmas.Bool.{and_parts, and_from, both_ways, cases_eq}
-use Rattle.std.proofs.lemmas.List.{take-append-drop, take_more}
+use Rattle.std.proofs.lemmas.List.{take-append-drop, take_more, length-take-le, get_or-take}
+use Rattle.std.proofs.lemmas.List.Elements.{All-from_get_or}
+use Rattle.std.proofs.Math.Nat.{pow-suc}
+use Rattle.std.specs.Prelude.{All}
 use Rattle.std.proofs.lemmas.Str.Parse.{IsNumeralModel, numerals_by_fold}
 use Rattle.std.proofs.lemmas.Fmt.{decimal-digits_value, digits_value-decimal, digits_decimal, first_decimal, decimal_digit, decimal_nonempty}
 
@@ -65,3 +68,35 @@ not_more word i m most over le small h =
 pub decimal_read : (word : List ℕ) (n : ℕ) → all_ascii_digits word ≡ true → 0 < length word → (get_or word 0 0 ≡ 48 → length word ≡ 1) → read_on 0 word ≡ n → n < 2 ^ 64 → word ≡ decimal n
 decimal_read word n digits some plain value small =
     sym (ap decimal (sym value) ∙ decimal-digits_value own word digits some plain (let e = value in omega arith))
+
+pow_up : (k i : ℕ) → 10 ^ i ≤ 10 ^ (k + i)
+pow_up zero i = let e : 10 ^ (0 + i) ≡ 10 ^ i = ap (λ n. 10 ^ n) (let f : 0 + i ≡ i = omega arith in f) in omega arith
+pow_up (suc k) i =
+    let a = pow_up k i in
+    let e : suc k + i ≡ suc (k + i) = omega arith in
+    let b : 10 ^ (suc k + i) ≡ 10 ^ (k + i) * 10 = ap (λ n. 10 ^ n) e ∙ pow-suc 10 (k + i) in
+    omega arith
+
+-- at most 18 digits are no large number
+pub below_power : (i n : ℕ) → n < 10 ^ i → i ≤ 18 → n < 10 ^ 18
+below_power i n h l =
+    let a = pow_up (18 - i) i in
+    let e : 10 ^ (18 - i + i) ≡ 10 ^ 18 = ap (λ k. 10 ^ k) (let f : 18 - i + i ≡ 18 = omega arith in f) in
+    omega arith
+
+-- and with one digit more ten times the number
+pub power_more : (i n d : ℕ) → n < 10 ^ i → d < 10 → 10 * n + d < 10 ^ (i + 1)
+power_more i n d h l =
+    let e : 10 ^ (i + 1) ≡ 10 ^ i * 10 = ap (λ k. 10 ^ k) (let f : i + 1 ≡ suc i = omega arith in f) ∙ pow-suc 10 i in
+    omega arith
+
+pub front_spelled : (bytes : List ℕ) (count n : ℕ) → count ≤ length bytes → all_ascii_digits (take count bytes) ≡ true → read_on 0 (take count bytes) ≡ n → n < 10 ^ 18
+    → 0 < count → (get_or bytes 0 0 ≡ 48 → count ≡ 1) → take count bytes ≡ decimal n
+front_spelled bytes count n l digits value small some plain =
+    let long : length (take count bytes) ≡ count = length-take-le count bytes l in
+    decimal_read (take count bytes) n digits (omega arith) (λ e. long ∙ plain (sym (get_or-take count bytes 0 0 some) ∙ e)) value (omega arith)
+
+-- digits are no spaces
+pub no_digit_space : (word : List ℕ) → all_ascii_digits word ≡ true → All (λ b. b ≢ 32) word
+no_digit_space word h = All-from_get_or (λ b. b ≢ 32) word 0
+    (λ i l e. both_ways (is_ascii_digit (get_or word i 0)) (ap is_ascii_digit e) (digit_at word i h l))

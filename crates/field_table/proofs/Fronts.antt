@@ -1,70 +1,55 @@
--- the word that is being read, and those that follow
-use Rattle.std.proofs.Common.{◌≡◌, ◌≤◌, ◌<◌, ◌+◌, ◌-◌, ◌++◌, [], ◌∷◌, ℕ, suc, List, length, take, drop, get_or, eqb, true, false, ap, sym, refl, ◌∙◌, arith, append_assoc, append-nil, length-drop}
-use Rattle.std.proofs.Math.Seq.{drop-cons, take-suc}
-use Rattle.std.specs.Prelude.{slice_range}
-use Rattle.std.specs.List.{onto_first}
-use Rattle.std.proofs.lemmas.List.{map-append, get_or-drop, drop_all}
-use Rattle.std.proofs.lemmas.List.Splits.{slice_split-cons_yes, slice_split-cons_no, length-slice_split}
+-- the words of a line, cut by cut
+use Rattle.std.proofs.Common.{◌≡◌, ◌≢◌, ◌≤◌, ◌<◌, ◌+◌, ◌-◌, ◌++◌, [], ◌∷◌, ℕ, suc, List, length, take, drop, get_or, eqb, true, false, ap, sym, refl, ◌∙◌, arith, subst, append_assoc, length-drop}
+use Rattle.std.proofs.Math.Seq.{drop-cons}
+use Rattle.std.specs.Prelude.{All, slice_range}
+use Rattle.std.specs.Str.{all_ascii_digits}
+use Rattle.std.proofs.lemmas.Bool.{ne_eqb}
+use Rattle.std.proofs.lemmas.List.{map-append, drop-drop, take_all, take-append-drop}
+use Rattle.std.proofs.lemmas.List.Splits.{slice_split_at, slice_split_none}
 use Rattle.crew_terms.specs.Words.{words_of}
+use Rattle.field_table.proofs.Digits.{no_digit_space}
 use Rattle.field_table.specs.Pieces.{pieces_of, piece_of}
+use Rattle.field_table.specs.declared.cuts.Cut.{Cut}
 
--- the first word begins with these bytes too
-abbrev pub with_front : List ℕ → List (List ℕ) → List (List ℕ)
-with_front xs [] = xs ∷ []
-with_front xs (w ∷ ws) = (xs ++ w) ∷ ws
+-- no space in it
+no_split : (word : List ℕ) → All (λ b. b ≢ 32) word → All (λ b. eqb b 32 ≡ false) word
+no_split word h = λ k d l. ne_eqb (get_or word k d) 32 (h k d l)
 
-front_nil : (ws : List (List ℕ)) → 0 < length ws → with_front [] ws ≡ ws
-front_nil [] h = absurd (omega arith)
-front_nil (w ∷ ws) h = refl
+-- the rest of a line is a piece, the byte after it, and what follows
+rest_splits : (line : List ℕ) (cut : Cut) → cut.from ≤ cut.until → cut.until < length line → drop cut.from line ≡ piece_of line cut ++ get_or line cut.until 0 ∷ drop (cut.until + 1) line
+rest_splits line cut order inside =
+    let k = cut.until - cut.from in
+    let e : cut.from + k ≡ cut.until = omega arith in
+    let f : suc cut.until ≡ cut.until + 1 = omega arith in
+    sym (take-append-drop k (drop cut.from line))
+    ∙ ap (λ bs. piece_of line cut ++ bs) (drop-drop k cut.from line ∙ ap (λ n. drop n line) e ∙ drop-cons line cut.until 0 inside
+    ∙ ap (λ n. get_or line cut.until 0 ∷ drop n line) f)
 
-range_more : (line : List ℕ) (from i b : ℕ) → i < length line → from ≤ i → get_or line i 0 ≡ b → slice_range line from (i + 1) ≡ slice_range line from i ++ b ∷ []
-range_more line from i b h order e =
-    let k : i + 1 - from ≡ suc (i - from) = omega arith in
-    let l : i - from < length (drop from line) = omega (arith, length-drop from line) in
-    let j : from + (i - from) ≡ i = omega arith in
-    ap (λ n. take n (drop from line)) k ∙ take-suc (drop from line) (i - from) 0 l
-    ∙ ap (λ x. slice_range line from i ++ x ∷ []) (get_or-drop from line (i - from) 0 ∙ ap (λ n. get_or line n 0) j ∙ e)
+-- a space ends a word
+pub word_ends : (line : List ℕ) (cuts : List Cut) (cut : Cut) → cut.from ≤ cut.until → cut.until < length line
+    → All (λ b. b ≢ 32) (piece_of line cut) → get_or line cut.until 0 ≡ 32
+    → words_of line ≡ pieces_of line cuts ++ words_of (drop cut.from line)
+    → words_of line ≡ pieces_of line (cuts ++ cut ∷ []) ++ words_of (drop (cut.until + 1) line)
+word_ends line cuts cut order inside whole space all =
+    let next : List ℕ = drop (cut.until + 1) line in
+    all ∙ ap (λ ws. pieces_of line cuts ++ ws) (
+    ap words_of (rest_splits line cut order inside ∙ ap (λ b. piece_of line cut ++ b ∷ next) space)
+    ∙ slice_split_at (λ b. eqb b 32) (piece_of line cut) 32 next (no_split (piece_of line cut) whole) refl
+    )
+    ∙ sym (append_assoc (pieces_of line cuts) (piece_of line cut ∷ []) (words_of next))
+    ∙ ap (λ ws. ws ++ words_of next) (sym (map-append (piece_of line) cuts (cut ∷ [])))
 
-front_onto : (xs : List ℕ) (b : ℕ) (ws : List (List ℕ)) → with_front xs (onto_first b ws) ≡ with_front (xs ++ b ∷ []) ws
-front_onto xs b [] = refl
-front_onto xs b (w ∷ ws) = ap (λ v. v ∷ ws) (sym (append_assoc xs (b ∷ []) w))
+-- the line ends the last
+pub words_end : (line : List ℕ) (cuts : List Cut) (cut : Cut) → cut.until ≡ length line → All (λ b. b ≢ 32) (piece_of line cut)
+    → words_of line ≡ pieces_of line cuts ++ words_of (drop cut.from line)
+    → pieces_of line (cuts ++ cut ∷ []) ≡ words_of line
+words_end line cuts cut last whole all =
+    let rest : piece_of line cut ≡ drop cut.from line = take_all (cut.until - cut.from) (drop cut.from line) (omega (arith, length-drop cut.from line)) in
+    sym (all ∙ ap (λ ws. pieces_of line cuts ++ ws) (ap words_of (sym rest) ∙ slice_split_none (λ b. eqb b 32) (piece_of line cut) (no_split (piece_of line cut) whole))
+    ∙ sym (map-append (piece_of line) cuts (cut ∷ [])))
 
--- a byte of the word that is being read
-pub word_more : (line : List ℕ) (cuts : List (ℕ × ℕ)) (from i b : ℕ) → i < length line → from ≤ i → get_or line i 0 ≡ b → (eqb b 32 ≡ false)
-    → words_of line ≡ pieces_of line cuts ++ with_front (slice_range line from i) (words_of (drop i line))
-    → words_of line ≡ pieces_of line cuts ++ with_front (slice_range line from (i + 1)) (words_of (drop (i + 1) line))
-word_more line cuts from i b h order e other all =
-    let next : drop i line ≡ b ∷ drop (i + 1) line = drop-cons line i 0 h ∙ ap (λ x. x ∷ drop (suc i) line) e ∙ ap (λ k. b ∷ drop k line) (let f : suc i ≡ i + 1 = omega arith in f) in
-    let split : words_of (drop i line) ≡ onto_first b (words_of (drop (i + 1) line)) = ap words_of next ∙ slice_split-cons_no (λ x. eqb x 32) b (drop (i + 1) line) other in
-    all ∙ ap (λ ws. pieces_of line cuts ++ with_front (slice_range line from i) ws) split
-    ∙ ap (λ ws. pieces_of line cuts ++ ws) (front_onto (slice_range line from i) b (words_of (drop (i + 1) line))
-    ∙ ap (λ w. with_front w (words_of (drop (i + 1) line))) (sym (range_more line from i b h order e)))
-
--- a space ends it
-pub word_ends : (line : List ℕ) (cuts : List (ℕ × ℕ)) (from i b : ℕ) → i < length line → get_or line i 0 ≡ b → (eqb b 32 ≡ true)
-    → words_of line ≡ pieces_of line cuts ++ with_front (slice_range line from i) (words_of (drop i line))
-    → words_of line ≡ pieces_of line (cuts ++ (from, i) ∷ []) ++ with_front (slice_range line (i + 1) (i + 1)) (words_of (drop (i + 1) line))
-word_ends line cuts from i b h e space all =
-    let next : drop i line ≡ b ∷ drop (i + 1) line = drop-cons line i 0 h ∙ ap (λ x. x ∷ drop (suc i) line) e ∙ ap (λ k. b ∷ drop k line) (let f : suc i ≡ i + 1 = omega arith in f) in
-    let split : words_of (drop i line) ≡ [] ∷ words_of (drop (i + 1) line) = ap words_of next ∙ slice_split-cons_yes (λ x. eqb x 32) b (drop (i + 1) line) space in
-    let rest : List (List ℕ) = words_of (drop (i + 1) line) in
-    let some : with_front (slice_range line (i + 1) (i + 1)) rest ≡ rest =
-    ap (λ w. with_front w rest) (ap (λ k. take k (drop (i + 1) line)) (let f : i + 1 - (i + 1) ≡ 0 = omega arith in f)) ∙ front_nil rest (omega (arith, length-slice_split (λ x. eqb x 32) (drop (i + 1) line))) in
-    all ∙ ap (λ ws. pieces_of line cuts ++ with_front (slice_range line from i) ws) split
-    ∙ ap (λ w. pieces_of line cuts ++ (w ∷ rest)) (append-nil (slice_range line from i))
-    ∙ sym (append_assoc (pieces_of line cuts) (slice_range line from i ∷ []) rest)
-    ∙ ap (λ ws. ws ++ rest) (sym (map-append (piece_of line) cuts ((from, i) ∷ [])))
-    ∙ ap (λ ws. pieces_of line (cuts ++ (from, i) ∷ []) ++ ws) (sym some)
-
--- the line ends it
-pub words_end : (line : List ℕ) (cuts : List (ℕ × ℕ)) (from i : ℕ) → i ≡ length line
-    → words_of line ≡ pieces_of line cuts ++ with_front (slice_range line from i) (words_of (drop i line))
-    → pieces_of line (cuts ++ (from, length line) ∷ []) ≡ words_of line
-words_end line cuts from i e all =
-    let none : drop i line ≡ [] = drop_all i line (omega arith) in
-    sym (all ∙ ap (λ zs. pieces_of line cuts ++ with_front (slice_range line from i) (words_of zs)) none
-    ∙ ap (λ w. pieces_of line cuts ++ (w ∷ [])) (append-nil (slice_range line from i) ∙ ap (slice_range line from) e)
-    ∙ sym (map-append (piece_of line) cuts ((from, length line) ∷ [])))
-
-pub words_start : (line : List ℕ) → words_of line ≡ with_front [] (words_of line)
-words_start line = sym (front_nil (words_of line) (omega (arith, length-slice_split (λ x. eqb x 32) line)))
+-- digits are no spaces
+pub no_space : (line : List ℕ) (from count : ℕ) → all_ascii_digits (take count (drop from line)) ≡ true → All (λ b. b ≢ 32) (slice_range line from (from + count))
+no_space line from count h =
+    let e : from + count - from ≡ count = omega arith in
+    subst (λ n. All (λ b. b ≢ 32) (take n (drop from line))) (sym e) (no_digit_space (take count (drop from line)) h)

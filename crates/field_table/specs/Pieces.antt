@@ -1,14 +1,23 @@
 -- pieces of a line
-use Rattle.std.specs.Prelude.{◌≤◌, ℕ, List, map, slice_range}
+use Rattle.std.specs.Prelude.{◌≡◌, ◌≢◌, ◌≤◌, ℕ, ℤ, List, Option, FitsSigned, MatchOption, length, map, slice_range}
+use Rattle.std.specs.Int.{w64}
+use Rattle.std.specs.Fmt.{signed_decimal}
 use Rattle.crew_terms.specs.Words.{Words}
+use Rattle.field_table.specs.declared.cuts.Cut.{Cut}
 
--- the bytes from the first number of the pair to before the second
-abbrev pub piece_of : List ℕ → ℕ × ℕ → List ℕ
-piece_of line cut = slice_range line cut.0 cut.1
+-- the bytes of the line from the cut's first place to before its second
+abbrev pub piece_of : List ℕ → Cut → List ℕ
+piece_of line cut = slice_range line cut.from cut.until
 
-abbrev pub pieces_of : List ℕ → List (ℕ × ℕ) → Words
+abbrev pub pieces_of : List ℕ → List Cut → Words
 pieces_of line cuts = map (piece_of line) cuts
 
--- the piece lies in a line of n bytes
-abbrev pub LiesWithin : ℕ → ℕ × ℕ → Type 0
-LiesWithin n cut = (cut.0 ≤ cut.1) × (cut.1 ≤ n)
+-- the number is the one whose canonical decimal the word is; none where it is that of no number of 64 bits
+abbrev pub IsNumberOf : Option ℤ → List ℕ → Type 0
+IsNumberOf number word = MatchOption number ((z : ℤ) → FitsSigned w64 z → word ≢ signed_decimal z) (λ z. word ≡ signed_decimal z)
+
+-- a cut of this line: its piece lies in the line, and its number is the one that the piece spells
+pub record IsCutOf (line : List ℕ) (cut : Cut) : Type 0 where
+  pub order : cut.from ≤ cut.until
+  pub within : cut.until ≤ length line
+  pub number : IsNumberOf cut.number (piece_of line cut)

@@ -1,8 +1,12 @@
 // The words of a line.
-ghost use Rattle.std.specs.Prelude.{◌≡◌, ◌≤◌, ◌<◌, List, ℕ, Some, length, slice_get, vec_capacity, All};
+ghost use Rattle.std.specs.Prelude.{◌≡◌, ◌≢◌, ◌≤◌, ◌<◌, ◌+◌, ◌++◌, [], ◌∷◌, List, ℕ, ℤ, FitsSigned, Some, length, take, slice_get, slice_index, slice_index_or, vec_capacity, vec_len, All, IfSome, MatchOption};
+ghost use Rattle.std.specs.Int.{w64};
+ghost use Rattle.std.specs.Fmt.{signed_decimal};
 ghost use Rattle.crew_terms.specs.Words.{words_of};
-ghost use Rattle.field_table.specs.Pieces.{pieces_of, LiesWithin};
+ghost use Rattle.field_table.specs.Digits.{IsFrontNumber};
+ghost use Rattle.field_table.specs.Pieces.{piece_of, pieces_of, IsCutOf};
 
+use crate::numbers::{Digits, front_digits, read_number};
 use std::alloc::{AllocError, Global};
 use std::marker::Model;
 
@@ -22,13 +26,26 @@ pub trait Words {
     fn word(&self, n: usize) -> &[u8]
         requires { n < length (words self.now) }
         ensures { slice_get (words self.now) n ≡ Some result.now };
+
+    /// The number whose canonical decimal the word with this number is; None exactly where it is that of no i64.
+    fn number(&self, n: usize) -> Option<i64>
+        requires { n < length (words self.now) }
+        ensures exact { MatchOption result ((z : ℤ) → FitsSigned w64 z → slice_index_or (words self.now) n [] ≢ signed_decimal z) (λ z. slice_index_or (words self.now) n [] ≡ signed_decimal z) };
+}
+
+/// A word of a line: the place of its first byte, the place after its last, and the number that it spells, if any.
+#[derive(Clone, Copy)]
+struct Cut {
+    from: usize,
+    until: usize,
+    number: Option<i64>,
 }
 
 /// The words of one line, which borrow the line and the room for its cuts.
 #[derive(Drop)]
 pub struct LineWords<'a> {
     line: &'a [u8],
-    cuts: &'a [(usize, usize)],
+    cuts: &'a [Cut],
 }
 
 impl<'a> Model for LineWords<'a> {
@@ -52,15 +69,20 @@ impl<'a> Words for LineWords<'a> {
 
     fn word(&self, n: usize) -> &[u8] {
         let cuts = self.cuts;
-        let (from, until) = cuts[n];
-        &self.line[from..until]
+        let cut = cuts[n];
+        &self.line[cut.from..cut.until]
+    }
+
+    fn number(&self, n: usize) -> Option<i64> {
+        let cuts = self.cuts;
+        cuts[n].number
     }
 }
 
-/// Room for the words of one line.
+/// Room for the words of one line. The cuts that were once made are kept, and written over.
 #[derive(Drop)]
 pub struct Cuts {
-    cuts: Vec<(usize, usize)>,
+    cuts: Vec<Cut>,
     ghost room: { 131073 ≤ vec_capacity cuts },
 }
 
@@ -72,42 +94,113 @@ impl Cuts {
         })
     }
 
-    fn fill(&mut self, line: &[u8])
+    fn fill(&mut self, line: &[u8]) -> usize
         requires { length line.now ≤ 131072 }
-        ensures words { pieces_of line.now self.new.cuts.items ≡ words_of line.now }
-        ensures within { All (LiesWithin (length line.now)) self.new.cuts.items }
+        ensures count { result ≤ vec_len self.new.cuts }
+        ensures words { pieces_of line.now (take result self.new.cuts.items) ≡ words_of line.now }
+        ensures cuts { All (IsCutOf line.now) (take result self.new.cuts.items) }
     {
-        cut(&mut self.cuts, line);
+        cut_line(&mut self.cuts, line)
     }
 
-    /// Cuts a line of at most 131,072 bytes at each space; it takes no memory.
+    /// Cuts a line of at most 131,072 bytes at each space, and reads each word's number; it takes no memory.
     pub fn split<'a>(&'a mut self, line: &'a [u8]) -> LineWords<'a>
         requires { length line.now ≤ 131072 }
         ensures { result ≡ words_of line.now }
     {
-        self.fill(line);
+        let count = self.fill(line);
         LineWords {
             line,
-            cuts: &self.cuts,
+            cuts: &self.cuts[..count],
         }
     }
 }
 
-fn cut(cuts: &mut Vec<(usize, usize)>, line: &[u8])
+/// Puts the cut at this place, which is one of the cuts' or the first after them.
+fn put(cuts: &mut Vec<Cut>, place: usize, cut: Cut)
     requires room { 131073 ≤ vec_capacity cuts.old }
-    requires short { length line.now ≤ 131072 }
-    ensures words { pieces_of line.now cuts.new.items ≡ words_of line.now }
-    ensures within { All (LiesWithin (length line.now)) cuts.new.items }
+    requires place { place ≤ vec_len cuts.old }
+    requires short { place < 131073 }
+    ensures items { take (place + 1) cuts.new.items ≡ take place cuts.old.items ++ cut ∷ [] }
+    ensures count { place < vec_len cuts.new }
     ensures room { 131073 ≤ vec_capacity cuts.new }
 {
-    cuts.clear();
-    let mut from = 0;
-    for (i, b) in line.iter().enumerate() {
-        if *b != b' ' {
-            continue;
-        }
-        cuts.push((from, i)).unwrap();
-        from = i + 1;
+    match cuts.get_mut(place) {
+        Some(own) => *own = cut,
+        None => cuts.push(cut).unwrap(),
     }
-    cuts.push((from, line.len())).unwrap();
+}
+
+/// How many bytes stand before the first space, or all where there is none.
+fn count_to_space(bytes: &[u8]) -> usize
+    ensures within { result ≤ length bytes.now }
+    ensures whole { All (λ b. b ≢ 32) (take result bytes.now) }
+    ensures end { result < length bytes.now → slice_index bytes.now result ≡ 32 }
+{
+    for (i, b) in bytes.iter().enumerate() {
+        if *b == b' ' {
+            return i;
+        }
+    }
+    bytes.len()
+}
+
+/// The number of at most 18 digits at the front, and how many these are, where a space or the end follows its decimal.
+fn short_number(rest: &[u8]) -> Option<Digits>
+    ensures { IfSome result (λ front. IsFrontNumber rest.now front) }
+{
+    let front = front_digits(rest);
+    if front.count == 0 || front.count > 1 && rest[0] == b'0' {
+        return None;
+    }
+    if front.count < rest.len() && rest[front.count] != b' ' {
+        return None;
+    }
+    Some(front)
+}
+
+/// The word that begins at this place.
+fn cut_at(line: &[u8], from: usize) -> Cut
+    requires from { from ≤ length line.now }
+    ensures from { result.from ≡ from }
+    ensures cut { IsCutOf line.now result }
+    ensures whole { All (λ b. b ≢ 32) (piece_of line.now result) }
+    ensures end { result.until < length line.now → slice_index line.now result.until ≡ 32 }
+{
+    let rest = &line[from..];
+    if let Some(digits) = short_number(rest) {
+        return Cut {
+            from,
+            until: from + digits.count,
+            number: Some(digits.value as i64),
+        };
+    }
+    let word = &rest[..count_to_space(rest)];
+    Cut {
+        from,
+        until: from + word.len(),
+        number: read_number(word),
+    }
+}
+
+/// Cuts a line at each space, and gives how many words it has.
+fn cut_line(cuts: &mut Vec<Cut>, line: &[u8]) -> usize
+    requires room { 131073 ≤ vec_capacity cuts.old }
+    requires short { length line.now ≤ 131072 }
+    ensures count { result ≤ vec_len cuts.new }
+    ensures words { pieces_of line.now (take result cuts.new.items) ≡ words_of line.now }
+    ensures cuts { All (IsCutOf line.now) (take result cuts.new.items) }
+    ensures room { 131073 ≤ vec_capacity cuts.new }
+{
+    let mut from = 0;
+    let mut count = 0;
+    loop {
+        let cut = cut_at(line, from);
+        put(cuts, count, cut);
+        count += 1;
+        if cut.until == line.len() {
+            return count;
+        }
+        from = cut.until + 1;
+    }
 }

@@ -5,7 +5,6 @@ ghost use Rattle.field_table.specs.Schemas.{FindsFirst};
 
 use crate::clocks::read_clock;
 use crate::cuts::Words;
-use crate::numbers::read_number;
 use crew_terms::Name;
 
 /// What a word of a field spells.
@@ -58,26 +57,28 @@ pub struct Schema {
     pub keys: &'static [&'static str],
 }
 
-/// What a word spells as a field of this kind.
-fn read_as(kind: Kind, word: &[u8]) -> Option<i64>
-    ensures { MatchOption result ((z : ℤ) → Spells kind word.now z → ⊥) (λ z. Spells kind word.now z) }
+/// What the word at a place spells as a field of this kind.
+fn read_as<W: Words>(kind: Kind, words: &W, place: usize) -> Option<i64>
+    requires { place < length (W.words words.now) }
+    ensures { MatchOption result ((z : ℤ) → Spells kind (slice_index_or (W.words words.now) place []) z → ⊥) (λ z. Spells kind (slice_index_or (W.words words.now) place []) z) }
 {
     match kind {
-        Kind::Number => read_number(word),
-        Kind::Clock => read_clock(word),
+        Kind::Number => words.number(place),
+        Kind::Clock => read_clock(words.word(place)),
         Kind::Name => {
-            let name = Name::read(word)?;
+            let name = Name::read(words.word(place))?;
             Some(name.bytes().len() as i64)
         }
     }
 }
 
 impl Field {
-    /// The number that the field accepts the word as, or why it refuses it.
-    fn read(&self, word: &[u8]) -> Result<i64, Cause>
-        ensures { MatchResult result (λ z. Accepts self.now word.now z) (λ cause. Refuses self.now word.now cause) }
+    /// The number that the field accepts the word at a place as, or why it refuses it.
+    fn read<W: Words>(&self, words: &W, place: usize) -> Result<i64, Cause>
+        requires { place < length (W.words words.now) }
+        ensures { MatchResult result (λ z. Accepts self.now (slice_index_or (W.words words.now) place []) z) (λ cause. Refuses self.now (slice_index_or (W.words words.now) place []) cause) }
     {
-        let Some(value) = read_as(self.kind, word) else {
+        let Some(value) = read_as(self.kind, words, place) else {
             return Err(Cause::Spelling);
         };
         if value < self.low || value > self.high {
@@ -94,7 +95,7 @@ pub fn read_at<W: Words>(words: &W, place: usize, field: &Field) -> Result<i64, 
     ensures exact { ReadsWord field.now (slice_index_or (W.words words.now) place []) place result }
     ensures back { (z : ℤ) → Accepts field.now (slice_index_or (W.words words.now) place []) z → result ≡ Ok z }
 {
-    match field.read(words.word(place)) {
+    match field.read(words, place) {
         Ok(value) => Ok(value),
         Err(cause) => Err(FieldFault { place, cause }),
     }

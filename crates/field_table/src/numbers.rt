@@ -1,21 +1,53 @@
 // Numbers and their canonical decimals.
-ghost use Rattle.std.specs.Prelude.{suc, negsuc, ◌≡◌, ◌≢◌, ◌≤◌, ◌<◌, ◌^◌, ℕ, ℤ, FitsSigned, Some, length, take, drop, MatchOption};
+ghost use Rattle.std.specs.Prelude.{suc, negsuc, ◌≡◌, ◌≢◌, ◌≤◌, ◌<◌, ◌^◌, ℕ, ℤ, FitsSigned, Some, length, take, drop, slice_index, MatchOption};
 ghost use Rattle.std.specs.Int.{w64};
 ghost use Rattle.std.specs.Fmt.{decimal, signed_decimal};
+ghost use Rattle.field_table.specs.Digits.{AreFrontDigits};
 
 use itoa::Buffer;
 
-/// The number up to `most` whose decimal the bytes are.
-fn read_digits(bytes: &[u8], most: u64) -> Option<u64>
-    requires { most ≤ 2 ^ 63 }
+/// The most digits whose number is read without a look at its size.
+const SHORT: usize = 18;
+
+/// Digits at the front of some bytes: how many they are, and the number that they are.
+#[derive(Clone, Copy)]
+pub(crate) struct Digits {
+    pub(crate) count: usize,
+    pub(crate) value: u64,
+}
+
+/// The digits at the front of at most 18 bytes, up to the first byte that is none.
+fn short_digits(bytes: &[u8]) -> Digits
+    requires { length bytes.now ≤ 18 }
+    ensures { AreFrontDigits bytes.now (length bytes.now) result }
+{
+    let mut value = 0u64;
+    for (count, b) in bytes.iter().enumerate() {
+        if !b.is_ascii_digit() {
+            return Digits { count, value };
+        }
+        value = 10 * value + (*b - b'0') as u64;
+    }
+    Digits {
+        count: bytes.len(),
+        value,
+    }
+}
+
+/// The digits at the front, 18 of them at most.
+pub(crate) fn front_digits(bytes: &[u8]) -> Digits
+    ensures { AreFrontDigits bytes.now 18 result }
+{
+    short_digits(&bytes[..bytes.len().min(SHORT)])
+}
+
+/// The number up to `most` whose decimal the digits are, which don't begin with 0 unless they are one.
+fn read_long(bytes: &[u8], most: u64) -> Option<u64>
+    requires most { most ≤ 2 ^ 63 }
+    requires some { 0 < length bytes.now }
+    requires plain { slice_index bytes.now 0 ≡ 48 → length bytes.now ≡ 1 }
     ensures { MatchOption result ((n : ℕ) → n ≤ most → bytes.now ≢ decimal n) (λ n. (n ≤ most) × (bytes.now ≡ decimal n)) }
 {
-    if bytes.is_empty() {
-        return None;
-    }
-    if bytes[0] == b'0' && bytes.len() > 1 {
-        return None;
-    }
     let mut n = 0u64;
     for b in bytes {
         if !b.is_ascii_digit() {
@@ -28,6 +60,28 @@ fn read_digits(bytes: &[u8], most: u64) -> Option<u64>
         n = more as u64;
     }
     Some(n)
+}
+
+/// The number up to `most` whose decimal the bytes are.
+fn read_digits(bytes: &[u8], most: u64) -> Option<u64>
+    requires least { 10 ^ 18 ≤ most }
+    requires most { most ≤ 2 ^ 63 }
+    ensures { MatchOption result ((n : ℕ) → n ≤ most → bytes.now ≢ decimal n) (λ n. (n ≤ most) × (bytes.now ≡ decimal n)) }
+{
+    if bytes.is_empty() {
+        return None;
+    }
+    if bytes[0] == b'0' && bytes.len() > 1 {
+        return None;
+    }
+    let front = front_digits(bytes);
+    if front.count == bytes.len() {
+        return Some(front.value);
+    }
+    if front.count < SHORT {
+        return None;
+    }
+    read_long(bytes, most)
 }
 
 /// The number below 0 whose decimal is `-` and these bytes.

@@ -19,6 +19,29 @@ fn cuts_at_each_space(rt: HostRuntime) -> Result<(), Fail> {
 }
 
 #[test]
+fn reads_each_words_number(rt: HostRuntime) -> Result<(), Fail> {
+    let mut cuts = Cuts::new(rt.alloc())?;
+    let words = cuts.split(
+        b"size 4 -70 007 9x  999999999999999999 9223372036854775807 9223372036854775808",
+    );
+    assert_eq!(rt; words.count(), 9);
+    assert_eq!(rt; words.number(0), None);
+    assert_eq!(rt; words.number(1), Some(4));
+    assert_eq!(rt; words.number(2), Some(-70));
+    assert_eq!(rt; words.number(3), None);
+    assert_eq!(rt; words.number(4), None);
+    assert_eq!(rt; words.number(5), None);
+    assert_eq!(rt; words.number(6), Some(999_999_999_999_999_999));
+    assert_eq!(rt; words.number(7), Some(i64::MAX));
+    assert_eq!(rt; words.number(8), None);
+    let words = cuts.split(b"0 -0");
+    assert_eq!(rt; words.count(), 2);
+    assert_eq!(rt; words.number(0), Some(0));
+    assert_eq!(rt; words.number(1), None);
+    Ok(())
+}
+
+#[test]
 fn reads_numbers(rt: HostRuntime) {
     assert_eq!(rt; read_number(b"0"), Some(0));
     assert_eq!(rt; read_number(b"-1"), Some(-1));

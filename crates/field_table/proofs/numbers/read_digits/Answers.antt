@@ -1,39 +1,19 @@
-use Rattle.std.proofs.Common.{◌≡◌, ◌<◌, ◌+◌, arith, length, take, true, subst}
-use Rattle.std.proofs.lemmas.List.{take_all}
-use Rattle.field_table.proofs.Digits.{not_empty, not_zero, not_digit, not_more, decimal_read, digits_more, value_more}
-use Rattle.std.specs.Str.{all_ascii_digits}
-use Rattle.field_table.proofs.Digits.{read_on}
+use Rattle.std.proofs.Common.{◌<◌, arith, length}
+use Rattle.field_table.proofs.Digits.{not_empty, not_zero, not_digit}
 use Rattle.field_table.proofs.numbers.read_digits.Goals as goal
-use Rattle.field_table.proofs.numbers.read_digits.Goals.{else-bytes-eq48-via-then-bytes-eq48+else-bytes-gt1, else-bytes-eq48-via-else-bytes-eq48}
 
 pub returns-then-is_empty : goal.returns-then-is_empty
-returns-then-is_empty c = λ m le. not_empty c.args.bytes.now m (grind arith) (omega arith)
+returns-then-is_empty c = λ m le. let t = c.requires.most in not_empty c.args.bytes.now m (grind arith) (omega arith)
 
 pub returns-then-bytes-gt1 : goal.returns-then-bytes-gt1
-returns-then-bytes-gt1 c = λ m le. not_zero c.args.bytes.now m c.if-bytes-eq48.true c.if-bytes-gt1.true (omega arith)
+returns-then-bytes-gt1 c = λ m le. let t = c.requires.most in not_zero c.args.bytes.now m c.if-bytes-eq48.true c.if-bytes-gt1.true (omega arith)
 
-pub returns-then-not-is_ascii_digit : goal.returns-then-not-is_ascii_digit
-returns-then-not-is_ascii_digit c = λ m le. not_digit c.args.bytes.now c.loop-b.b-index m c.loop-b-test.true (grind arith) (omega arith)
-
-pub returns-then-more-most : goal.returns-then-more-most
-returns-then-more-most c = λ m le.
-    let v = value_more c.args.bytes.now c.loop-b.b-index c.loop-b.n c.loop-b-test.true c.loop-b.invariant.value in
-    let t = c.if-more-most.true in
-    not_more c.args.bytes.now (c.loop-b.b-index + 1) m c.args.most (omega arith) le (omega arith)
-
-pub loop-b-preserved : goal.loop-b-preserved
-loop-b-preserved c = record {
-  small = omega arith;
-  value = value_more c.args.bytes.now c.loop-b.b-index c.loop-b.n c.loop-b-test.true c.loop-b.invariant.value;
-  digits = digits_more c.args.bytes.now c.loop-b.b-index c.loop-b-test.true c.loop-b.invariant.digits (grind arith);
-}
-
-pub returns : goal.returns
-returns c =
-    let all : take c.loop-b.b-index c.args.bytes.now ≡ c.args.bytes.now = take_all c.loop-b.b-index c.args.bytes.now (let t = c.loop-b-test.false in omega arith) in
-    let some : 0 < length c.args.bytes.now = grind arith in (
-      c.loop-b.invariant.small,
-      decimal_read c.args.bytes.now c.loop-b.n (subst (λ w. all_ascii_digits w ≡ true) all c.loop-b.invariant.digits) (grind arith)
-          (λ e. elim c.else-bytes-eq48.branch [ else-bytes-eq48-via-then-bytes-eq48+else-bytes-gt1 w ↦ (let l = w.if-bytes-gt1.false in let p : 0 < length c.args.bytes.now = some in omega arith) | else-bytes-eq48-via-else-bytes-eq48 w ↦ absurd (w.if-bytes-eq48.false e) ])
-          (subst (λ w. read_on 0 w ≡ c.loop-b.n) all c.loop-b.invariant.value) (omega arith),
-    )
+pub returns-then-front-lt-SHORT : goal.returns-then-front-lt-SHORT
+returns-then-front-lt-SHORT c = λ n le.
+    let front = c.front_digits-front.result in
+    let other = c.if-front-bytes.false in
+    let few = c.if-front-lt-SHORT.true in
+    let within = c.front_digits-front.ensures.within in
+    let most = c.requires.most in
+    let short : front.count < length c.args.bytes.now = omega arith in
+    not_digit c.args.bytes.now front.count n short (c.front_digits-front.ensures.end short few) (omega arith)

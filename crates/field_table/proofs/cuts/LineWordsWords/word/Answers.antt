@@ -1,4 +1,4 @@
-use Rattle.std.proofs.Common.{arith, ap, sym, ◌∙◌, length}
+use Rattle.std.proofs.Common.{arith, ap, sym, ◌∙◌, length, None}
 use Rattle.std.specs.Prelude.{slice_get}
 use Rattle.std.specs.Option.{option_map}
 use Rattle.std.proofs.lemmas.List.{length-map}
@@ -11,4 +11,4 @@ returns c =
     let line = c.self.inside.line.now in
     let cuts = c.self.inside.cuts.now in
     ap (λ ws. slice_get ws c.args.n) (sym c.self.view_is) ∙ slice_get-map (piece_of line) cuts c.args.n
-    ∙ ap (option_map (piece_of line)) (slice_get-get_or cuts c.args.n (0, 0) (let r = c.requires in let v = ap length c.self.view_is in let l = length-map cuts (piece_of line) in omega arith))
+    ∙ ap (option_map (piece_of line)) (slice_get-get_or cuts c.args.n (record { from = 0; until = 0; number = None }) (let r = c.requires in let v = ap length c.self.view_is in let l = length-map cuts (piece_of line) in omega arith))

@@ -1,7 +1,7 @@
 use Rattle.std.proofs.Common.{◌≡◌, ◌≤◌, take, true}
 use Rattle.std.specs.Str.{all_ascii_digits}
 use Rattle.field_table.proofs.Digits.{read_on}
-use Rattle.field_table.proofs.numbers.read_digits.Given as goal
+use Rattle.field_table.proofs.numbers.read_long.Given as goal
 
 abbrev pub invariant-loop-b : goal.invariant-loop-b
 invariant-loop-b l = record {
