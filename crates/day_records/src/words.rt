@@ -3,7 +3,7 @@ ghost use Rattle.std.specs.Prelude.{◌≡◌};
 ghost use Rattle.csv.specs.Records.{fields_of};
 
 use csv::ByteRecord;
-use field_table::Words;
+use field_table::{Words, read_number};
 use std::marker::Model;
 
 /// The fields of a record that csv gives, as words; it borrows the record.
@@ -40,5 +40,9 @@ impl<'a> Words for RecordWords<'a> {
 
     fn word(&self, n: usize) -> &[u8] {
         self.row.get(n).unwrap()
+    }
+
+    fn number(&self, n: usize) -> Option<i64> {
+        read_number(self.word(n))
     }
 }

@@ -1,8 +1,11 @@
 // The words of a line.
-ghost use Rattle.std.specs.Prelude.{◌≡◌, ◌≤◌, ◌<◌, List, ℕ, Some, length, slice_get, vec_capacity, All};
+ghost use Rattle.std.specs.Prelude.{◌≡◌, ◌≢◌, ◌≤◌, ◌<◌, [], List, ℕ, ℤ, Some, FitsSigned, length, slice_get, slice_index_or, vec_capacity, All, MatchOption};
+ghost use Rattle.std.specs.Int.{w64};
+ghost use Rattle.std.specs.Fmt.{signed_decimal};
 ghost use Rattle.crew_terms.specs.Words.{words_of};
 ghost use Rattle.field_table.specs.Pieces.{pieces_of, LiesWithin};
 
+use crate::numbers::read_number;
 use std::alloc::{AllocError, Global};
 use std::marker::Model;
 
@@ -22,6 +25,11 @@ pub trait Words {
     fn word(&self, n: usize) -> &[u8]
         requires { n < length (words self.now) }
         ensures { slice_get (words self.now) n ≡ Some result.now };
+
+    /// The number whose canonical decimal the word with this number is; None exactly where it is that of no i64.
+    fn number(&self, n: usize) -> Option<i64>
+        requires { n < length (words self.now) }
+        ensures exact { MatchOption result ((z : ℤ) → FitsSigned w64 z → slice_index_or (words self.now) n [] ≢ signed_decimal z) (λ z. slice_index_or (words self.now) n [] ≡ signed_decimal z) };
 }
 
 /// The words of one line, which borrow the line and the room for its cuts.
@@ -54,6 +62,10 @@ impl<'a> Words for LineWords<'a> {
         let cuts = self.cuts;
         let (from, until) = cuts[n];
         &self.line[from..until]
+    }
+
+    fn number(&self, n: usize) -> Option<i64> {
+        read_number(self.word(n))
     }
 }
 
