@@ -1,10 +1,10 @@
 -- lists of numbers and of the words that spell them
-use Rattle.std.proofs.Common.{◌≡◌, ◌<◌, ◌^◌, ◌+ℤ◌, [], ◌∷◌, ℕ, zero, suc, ℤ, pos, negsuc, List, Result, Ok, Err, length, map, get_or, ap, sym, refl, ◌∙◌, subst, arith}
+use Rattle.std.proofs.Common.{◌≡◌, ◌<◌, ◌^◌, ◌+ℤ◌, ◌≤ℤ◌, [], ◌∷◌, ℕ, zero, suc, ℤ, pos, negsuc, List, Result, Ok, Err, length, map, get_or, ap, sym, refl, ◌∙◌, subst, arith}
 use Rattle.std.proofs.lemmas.Int.{ints}
 use Rattle.std.specs.Prelude.{FitsSigned, MatchResult}
 use Rattle.std.specs.Int.{w64}
 use Rattle.std.specs.List.{AllByRecursion}
-use Rattle.std.specs.Fmt.{signed_decimal}
+use Rattle.std.specs.Fmt.{decimal, signed_decimal}
 use Rattle.crew_terms.specs.Words.{Words}
 use Rattle.field_table.specs.Fields.{Spells, Accepts}
 use Rattle.field_table.specs.declared.fields.Kind.{Kind}
@@ -14,7 +14,7 @@ use Rattle.cert_format.specs.declared.kinds.LineFault.{LineFault}
 use Rattle.cert_format.specs.declared.kinds.LineFault.TheVariants.{Number as BadNumber}
 use Rattle.cert_format.specs.Fields.{IsIn, SpellIn, SpellBelow}
 use Rattle.cert_format.proofs.Rests.{signed_map}
-use Rattle.cert_format.proofs.Accepted.{number_field}
+use Rattle.cert_format.proofs.Accepted.{cast, number_field, number_read}
 
 -- the word spells a number in the field's range
 abbrev pub SpellsOne : Field → List ℕ → Type 0
@@ -36,10 +36,10 @@ spelled_all field (w ∷ ws) h =
 pub accepted : (field : Field) (w : List ℕ) (n : ℤ) → field.kind ≡ Number → IsIn field n → w ≡ signed_decimal n → Accepts field w n
 accepted field w n kind is e = record { spelled = subst (λ (k : Kind). Spells k w n) (sym kind) (is.fits, e); low = is.low; high = is.high }
 
-pub read_one : (field : Field) (w : List ℕ) (n : ℤ) → field.kind ≡ Number → Accepts field w n → SpellsOne field w
-read_one field w n kind a =
-    let s : Spells Number w n = subst (λ (k : Kind). Spells k w n) kind a.spelled in
-    (n, record { fits = s.0; low = a.low; high = a.high }, s.1)
+-- a number from 0 on that a word spells
+pub number_spelled : (field : Field) (w : List ℕ) → field.kind ≡ Number → pos 0 ≤ℤ field.low → (s : SpellsOne field w)
+    → (field.low ≤ℤ pos (cast s.0)) × (pos (cast s.0) ≤ℤ field.high) × (cast s.0 < 2 ^ 63) × (w ≡ decimal (cast s.0))
+number_spelled field w kind low s = number_read field w s.0 kind low (accepted field w s.0 kind s.1 s.2)
 
 pub each_fits : (field : Field) (ns : List ℤ) → AllByRecursion (IsIn field) ns → AllByRecursion (FitsSigned w64) ns
 each_fits field [] all = tt

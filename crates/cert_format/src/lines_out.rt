@@ -1,11 +1,19 @@
 // Lines out.
-ghost use Rattle.std.specs.Prelude.{◌≡◌, ◌≤◌, map, OnOk, OnErr, IsErr};
+ghost use Rattle.std.specs.Prelude.{◌≡◌, ◌≤◌, ◌++◌, [], map, OnOk, OnErr, IsErr};
 ghost use Rattle.crew_io.specs.Io.{Rose, Appended, AppendedPart};
 ghost use Rattle.crew_terms.specs.Words.{line_text};
 ghost use Rattle.cert_format.specs.Parts.{text_of};
 
+use arrayvec::ArrayVec;
 use crew_io::sink::{Sink, WriteFault, put_all};
 use itoa::Buffer;
+
+/// A line that is short enough to be put at once.
+type ShortLine = ArrayVec<u8, 128>;
+
+/// A line is longer than that.
+#[derive(Clone, Copy)]
+struct Longer;
 
 /// A word of a line that is written: its bytes, or the number whose decimal it is.
 #[derive(Clone, Copy, Debug)]
@@ -25,6 +33,43 @@ impl Default for Part<'_> {
     }
 }
 
+/// Adds the bytes to a short line, where they fit.
+fn add(line: &mut ShortLine, bytes: &[u8]) -> Result<(), Longer>
+    ensures { OnOk result (line.new.items ≡ line.old.items ++ bytes.now) }
+{
+    match line.try_extend_from_slice(bytes) {
+        Ok(()) => Ok(()),
+        Err(_) => Err(Longer),
+    }
+}
+
+/// Adds the word that a part is to a short line, where it fits.
+fn add_part(line: &mut ShortLine, part: &Part<'_>) -> Result<(), Longer>
+    ensures { OnOk result (line.new.items ≡ line.old.items ++ text_of part.now) }
+{
+    match part {
+        Part::Word(word) => add(line, word),
+        Part::Number(n) => {
+            let mut buffer = Buffer::new();
+            add(line, buffer.format(*n).as_bytes())
+        }
+    }
+}
+
+/// Makes an empty short line the line of these parts with its LF, where it fits.
+fn gather(line: &mut ShortLine, parts: &[Part<'_>]) -> Result<(), Longer>
+    requires { line.old.items ≡ [] }
+    ensures { OnOk result (line.new.items ≡ line_text (map text_of parts.now)) }
+{
+    let mut between = b"".as_slice();
+    for part in parts {
+        add(line, between)?;
+        add_part(line, part)?;
+        between = b" ".as_slice();
+    }
+    add(line, b"\n")
+}
+
 fn put_part<K: Sink>(out: &mut K, part: &Part<'_>) -> Result<(), WriteFault>
     ensures all { OnOk result (Appended (K.got out.old) (K.got out.new) (text_of part.now)) }
     ensures part { OnErr result (AppendedPart (K.got out.old) (K.got out.new) (text_of part.now)) }
@@ -41,9 +86,8 @@ fn put_part<K: Sink>(out: &mut K, part: &Part<'_>) -> Result<(), WriteFault>
     }
 }
 
-/// Writes a line of these parts with its LF; it takes no memory. After a fault, a front of the line was
-/// written.
-pub fn put_line<K: Sink>(out: &mut K, parts: &[Part<'_>]) -> Result<(), WriteFault>
+/// Writes a line of any length, a word at a time.
+fn put_long<K: Sink>(out: &mut K, parts: &[Part<'_>]) -> Result<(), WriteFault>
     ensures all { OnOk result (Appended (K.got out.old) (K.got out.new) (line_text (map text_of parts.now))) }
     ensures part { OnErr result (AppendedPart (K.got out.old) (K.got out.new) (line_text (map text_of parts.now))) }
     ensures later { K.faults out.old ≤ K.faults out.new }
@@ -57,4 +101,20 @@ pub fn put_line<K: Sink>(out: &mut K, parts: &[Part<'_>]) -> Result<(), WriteFau
         before = b" ".as_slice();
     }
     put_all(out, b"\n")
+}
+
+/// Writes a line of these parts with its LF; it takes no memory. After a fault, a front of the line was
+/// written.
+pub fn put_line<K: Sink>(out: &mut K, parts: &[Part<'_>]) -> Result<(), WriteFault>
+    ensures all { OnOk result (Appended (K.got out.old) (K.got out.new) (line_text (map text_of parts.now))) }
+    ensures part { OnErr result (AppendedPart (K.got out.old) (K.got out.new) (line_text (map text_of parts.now))) }
+    ensures later { K.faults out.old ≤ K.faults out.new }
+    ensures cause { IsErr result → Rose (K.faults out.old) (K.faults out.new) }
+    ensures steady { K.steady out.old → K.steady out.new × (IsErr result → K.full out.new) }
+{
+    let mut line = ShortLine::new();
+    match gather(&mut line, parts) {
+        Ok(()) => put_all(out, &line),
+        Err(Longer) => put_long(out, parts),
+    }
 }

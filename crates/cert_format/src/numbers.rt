@@ -1,12 +1,13 @@
 // Numbers in the words of a line.
-ghost use Rattle.std.specs.Prelude.{◌≡◌, ◌≤◌, ◌<◌, ◌+◌, ◌*◌, ℕ, ℤ, List, pos, length, drop, map, slice_index_or, MatchBool, MatchResult};
+ghost use Rattle.std.specs.Prelude.{◌≡◌, ◌≢◌, ◌≤◌, ◌<◌, ◌+◌, ◌*◌, [], ℕ, ℤ, List, pos, length, drop, map, slice_index_or, MatchBool, MatchResult};
+ghost use Rattle.std.specs.Fmt.{signed_decimal};
 ghost use Rattle.std.specs.List.{flat_map};
 ghost use Rattle.crew_terms.specs.declared.Visit.{Visit};
-ghost use Rattle.cert_format.specs.Fields.{SpellIn, SpellBelow, SpellVisits, visit_numbers};
+ghost use Rattle.cert_format.specs.Fields.{IsIn, SpellIn, SpellBelow, SpellVisits, visit_numbers};
 
 use crate::kinds::LineFault;
 use crate::ranges::MINUTE;
-use field_table::{Field, Kind, LineWords, Words, field, read_at, read_number};
+use field_table::{Field, Kind, LineWords, Words, field};
 use std::marker::Model;
 
 /// The numbers at the end of a line, in its order; it borrows the line.
@@ -42,20 +43,33 @@ impl<'a> Rest<'a> {
         requires { n < length self.now }
         ensures { result ≡ slice_index_or self.now n (pos 0) }
     {
-        read_number(self.words.word(self.from + n)).unwrap()
+        self.words.number(self.from + n).unwrap()
     }
+}
+
+/// Whether the word with this number is the decimal of a number in a field's range.
+fn is_in(words: &LineWords<'_>, n: usize, field: &Field) -> bool
+    requires { n < length words.now }
+    ensures { MatchBool result ((z : ℤ) × IsIn field.now z × (slice_index_or words.now n [] ≡ signed_decimal z)) ((z : ℤ) → IsIn field.now z → slice_index_or words.now n [] ≢ signed_decimal z) }
+{
+    let Some(z) = words.number(n) else {
+        return false;
+    };
+    if z < field.low || z > field.high {
+        return false;
+    }
+    true
 }
 
 /// Whether the words from a place on are the decimals of numbers in a field's range.
 fn are_in(words: &LineWords<'_>, from: usize, field: &Field) -> bool
-    requires numbers { field.now.kind ≡ Kind.Number }
-    requires within { from ≤ length words.now }
+    requires { from ≤ length words.now }
     ensures { MatchBool result ((ns : List ℤ) × SpellIn field.now ns (drop from words.now)) ((ns : List ℤ) → SpellIn field.now ns (drop from words.now) → ⊥) }
 {
     for n in from..words.count() {
-        let Ok(_) = read_at(words, n, field) else {
+        if !is_in(words, n, field) {
             return false;
-        };
+        }
     }
     true
 }
@@ -101,12 +115,12 @@ fn are_visits(words: &LineWords<'_>, from: usize, tasks: u32) -> bool
     let task = field!(Number(0, last));
     let pairs = (words.count() - from) / 2;
     for n in 0..pairs {
-        let Ok(_) = read_at(words, from + 2 * n, &task) else {
+        if !is_in(words, from + 2 * n, &task) {
             return false;
-        };
-        let Ok(_) = read_at(words, from + 2 * n + 1, &MINUTE) else {
+        }
+        if !is_in(words, from + 2 * n + 1, &MINUTE) {
             return false;
-        };
+        }
     }
     true
 }

@@ -1,18 +1,44 @@
 // The first word of a line, and how many words it has.
 ghost use Rattle.std.specs.Prelude.{◌≡◌, ◌≢◌, ◌<◌, [], length, slice_index_or, MatchBool};
+ghost use Rattle.std.specs.Fmt.{decimal};
 ghost use Rattle.dossier_terms.specs.Rules.{IsShape, IsShapeFrom, Begins};
 ghost use Rattle.dossier_terms.specs.Table.{IsPairs};
 ghost use Rattle.cert_format.specs.Fields.{IsRowOf};
 
 use field_table::{LineWords, Words};
-use itoa::Buffer;
+
+/// Whether two short texts are the same, byte by byte.
+fn is_same(word: &[u8], text: &[u8]) -> bool
+    ensures { MatchBool result (word.now ≡ text.now) (word.now ≢ text.now) }
+{
+    if word.len() != text.len() {
+        return false;
+    }
+    for (i, b) in word.iter().enumerate() {
+        if *b != text[i] {
+            return false;
+        }
+    }
+    true
+}
 
 /// Whether the word with this number is the text.
 pub(crate) fn is_word(words: &LineWords<'_>, n: usize, text: &[u8]) -> bool
     requires { n < length words.now }
     ensures { MatchBool result (slice_index_or words.now n [] ≡ text.now) (slice_index_or words.now n [] ≢ text.now) }
 {
-    words.word(n) == text
+    is_same(words.word(n), text)
+}
+
+/// Whether the word with this number is the decimal of the number.
+fn is_number(words: &LineWords<'_>, n: usize, number: u32) -> bool
+    requires { n < length words.now }
+    ensures { MatchBool result (slice_index_or words.now n [] ≡ decimal number) (slice_index_or words.now n [] ≢ decimal number) }
+{
+    let Some(z) = words.number(n) else {
+        return false;
+    };
+    z == number as i64
 }
 
 /// Whether the line begins with the word.
@@ -66,6 +92,5 @@ pub(crate) fn has_row(words: &LineWords<'_>, first: &[u8], task: u32, after: u32
     if !has_shape(words, first, after as usize + 1) {
         return false;
     }
-    let mut buffer = Buffer::new();
-    is_word(words, 1, buffer.format(task).as_bytes())
+    is_number(words, 1, task)
 }

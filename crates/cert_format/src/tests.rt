@@ -219,6 +219,20 @@ fn writes_a_line(rt: HostRuntime) -> Result<(), Fail> {
 }
 
 #[test]
+fn writes_a_long_line(rt: HostRuntime) -> Result<(), Fail> {
+    let parts = [Part::Number(1_000_000_000_000_000_000); 7];
+    let line =
+        b"1000000000000000000 1000000000000000000 1000000000000000000 1000000000000000000 1000000000000000000 1000000000000000000 1000000000000000000\n".as_slice();
+    let mut out = MemSink::new(rt.alloc(), 200, 50, Vec::new(rt.alloc()))?;
+    assert_eq!(rt; put_line(&mut out, &parts), Ok(()));
+    assert!(rt; out.got() == line);
+    let mut out = MemSink::new(rt.alloc(), 130, 50, Vec::new(rt.alloc()))?;
+    assert_eq!(rt; put_line(&mut out, &parts), Err(WriteFault));
+    assert!(rt; out.got() == &line[..130]);
+    Ok(())
+}
+
+#[test]
 fn tells_a_fault_in_midline(rt: HostRuntime) -> Result<(), Fail> {
     let mut out = MemSink::new(rt.alloc(), 6, 3, Vec::new(rt.alloc()))?;
     let parts = [Part::Word(b"size"), Part::Number(1), Part::Number(400)];

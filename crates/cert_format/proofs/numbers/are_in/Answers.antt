@@ -1,12 +1,12 @@
-use Rattle.std.proofs.Common.{◌≡◌, ◌<◌, ◌+◌, ◌-◌, [], Ok, Err, length, drop, get_or, ap, sym, ◌∙◌, arith, length-drop, inl, inr}
+use Rattle.std.proofs.Common.{◌≡◌, ◌<◌, ◌+◌, ◌-◌, [], length, drop, get_or, ap, sym, ◌∙◌, arith, length-drop, inl, inr}
 use Rattle.std.proofs.lemmas.Bool.{cases_eq}
 use Rattle.std.specs.Fmt.{signed_decimal}
 use Rattle.std.proofs.lemmas.List.{length-map, get_or-drop}
-use Rattle.cert_format.proofs.Fields.{spelled_at, spelled_all, accepted, read_one}
+use Rattle.cert_format.proofs.Fields.{spelled_at, spelled_all}
 use Rattle.cert_format.proofs.numbers.are_in.Goals as goal
 
-pub returns-in_default : goal.returns-in_default
-returns-in_default c = λ ns s.
+pub returns-then-not-is_in : goal.returns-then-not-is_in
+returns-then-not-is_in c = λ ns s.
     let ws = c.args.words.now in
     let k = c.loop-n.n - c.args.from in
     let from = c.loop-n.auto.n in
@@ -17,16 +17,12 @@ returns-in_default c = λ ns s.
     let back : c.args.from + k ≡ c.loop-n.n = omega arith in
     let word : get_or ws c.loop-n.n [] ≡ signed_decimal at.0 =
     ap (λ m. get_or ws m []) (sym back) ∙ sym (get_or-drop c.args.from ws k []) ∙ ap (λ vs. get_or vs k []) s.spelled ∙ at.2 in
-    let told : Err c.in_default.field-0 ≡ Ok at.0 = c.in_default.ensures.back at.0 (accepted c.args.field.now (get_or ws c.loop-n.n []) at.0 c.requires.numbers at.1 word) in
-    cc
+    c.if-not-is_in.ensures at.0 at.1 word
 
 pub loop-n-preserved : goal.loop-n-preserved
 loop-n-preserved c = λ k low high.
     elim (cases_eq k c.loop-n.n) [
-      | inl same ↦ (
-          let h = read_one c.args.field.now (get_or c.args.words.now c.loop-n.n []) c.in-Ok.field-0 c.requires.numbers c.in-Ok.ensures.exact in
-          (h.0, h.1, ap (λ m. get_or c.args.words.now m []) same ∙ h.2)
-          )
+      | inl same ↦ (let h = c.if-not-is_in.ensures in (h.0, h.1, ap (λ m. get_or c.args.words.now m []) same ∙ h.2))
       | inr other ↦ c.loop-n.invariant k low (omega arith)
     ]
 

@@ -1,15 +1,15 @@
-use Rattle.std.proofs.Common.{◌≡◌, ◌<◌, ◌+◌, ◌*◌, [], ℕ, List, pos, Ok, Err, subst, to_z, of_z, w64, ◌-ℤ◌, length, drop, get_or, ap, sym, refl, ◌∙◌, arith, length-drop, inl, inr}
+use Rattle.std.proofs.Common.{◌≡◌, ◌<◌, ◌+◌, ◌*◌, [], ℕ, pos, subst, to_z, of_z, w64, ◌-ℤ◌, length, drop, get_or, ap, sym, refl, ◌∙◌, arith, length-drop, inl, inr}
 use Rattle.std.proofs.lemmas.Int.{ints}
 use Rattle.std.proofs.lemmas.Bool.{cases_eq}
 use Rattle.std.specs.Fmt.{decimal}
 use Rattle.std.proofs.lemmas.List.{get_or-drop}
-use Rattle.field_table.specs.Fields.{Accepts}
-use Rattle.cert_format.proofs.Accepted.{cast, number_field, number_read, number_accepted, last_below}
+use Rattle.cert_format.proofs.Accepted.{cast, number_field, last_below}
+use Rattle.cert_format.proofs.Fields.{number_spelled}
 use Rattle.cert_format.proofs.Visits.{SpellsVisit, length-visits, visit_at, visits_all}
 use Rattle.cert_format.proofs.numbers.are_visits.Goals as goal
 
-pub returns-in_default : goal.returns-in_default
-returns-in_default c = λ vs s.
+pub returns-then-not-is_in : goal.returns-then-not-is_in
+returns-then-not-is_in c = λ vs s.
     let ws = c.args.words.now in
     let from = c.args.from in
     let n = c.loop-n.n in
@@ -22,12 +22,10 @@ returns-in_default c = λ vs s.
     let high = to_z w64 (of_z w64 (to_z w64 c.args.tasks -ℤ pos 1)) in
     let last = last_below c.args.tasks (omega arith) in
     let below = at.known in
-    let told : Err c.in_default.field-0 ≡ Ok (pos at.visit.task) = c.in_default.ensures.back (pos at.visit.task)
-    (subst (λ (w : List ℕ). Accepts (number_field 0 high) w (pos at.visit.task)) (sym word) (number_accepted (number_field 0 high) at.visit.task refl (omega (arith, ints)) (omega (arith, ints)) (omega arith))) in
-    cc
+    c.if-not-is_in.ensures (pos at.visit.task) (record { fits = record { sfits = omega arith }; low = omega (arith, ints); high = omega (arith, ints) }) word
 
-pub returns-in_default-read_at : goal.returns-in_default-read_at
-returns-in_default-read_at c = λ vs s.
+pub returns-then-not-is_in-2 : goal.returns-then-not-is_in-2
+returns-then-not-is_in-2 c = λ vs s.
     let ws = c.args.words.now in
     let from = c.args.from in
     let n = c.loop-n.n in
@@ -40,9 +38,7 @@ returns-in_default-read_at c = λ vs s.
     let word : get_or ws (from + 2 * n + 1) [] ≡ decimal at.visit.start =
     ap (λ m. get_or ws m []) next ∙ sym (get_or-drop from ws (2 * n + 1) []) ∙ ap (λ xs. get_or xs (2 * n + 1) []) s.spelled ∙ at.second in
     let most = at.start in
-    let told : Err c.in_default-read_at.field-0 ≡ Ok (pos at.visit.start) = c.in_default-read_at.ensures.back (pos at.visit.start)
-    (subst (λ (w : List ℕ). Accepts (number_field 0 (pos 2880)) w (pos at.visit.start)) (sym word) (number_accepted (number_field 0 (pos 2880)) at.visit.start refl (omega (arith, ints)) (omega (arith, ints)) (omega arith))) in
-    cc
+    c.if-not-is_in-2.ensures (pos at.visit.start) (record { fits = record { sfits = omega arith }; low = omega (arith, ints); high = omega (arith, ints) }) word
 
 pub loop-n-preserved : goal.loop-n-preserved
 loop-n-preserved c = λ k less.
@@ -51,13 +47,15 @@ loop-n-preserved c = λ k less.
     let n = c.loop-n.n in
     let high = to_z w64 (of_z w64 (to_z w64 c.args.tasks -ℤ pos 1)) in
     let last = last_below c.args.tasks (omega arith) in
-    let task = number_read (number_field 0 high) (get_or ws (from + 2 * n) []) c.in-Ok.field-0 refl (omega (arith, ints)) c.in-Ok.ensures.exact in
-    let start = number_read (number_field 0 (pos 2880)) (get_or ws (from + 2 * n + 1) []) c.in-Ok-read_at.field-0 refl (omega (arith, ints)) c.in-Ok-read_at.ensures.exact in
+    let one = c.if-not-is_in.ensures in
+    let two = c.if-not-is_in-2.ensures in
+    let task = number_spelled (number_field 0 high) (get_or ws (from + 2 * n) []) refl (omega (arith, ints)) one in
+    let start = number_spelled (number_field 0 (pos 2880)) (get_or ws (from + 2 * n + 1) []) refl (omega (arith, ints)) two in
     let below = task.1 in
     let most = start.1 in
     elim (cases_eq k n) [
       | inl same ↦ subst (λ (m : ℕ). SpellsVisit c.args.tasks (get_or ws (from + 2 * m) []) (get_or ws (from + 2 * m + 1) [])) (sym same) (record {
-        visit = record { task = cast c.in-Ok.field-0; start = cast c.in-Ok-read_at.field-0 };
+        visit = record { task = cast one.0; start = cast two.0 };
         known = omega (arith, ints);
         start = omega (arith, ints);
         first = task.3;

@@ -5,7 +5,6 @@ use Rattle.std.specs.Str.Parse.{signed_digits_value}
 use Rattle.std.specs.Fmt.{signed_decimal}
 use Rattle.std.proofs.lemmas.Int.{to_z-of_z}
 use Rattle.std.proofs.lemmas.List.{length-map, get_or-drop}
-use Rattle.cert_format.proofs.Numerals.{word_is}
 use Rattle.cert_format.proofs.Rests.{number_at, value_at, value_back}
 use Rattle.cert_format.proofs.numbers.Rest.get.Goals as goal
 
@@ -23,9 +22,8 @@ unwrap-requires c =
     let few : k < length c.self.invariant.numbers =
     (let s = ap length c.self.invariant.spelled in let l = length-map c.self.invariant.numbers signed_decimal in omega arith) in
     let z = number_at c.self.invariant.numbers c.self.invariant.fit k few in
-    let word : c.word.result.now ≡ signed_decimal z.0 =
-    sym (word_is a.words (a.from + k) c.word.result.now c.word.ensures) ∙ sym (get_or-drop a.from a.words k []) ∙ ap (λ ws. get_or ws k []) c.self.invariant.spelled ∙ z.2 in
-    some c.word.result.now c.read_number.result z.0 z.1 word c.read_number.ensures.exact
+    let word : get_or a.words (a.from + k) [] ≡ signed_decimal z.0 = sym (get_or-drop a.from a.words k []) ∙ ap (λ ws. get_or ws k []) c.self.invariant.spelled ∙ z.2 in
+    some (get_or a.words (a.from + k) []) c.number.result z.0 z.1 word c.number.ensures.exact
 
 pub returns : goal.returns
 returns c =
@@ -34,7 +32,7 @@ returns c =
     let there : k < length (drop a.from a.words) =
     (let r = c.requires in let v = ap length c.self.view_is in let l = length-map (drop a.from a.words) (signed_digits_value 10) in omega arith) in
     let fits : FitsSigned w64 c.unwrap.result = search rules in
-    let spelled : c.word.result.now ≡ signed_decimal c.unwrap.result = rw c.unwrap.ensures at c.read_number.ensures.exact in
+    let spelled : get_or a.words (a.from + k) [] ≡ signed_decimal c.unwrap.result = rw c.unwrap.ensures at c.number.ensures.exact in
     to_z-of_z w64 c.unwrap.result fits ∙ sym (value_back c.unwrap.result fits) ∙ ap (signed_digits_value 10) (sym spelled)
-    ∙ ap (signed_digits_value 10) (sym (word_is a.words (a.from + k) c.word.result.now c.word.ensures) ∙ sym (get_or-drop a.from a.words k []))
+    ∙ ap (signed_digits_value 10) (sym (get_or-drop a.from a.words k []))
     ∙ sym (value_at (drop a.from a.words) k there) ∙ ap (λ zs. get_or zs k (pos 0)) c.self.view_is

@@ -3,7 +3,7 @@ use Rattle.std.specs.List.{join_with_byte}
 use Rattle.crew_io.specs.Io.{Appended}
 use Rattle.cert_format.specs.Parts.{text_of}
 use Rattle.cert_format.proofs.Fronts.{gap_after}
-use Rattle.cert_format.proofs.lines_out.put_line.Given as goal
+use Rattle.cert_format.proofs.lines_out.put_long.Given as goal
 
 abbrev pub invariant-loop-part : goal.invariant-loop-part
 invariant-loop-part g l = record {

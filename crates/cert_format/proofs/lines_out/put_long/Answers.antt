@@ -8,7 +8,7 @@ use Rattle.cert_format.specs.Parts.{text_of}
 use Rattle.cert_format.specs.declared.lines_out.Part.{Part}
 use Rattle.cert_format.specs.declared.lines_out.Part.TheVariants.{Number}
 use Rattle.cert_format.proofs.Fronts.{appended_both, part_after, on_err, gap_after, gap_front, part_front, joined, feed_front, gap_later}
-use Rattle.cert_format.proofs.lines_out.put_line.Goals as goal
+use Rattle.cert_format.proofs.lines_out.put_long.Goals as goal
 
 pub returns-in_err-put_all-clause-part : goal.returns-in_err-put_all-clause-part
 returns-in_err-put_all-clause-part g c =
