@@ -24,11 +24,11 @@ rows_read head more = head.size.places - suc more
 abbrev pub reading_of : HeadDue → Reading
 reading_of Form = FormDue
 reading_of Size = Sizes
-reading_of (Place head more) = Places head.size more (parts_of head.builder 0)
-reading_of (Travel head more) = Travels head.size more (parts_of head.builder (rows_read head more))
-reading_of (Team head more) = Teams head.size more (parts_of head.builder head.size.places)
-reading_of (Task head more) = Tasks head.size more (parts_of head.builder head.size.places)
-reading_of (Whole base) = Pools base.instance base.nodes
+reading_of (Place head more) = Places head.value.size more (parts_of head.value.builder 0)
+reading_of (Travel head more) = Travels head.value.size more (parts_of head.value.builder (rows_read head.value more))
+reading_of (Team head more) = Teams head.value.size more (parts_of head.value.builder head.value.size.places)
+reading_of (Task head more) = Tasks head.value.size more (parts_of head.value.builder head.value.size.places)
+reading_of (Whole base) = Pools base.value.instance base.value.nodes
 
 -- a line of the head is due
 abbrev pub IsLineDue : HeadDue → Type 0
@@ -51,10 +51,10 @@ pub record IsHead (head : Head) (p r m n : ℕ) : Type 0 where
 abbrev pub Holds : HeadDue → Type 0
 Holds Form = Unit {0}
 Holds Size = Unit {0}
-Holds (Place head more) = (p : ℕ) × (p + suc more ≡ head.size.places) × IsHead head p 0 0 0
-Holds (Travel head more) = (p : ℕ) × (p + suc more ≡ head.size.places) × IsHead head head.size.places p 0 0
-Holds (Team head more) = (p : ℕ) × (p + suc more ≡ head.size.teams) × IsHead head head.size.places head.size.places p 0
-Holds (Task head more) = (p : ℕ) × (p + suc more ≡ head.size.tasks) × IsHead head head.size.places head.size.places head.size.teams p
+Holds (Place head more) = (p : ℕ) × (p + suc more ≡ head.value.size.places) × IsHead head.value p 0 0 0
+Holds (Travel head more) = (p : ℕ) × (p + suc more ≡ head.value.size.places) × IsHead head.value head.value.size.places p 0 0
+Holds (Team head more) = (p : ℕ) × (p + suc more ≡ head.value.size.teams) × IsHead head.value head.value.size.places head.value.size.places p 0
+Holds (Task head more) = (p : ℕ) × (p + suc more ≡ head.value.size.tasks) × IsHead head.value head.value.size.places head.value.size.places head.value.size.teams p
 Holds (Whole base) = Unit {0}
 
 -- this is due, and what is held stands for it

@@ -10,6 +10,6 @@ returns-in_ok-due_tasks-in-Ok c =
     let few = head.size.tasks in
     let read = head.tasks in
     let all = held.1 in
-    task_more c.args.head.size c.args.more c.args.head.builder c.task.new.self c.args.head.size.places c.args.task (IsTrue c.args.rises) c.in_ok-due_tasks-in-Ok.field-0
+    task_more c.args.head.value.size c.args.more c.args.head.value.builder c.task.new.self c.args.head.value.size.places c.args.task (IsTrue c.args.rises) c.in_ok-due_tasks-in-Ok.field-0
     c.if-rises.true (omega arith) head.places c.requires.ranges
     (λ h. let e = (c.in-Ok.ensures.same_name).1 h in cc) (λ h. let e = (c.in-Ok.ensures.bad_window).1 h in cc) c.in-Ok.ensures.ok c.in_ok-due_tasks-in-Ok.ensures

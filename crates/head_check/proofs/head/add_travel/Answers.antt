@@ -19,22 +19,22 @@ pub due_travels-requires : goal.due_travels-requires
 due_travels-requires c =
     let held = c.requires.held in
     let t = c.requires.times in
-    let size = c.args.head.size in
+    let size = c.args.head.value.size in
     let row = size.places - 1 - c.args.more in
     let r : row ≡ held.0 = (let e = held.1 in omega arith) in
     let n : length c.args.times.now ≡ size.places = ap length t.1 ∙ length-map t.0 pos ∙ t.2.count in (
       held.0 + 1,
       (let e = held.1 in omega arith),
-      head_more size c.args.head.builder c.set_row.new.builder held.0 size.places c.args.more c.args.times.now held.2
-          (subst (λ x. SetsRow c.args.head.builder c.set_row.new.builder x c.args.times.now) r c.in_ok-set_row.ensures) n,
+      head_more size c.args.head.value.builder c.set_row.new.builder held.0 size.places c.args.more c.args.times.now held.2
+          (subst (λ x. SetsRow c.args.head.value.builder c.set_row.new.builder x c.args.times.now) r c.in_ok-set_row.ensures) n,
     )
 
 pub returns : goal.returns
 returns c = λ row e.
     let held = c.requires.held in
     let t = c.requires.times in
-    let size = c.args.head.size in
-    let old = c.args.head.builder in
+    let size = c.args.head.value.size in
+    let old = c.args.head.value.builder in
     let new = c.set_row.new.builder in
     let r = size.places - suc c.args.more in
     let is : size.places - 1 - c.args.more ≡ r = omega arith in

@@ -20,15 +20,15 @@ returns-in-Err c =
 
 pub skill_set-set-requires : goal.skill_set-set-requires
 skill_set-set-requires c =
-    let h = subst (IsTeamOf c.args.head.size.places c.args.words) c.in-Team.is c.in-Ok.ensures in
+    let h = subst (IsTeamOf c.args.head.value.size.places c.args.words) c.in-Team.is c.in-Ok.ensures in
     subst (AreBelow 64) (sym h.1) (below_from 64 h.0 h.2.skills)
 
 pub returns : goal.returns
 returns c =
-    let z = c.args.head.size in
+    let z = c.args.head.value.size in
     let h = subst (IsTeamOf z.places c.args.words) c.in-Team.is c.in-Ok.ensures in
     let due = TeamDue c.args.head c.args.more in
-    let i = parts_of c.args.head.builder z.places in
+    let i = parts_of c.args.head.value.builder z.places in
     let facts = set_facts c.in-Team.skills h.0 c.skill_set-set.result h.1 c.skill_set-set.ensures in
     let spelled : Team = record { name = c.in-Team.name; home = c.in-Team.home; from = c.in-Team.from; until = c.in-Team.until; skills = 0 } in
     let team : Team = record spelled { skills = c.unwrap_or.result } in

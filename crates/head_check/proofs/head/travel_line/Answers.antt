@@ -16,10 +16,10 @@ returns-in-Err c =
 
 pub returns : goal.returns
 returns c =
-    let z = c.args.head.size in
+    let z = c.args.head.value.size in
     let h = subst (IsTimesLine z.places c.args.words) c.in-Travel.is c.in-Ok.ensures in
     let due = Travel c.args.head c.args.more in
-    let i = parts_of c.args.head.builder (rows_read c.args.head c.args.more) in
+    let i = parts_of c.args.head.value.builder (rows_read c.args.head.value c.args.more) in
     let rules = after_travel z c.args.more i h.0 in
     if_ok c.add_travel.result _ (IsStep due c.args.words) c.add_travel.ensures (λ step t.
     tells_step due c.args.words step rules (λ said rest. travel_says z c.args.more i c.args.words h.0 said h.2 h.3 rest) (t h.0 h.1))
