@@ -14,18 +14,21 @@ const LONGEST_TASK: u32 = 2880;
 
 const MOST_TEAMS_PER_TASK: u32 = 8;
 
-/// Whether the bytes are the same. The last one tells most names apart, so it is looked at first.
+/// Whether the bytes are the same. The last ones tell most names apart, so they are looked at first.
 fn is_same(a: &[u8], b: &[u8]) -> bool
     ensures { IsTrue result ↔ (a.now ≡ b.now) }
 {
-    let n = a.len();
-    if n != b.len() {
+    let mut left = a.len();
+    if left != b.len() {
         return false;
     }
-    if n > 0 && a[n - 1] != b[n - 1] {
-        return false;
+    while left > 0 {
+        left -= 1;
+        if a[left] != b[left] {
+            return false;
+        }
     }
-    a == b
+    true
 }
 
 /// Whether one of the places has the name.

@@ -248,6 +248,144 @@ fn tells_the_first_missing_time(rt: HostRuntime) -> Result<(), Fail> {
     Ok(())
 }
 
+/// A builder of so many places.
+fn places(alloc: Global, n: u32) -> Result<Builder, Fail> {
+    let mut day = Builder::new(alloc);
+    for k in 0..n {
+        day.place(numbered(k).ok_or("name")?)?;
+    }
+    Ok(day)
+}
+
+#[test]
+fn takes_rows(rt: HostRuntime) -> Result<(), Fail> {
+    let alloc = rt.alloc();
+    let mut day = places(alloc, 3)?;
+    assert!(rt; day.places() == 3);
+    assert_eq!(rt;
+        day.travel_from(3, vec![in alloc; 1, 2, 3]?),
+        Err(BuildFault::NoPlace)
+    );
+    day.travel_from(0, vec![in alloc; 1, 2, 3]?)?;
+    day.travel_from(2, vec![in alloc; 7, 8, 9]?)?;
+    assert_eq!(rt;
+        day.finish().err(),
+        Some(BuildFault::MissingTravel { from: 1, to: 0 })
+    );
+    // A row in place of one that was given in part, and a time in place of one of a row.
+    day.travel(1, 2, 2880)?;
+    day.travel_from(1, vec![in alloc; 4, 5, 6]?)?;
+    day.travel(2, 1, 88)?;
+    let built = day.finish()?;
+    assert!(rt; built.places() == 3);
+    assert_eq!(rt;
+        [
+            built.travel(0, 0),
+            built.travel(0, 2),
+            built.travel(1, 0),
+            built.travel(1, 2),
+            built.travel(2, 1),
+            built.travel(2, 2)
+        ],
+        [1, 3, 4, 6, 88, 9]
+    );
+    Ok(())
+}
+
+#[test]
+fn takes_times_in_any_order(rt: HostRuntime) -> Result<(), Fail> {
+    let mut day = places(rt.alloc(), 4)?;
+    assert!(rt; day.places() == 4);
+    // In order, backwards, and with a gap in the middle that is filled at last.
+    for to in 0..4 {
+        day.travel(0, to, 10 + to)?;
+        day.travel(1, 3 - to, 23 - to)?;
+    }
+    day.travel(2, 0, 30)?;
+    day.travel(2, 3, 33)?;
+    day.travel(3, 2, 42)?;
+    day.travel(3, 0, 40)?;
+    day.travel(3, 1, 41)?;
+    assert_eq!(rt;
+        day.finish().err(),
+        Some(BuildFault::MissingTravel { from: 2, to: 1 })
+    );
+    day.travel(2, 1, 31)?;
+    let built = day.finish()?;
+    assert!(rt; built.places() == 4);
+    assert_eq!(rt;
+        [
+            built.travel(0, 0),
+            built.travel(0, 3),
+            built.travel(1, 0),
+            built.travel(1, 3),
+            built.travel(2, 0),
+            built.travel(2, 1),
+            built.travel(2, 2),
+            built.travel(2, 3)
+        ],
+        [10, 13, 20, 23, 30, 31, 0, 33]
+    );
+    assert_eq!(rt;
+        [
+            built.travel(3, 0),
+            built.travel(3, 1),
+            built.travel(3, 2),
+            built.travel(3, 3)
+        ],
+        [40, 41, 42, 0]
+    );
+    Ok(())
+}
+
+#[test]
+fn misses_times_to_later_places(rt: HostRuntime) -> Result<(), Fail> {
+    let alloc = rt.alloc();
+    let mut day = places(alloc, 2)?;
+    assert!(rt; day.places() == 2);
+    day.travel_from(0, vec![in alloc; 1, 2]?)?;
+    day.travel_from(1, vec![in alloc; 3, 4]?)?;
+    day.place(numbered(2).ok_or("name")?)?;
+    assert!(rt; day.places() == 3);
+    assert_eq!(rt;
+        day.finish().err(),
+        Some(BuildFault::MissingTravel { from: 0, to: 2 })
+    );
+    day.travel(0, 2, 5)?;
+    assert_eq!(rt;
+        day.finish().err(),
+        Some(BuildFault::MissingTravel { from: 1, to: 2 })
+    );
+    day.default_travel(9);
+    let built = day.finish()?;
+    assert!(rt; built.places() == 3);
+    assert_eq!(rt;
+        [
+            built.travel(0, 1),
+            built.travel(0, 2),
+            built.travel(1, 2),
+            built.travel(2, 0),
+            built.travel(2, 2)
+        ],
+        [2, 5, 9, 9, 0]
+    );
+    Ok(())
+}
+
+#[test]
+fn tells_names_apart(rt: HostRuntime) -> Result<(), Fail> {
+    let mut day = Builder::new(rt.alloc());
+    for name in [b"AB1".as_slice(), b"B1", b"CB1", b"AC1", b"AB2"] {
+        day.place(Name::read(name).ok_or("name")?)?;
+        assert_eq!(rt;
+            day.place(Name::read(name).ok_or("name")?),
+            Err(BuildFault::SameName)
+        );
+    }
+    assert!(rt; day.places() == 5);
+    Ok(())
+}
+
 #[test]
 fn changes_teams(rt: HostRuntime) -> Result<(), Fail> {
     let mut day = small_day(rt.alloc())?;

@@ -1,32 +1,38 @@
-use Rattle.std.proofs.Common.{◌≡◌, ◌≤◌, ◌<◌, ◌++◌, ◌+◌, ◌-◌, [], ◌∷◌, sym, None, Some, length, replicate, set, arith, ap, ◌∙◌}
-use Rattle.std.proofs.lemmas.List.{take_all}
+use Rattle.std.proofs.Common.{◌≡◌, ◌≤◌, ◌<◌, ◌++◌, ◌-◌, rules, [], ◌∷◌, sym, refl, None, Some, length, map, List, ℕ, Option, arith, ap, ◌∙◌}
+use Rattle.std.proofs.lemmas.List.{append-nil, length-map, map-append}
 use Rattle.crew_instance.specs.Draft.{filled}
-use Rattle.crew_instance.proofs.Filled.{filled_set, grown_set, pushed_set}
+use Rattle.crew_instance.proofs.Filled.{further_set, given_set, grown_by_one}
 use Rattle.crew_instance.proofs.builders.set_time.Goals as goal
-use Rattle.crew_instance.proofs.builders.set_time.Goals.{then-len-b-2+in_ok-resize, else-len-b-2}
+
+pub returns-then-b-n-clause-ok : goal.returns-then-b-n-clause-ok
+returns-then-b-n-clause-ok c n less =
+    let h : c.args.b < length c.args.row.now.given.items = omega arith in
+    given_set n c.args.b c.args.row.now.given.items c.args.row.now.further.items c.args.minutes h
+
+-- a time is pushed onto a row that has no gap
+pushed : (given grown : List ℕ) (s : List (Option ℕ)) (x : ℕ) → s ≡ [] → grown ≡ given ++ x ∷ [] → map Some grown ++ s ≡ (map Some given ++ s) ++ Some x ∷ []
+pushed given grown s x none e =
+    ap (λ t. map Some grown ++ t) none ∙ append-nil (map Some grown) ∙ ap (map Some) e ∙ map-append Some given (x ∷ []) ∙ ap (λ t. t ++ Some x ∷ []) (sym (append-nil (map Some given)) ∙ ap (λ t. map Some given ++ t) (sym none))
+
+nothing : (s : List (Option ℕ)) → length s ≡ 0 → s ≡ []
+nothing [] e = refl
+nothing (x ∷ s) e = absurd (omega arith)
+
+pub returns-then-is_empty-clause-ok : goal.returns-then-is_empty-clause-ok
+returns-then-is_empty-clause-ok c n less =
+    let given = c.args.row.now.given.items in
+    let s = c.args.row.now.further.items in
+    let none : s ≡ [] = nothing s (search rules) in
+    let here : length (map Some given ++ s) ≡ c.args.b = (
+    let l = length-map given Some in
+    let e : length (map Some given ++ s) ≡ length (map Some given) = ap (λ t. length (map Some given ++ t)) none ∙ ap length (append-nil (map Some given)) in
+    let t = c.if-b-n-2.true in
+    omega arith
+    ) in
+    ap (filled n) (pushed given c.push.new.self.items s c.args.minutes none c.in_ok-push.ensures.items) ∙ grown_by_one n c.args.b (map Some given ++ s) (Some c.args.minutes) here less
 
 pub returns-clause-ok : goal.returns-clause-ok
 returns-clause-ok c n less =
-    elim c.if-len-b-2.branch [
-      | then-len-b-2+in_ok-resize w ↦
-          let old = c.args.row.now.items in
-          let h : length old ≤ c.args.b = omega arith in
-          let k : c.args.b + 1 - c.args.row.now.len ≡ c.args.b + 1 - length old = omega arith in
-          let e : c.if-len-b-2.row.items ≡ old ++ replicate (c.args.b + 1 - length old) None =
-          ap (λ v. v.items) w.row-is ∙ w.in_ok-resize.ensures.items ∙ ap (λ t. t ++ replicate (c.args.b + 1 - c.args.row.now.len) None) (take_all (c.args.b + 1) old (omega arith)) ∙ ap (λ j. old ++ replicate j None) k in
-          grown_set n c.args.b old c.if-len-b-2.row.items (Some c.args.minutes) h less e
-      | else-len-b-2 w ↦
-          let e = ap (λ v. v.items) w.row-is in
-          let h : c.args.b < length c.args.row.now.items = omega arith in
-          rw e (filled_set n c.args.row.now.items c.args.b (Some c.args.minutes) h)
-    ]
-
-pub returns-then-len-b-clause-ok : goal.returns-then-len-b-clause-ok
-returns-then-len-b-clause-ok c n less =
-    let old = c.args.row.now.items in
-    let here : length old ≡ c.args.b = (let t = c.if-len-b.true in omega arith) in
-    let one : replicate (c.args.b + 1 - length old) None ≡ None ∷ [] = ap (λ k. replicate k None) (let k : c.args.b + 1 - length old ≡ 1 = omega arith in k) in
-    let grown = grown_set n c.args.b old (old ++ None ∷ []) (Some c.args.minutes) (omega arith) less (ap (λ t. old ++ t) (sym one)) in
-    let pushed : set (old ++ None ∷ []) c.args.b (Some c.args.minutes) ≡ old ++ Some c.args.minutes ∷ [] =
-    ap (λ k. set (old ++ None ∷ []) k (Some c.args.minutes)) (sym here) ∙ pushed_set old (Some c.args.minutes) in
-    ap (filled n) (c.in_ok-push.ensures.items ∙ sym pushed) ∙ grown
+    let h : length c.args.row.now.given.items ≤ c.args.b = omega arith in
+    let count : c.len-n.result ≡ length c.args.row.now.given.items = omega arith in
+    further_set n c.args.b c.args.row.now.given.items c.args.row.now.further.items c.set_further.new.row.items (Some c.args.minutes) h (rw count at (c.in_ok-set_further.ensures.ok (n - length c.args.row.now.given.items) (omega arith)))
