@@ -1,5 +1,5 @@
 -- what is held of the head of a dossier stands for what has been read of it
-use Rattle.std.specs.Prelude.{◌≡◌, ◌≢◌, ◌<◌, ◌+◌, ◌-◌, ℕ, suc, ℤ, pos, List, length, map, None, Some, slice_index_or}
+use Rattle.std.specs.Prelude.{◌≡◌, ◌≢◌, ◌<◌, ◌+◌, ◌-◌, ℕ, suc, length, map, None}
 use Rattle.std.specs.List.{range_with_len}
 use Rattle.crew_terms.specs.Words.{Words}
 use Rattle.crew_terms.specs.Instance.{Instance}
@@ -80,9 +80,3 @@ pub record Tells (Rules : Said → Type 0) (step : HeadStep) : Type 0 where
 -- the step is what the table says of the line
 abbrev pub IsStep : HeadDue → Words → HeadStep → Type 0
 IsStep due words step = Tells (Says (reading_of due) words) step
-
--- the times from place a are set to these, and nothing else is changed
-pub record SetsRow (old new : Parts) (a : ℕ) (times : List ℤ) : Type 0 where
-  pub parts : new ≡ record old { times = new.times }
-  pub others : (x y : ℕ) → x ≢ a → time_of new x y ≡ time_of old x y
-  pub set : (y : ℕ) → y < length times → (t : ℕ) × (slice_index_or times y (pos 0) ≡ pos t) × (time_of new a y ≡ Some t)

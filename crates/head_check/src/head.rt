@@ -3,13 +3,14 @@ ghost use Rattle.std.specs.Prelude.{◌≡◌, ◌<◌, ◌≤◌, ◌+◌, ◌-
 ghost use Rattle.crew_terms.specs.Name.{IsName};
 ghost use Rattle.crew_terms.specs.Words.{Words};
 ghost use Rattle.dossier_terms.specs.Table.{IsTravel, IsTeamLine, IsTaskLine};
-ghost use Rattle.head_check.specs.Numbers.{AreBelow};
+ghost use Rattle.crew_instance.specs.Draft.{with_row};
+ghost use Rattle.head_check.specs.Numbers.{AreBelow, naturals};
 ghost use Rattle.head_check.specs.Rows.{after_place, after_travel, after_team, after_task, IsTaskRange};
 ghost use Rattle.dossier_terms.specs.Reading.{places_due, travels_due, teams_due, tasks_due};
-ghost use Rattle.head_check.specs.Head.{Holds, IsHead, IsStep, IsDue, SetsRow, Tells, parts_of, rows_read};
+ghost use Rattle.head_check.specs.Head.{Holds, IsHead, IsStep, IsDue, Tells, parts_of, rows_read};
 
 use crate::due::{Base, Head, HeadDue, HeadStep};
-use crate::numbers::{number_at, skill_set};
+use crate::numbers::{number_list, skill_set};
 use cert_format::{Expect, LineKind, Rest, fault_is_refused, read_line};
 use crew_instance::{BuildFault, Builder, Name, Task, Team};
 use dossier_terms::{Reason, Size};
@@ -177,22 +178,23 @@ pub fn place_line(
     add_place(alloc, head, more, name)
 }
 
-/// Sets the times from place `row` to each place.
-fn set_row(builder: &mut Builder, row: u32, times: &Rest<'_>) -> Result<(), AllocError>
-    requires row { row < length builder.old.places }
+/// Sets the times from a place to each place.
+fn set_row(
+    alloc: Global,
+    builder: &mut Builder,
+    place: u32,
+    times: &Rest<'_>,
+) -> Result<(), AllocError>
+    requires place { place < length builder.old.places }
     requires count { length times.now ≡ length builder.old.places }
     requires day { AreBelow 2881 times.now }
-    ensures { OnOk result (SetsRow builder.old builder.new row times.now) }
+    ensures { OnOk result (builder.new ≡ with_row builder.old place (naturals times.now)) }
 {
-    let places = builder.places() as u32;
-    for to in 0..places {
-        match builder.travel(row, to, number_at(times, to as usize)) {
-            Ok(()) => {}
-            Err(BuildFault::OutOfMemory) => return Err(AllocError),
-            Err(_) => unreachable!(),
-        }
+    let row = number_list(alloc, times)?;
+    match builder.travel_from(place, row) {
+        Ok(()) => Ok(()),
+        Err(_) => unreachable!(),
     }
-    Ok(())
 }
 
 /// Adds the travel times from the next place, which a line spells.
@@ -207,7 +209,8 @@ fn add_travel(
     ensures { IfOk result (λ step. (row : List ℕ) → times.now ≡ map pos row → Tells (after_travel head.value.size more (parts_of head.value.builder (rows_read head.value more)) row) step) }
 {
     let held = &mut *head;
-    set_row(&mut held.builder, held.size.places - 1 - more, times)?;
+    let from = held.builder.places() as u32 - 1 - more;
+    set_row(alloc, &mut held.builder, from, times)?;
     Ok(HeadStep::More(due_travels(alloc, head, more)?))
 }
 
