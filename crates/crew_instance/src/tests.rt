@@ -373,6 +373,38 @@ fn misses_times_to_later_places(rt: HostRuntime) -> Result<(), Fail> {
 }
 
 #[test]
+fn gives_its_parts(rt: HostRuntime) -> Result<(), Fail> {
+    let alloc = rt.alloc();
+    let mut day = small_day(alloc)?;
+    day.place(numbered(2).ok_or("name")?)?;
+    assert!(rt; day.places() == 3);
+    day.travel_from(1, vec![in alloc; 4, 5, 6]?)?;
+    day.default_travel(9);
+    let built = day.into_instance()?;
+    assert_eq!(rt; (built.places(), built.teams(), built.tasks()), (3, 1, 1));
+    assert_eq!(rt; *built.team(0), team(Name::read(b"T1").ok_or("name")?));
+    assert_eq!(rt; *built.task(0), task(Name::read(b"A").ok_or("name")?));
+    assert_eq!(rt;
+        [
+            built.travel(0, 1),
+            built.travel(0, 2),
+            built.travel(1, 1),
+            built.travel(1, 2),
+            built.travel(2, 0),
+            built.travel(2, 2)
+        ],
+        [10, 9, 5, 6, 9, 0]
+    );
+    let mut other = small_day(alloc)?;
+    other.place(numbered(2).ok_or("name")?)?;
+    assert_eq!(rt;
+        other.into_instance().err(),
+        Some(BuildFault::MissingTravel { from: 0, to: 2 })
+    );
+    Ok(())
+}
+
+#[test]
 fn tells_names_apart(rt: HostRuntime) -> Result<(), Fail> {
     let mut day = Builder::new(rt.alloc());
     for name in [b"AB1".as_slice(), b"B1", b"CB1", b"AC1", b"AB2"] {

@@ -1,7 +1,7 @@
 use Rattle.std.proofs.Common.{◌≡◌, ◌≤◌, ◌<◌, ◌++◌, ◌-◌, rules, [], ◌∷◌, sym, refl, None, Some, length, map, List, ℕ, Option, arith, ap, ◌∙◌}
 use Rattle.std.proofs.lemmas.List.{append-nil, length-map, map-append}
 use Rattle.crew_instance.specs.Draft.{filled}
-use Rattle.crew_instance.proofs.Filled.{further_set, given_set, grown_by_one}
+use Rattle.crew_instance.proofs.Filled.{further_set, given_set, grown_by_one, none_left}
 use Rattle.crew_instance.proofs.builders.set_time.Goals as goal
 
 pub returns-then-b-n-clause-ok : goal.returns-then-b-n-clause-ok
@@ -14,15 +14,11 @@ pushed : (given grown : List ℕ) (s : List (Option ℕ)) (x : ℕ) → s ≡ []
 pushed given grown s x none e =
     ap (λ t. map Some grown ++ t) none ∙ append-nil (map Some grown) ∙ ap (map Some) e ∙ map-append Some given (x ∷ []) ∙ ap (λ t. t ++ Some x ∷ []) (sym (append-nil (map Some given)) ∙ ap (λ t. map Some given ++ t) (sym none))
 
-nothing : (s : List (Option ℕ)) → length s ≡ 0 → s ≡ []
-nothing [] e = refl
-nothing (x ∷ s) e = absurd (omega arith)
-
 pub returns-then-is_empty-clause-ok : goal.returns-then-is_empty-clause-ok
 returns-then-is_empty-clause-ok c n less =
     let given = c.args.row.now.given.items in
     let s = c.args.row.now.further.items in
-    let none : s ≡ [] = nothing s (search rules) in
+    let none : s ≡ [] = none_left s (search rules) in
     let here : length (map Some given ++ s) ≡ c.args.b = (
     let l = length-map given Some in
     let e : length (map Some given ++ s) ≡ length (map Some given) = ap (λ t. length (map Some given ++ t)) none ∙ ap length (append-nil (map Some given)) in
