@@ -36,11 +36,12 @@ fn due_tasks(alloc: Global, head: Box<Head>, more: u32) -> Result<HeadDue, Alloc
             more: more - 1,
         });
     }
-    match head.builder.finish() {
+    let Head { size, builder } = Box::into_inner(head);
+    match builder.into_instance() {
         Ok(instance) => {
             let base = Base {
                 instance,
-                nodes: head.size.nodes,
+                nodes: size.nodes,
             };
             Ok(HeadDue::Whole {
                 base: Box::new(alloc, base)?,
