@@ -19,7 +19,9 @@ fn due_after(due: HeadDue) -> Due
     ensures { Awaits result (reading_of due) }
 {
     match due {
-        HeadDue::Whole { base } => Due::Pool { base },
+        HeadDue::Whole { base } => Due::Pool {
+            base: Box::into_inner(base),
+        },
         due => Due::Head(due),
     }
 }

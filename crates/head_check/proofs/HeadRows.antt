@@ -1,7 +1,7 @@
 -- the rows of the table for the lines of an instance
-use Rattle.std.proofs.Common.{◌≡◌, ◌≤◌, ◌<◌, ◌-◌, ◌++◌, ℕ, zero, suc, List, [], ◌∷◌, length, map, get_or, ap, subst, sym, refl, ◌∙◌, arith, ◌⊎◌, inl, inr, Some, length-append}
+use Rattle.std.proofs.Common.{◌≡◌, ◌≤◌, ◌<◌, ◌-◌, ◌++◌, ℕ, suc, List, [], ◌∷◌, length, map, get_or, ap, subst, sym, refl, ◌∙◌, arith, ◌⊎◌, inl, inr, Some, length-append}
 use Rattle.std.proofs.Math.ListN.{get_or-append}
-use Rattle.std.specs.Prelude.{pos, codes, All, Any, slice_index_or}
+use Rattle.std.specs.Prelude.{codes, All, Any, slice_index_or}
 use Rattle.std.specs.List.{range_with_len}
 use Rattle.std.specs.Fmt.{decimal}
 use Rattle.std.specs.List.Sorted.{IsStrictlyIncreasing}
@@ -14,7 +14,7 @@ use Rattle.crew_terms.specs.Name.{IsName}
 use Rattle.crew_terms.specs.Instance.{Instance}
 use Rattle.crew_terms.specs.declared.Team.{Team}
 use Rattle.crew_terms.specs.declared.Task.{Task}
-use Rattle.crew_instance.specs.Draft.{Draft as Parts, time_of, minutes_of, minutes_from}
+use Rattle.crew_instance.specs.Draft.{Draft as Parts, time_of, with_row, minutes_of, minutes_from}
 use Rattle.dossier_terms.specs.declared.Size.{Size}
 use Rattle.dossier_terms.specs.declared.Reason.TheVariants.{Name, Instance as BadInstance}
 use Rattle.dossier_terms.specs.Dossier.{mask_of}
@@ -22,7 +22,8 @@ use Rattle.dossier_terms.specs.Lines.{size_line, place_line, travel_line, team_w
 use Rattle.dossier_terms.specs.Reading.{Said, More as Goes, nothing, places_due, teams_due, tasks_due}
 use Rattle.dossier_terms.specs.Rules.{Must, Holds, Fails, Spelled, Goes as GoesTo, On, IsShape}
 use Rattle.dossier_terms.specs.Table.{IsSize, IsTravel, IsTeamLine, IsTaskLine, IsNewTeam, IsNewTask, size_row, place_row, travel_row, team_row, task_row}
-use Rattle.head_check.specs.Head.{parts_of, SetsRow}
+use Rattle.head_check.specs.Head.{parts_of}
+use Rattle.head_check.proofs.GivenRow.{time_in_row, time_elsewhere}
 use Rattle.head_check.specs.Rows.{after_place, after_travel, after_team, after_task}
 
 -- ---- rows of travel times
@@ -56,44 +57,27 @@ given_row d a row n h = ext_get_or 0 (minutes_from d a) row (length-map-range_wi
     at : (i : ℕ) → i < length row → minutes_of d a i ≡ get_or row i 0
     at i l = rw (h i l)
 
-number_at : (row : List ℕ) (y : ℕ) → y < length row → slice_index_or (map pos row) y (pos 0) ≡ pos (get_or row y 0)
-number_at [] y l = absurd (omega arith)
-number_at (n ∷ row) zero l = refl
-number_at (n ∷ row) (suc y) l = number_at row y (omega arith)
-
 -- the parts after one row of travel times more
-pub travel_parts : (old new : Parts) (r : ℕ) (row : List ℕ) → SetsRow old new r (map pos row) → length old.places ≡ length row
-    → parts_of new (suc r) ≡ record (parts_of old r) { travel = (parts_of old r).travel ++ row ∷ [] }
-travel_parts old new r row h n =
-    let places : new.places ≡ old.places = ap (λ (d : Parts). d.places) h.parts in
-    let teams : new.teams ≡ old.teams = ap (λ (d : Parts). d.teams) h.parts in
-    let tasks : new.tasks ≡ old.tasks = ap (λ (d : Parts). d.tasks) h.parts in
-    let standard : new.default_minutes ≡ old.default_minutes = ap (λ (d : Parts). d.default_minutes) h.parts in
-    let last : minutes_from new r ≡ row = given_row new r row (ap length places ∙ n) (λ y l.
-    let s = h.set y (let m = length-map row pos in omega arith) in
-    let e : pos (get_or row y 0) ≡ pos s.0 = sym (number_at row y l) ∙ s.1 in
-    let f : s.0 ≡ get_or row y 0 = cc in s.2 ∙ ap Some f) in
-    let before : map (minutes_from new) (range_with_len 0 r) ≡ map (minutes_from old) (range_with_len 0 r) =
-    rows_same (minutes_from new) (minutes_from old) r (λ a l. same_row old new a places standard (λ y. h.others a y (λ e. absurd (omega arith)))) in
-    let travel : map (minutes_from new) (range_with_len 0 (suc r)) ≡ map (minutes_from old) (range_with_len 0 r) ++ row ∷ [] =
+pub travel_parts : (d : Parts) (r : ℕ) (row : List ℕ) → r < length d.times → length d.places ≡ length row
+    → parts_of (with_row d r row) (suc r) ≡ record (parts_of d r) { travel = (parts_of d r).travel ++ row ∷ [] }
+travel_parts d r row below n =
+    let new : Parts = with_row d r row in
+    let last : minutes_from new r ≡ row = given_row new r row n (λ y l. time_in_row d r y row below l) in
+    let before : map (minutes_from new) (range_with_len 0 r) ≡ map (minutes_from d) (range_with_len 0 r) =
+    rows_same (minutes_from new) (minutes_from d) r (λ a l. same_row a (λ y. time_elsewhere d r a y row (λ e. absurd (omega arith)))) in
+    let travel : map (minutes_from new) (range_with_len 0 (suc r)) ≡ map (minutes_from d) (range_with_len 0 r) ++ row ∷ [] =
     row_more (minutes_from new) r ∙ ap (λ x. map (minutes_from new) (range_with_len 0 r) ++ x ∷ []) last ∙ ap (λ x. x ++ row ∷ []) before in
-    four new.places old.places places new.teams old.teams teams new.tasks old.tasks tasks _ _ travel
+    ap (λ rows. record (parts_of d r) { travel = rows }) travel
   where
-    four : (a b : List (List ℕ)) → a ≡ b → (c d : List Team) → c ≡ d → (e f : List Task) → e ≡ f → (g h : List (List ℕ)) → g ≡ h
-        → ◌≡◌ {A = Instance} (record { places = a; teams = c; tasks = e; travel = g }) (record { places = b; teams = d; tasks = f; travel = h })
-    four a b p c d q e f r g h s = cc
-
-    same_row : (old new : Parts) (a : ℕ) → new.places ≡ old.places → new.default_minutes ≡ old.default_minutes
-        → ((y : ℕ) → time_of new a y ≡ time_of old a y) → minutes_from new a ≡ minutes_from old a
-    same_row old new a p s h = ext_get_or 0 (minutes_from new a) (minutes_from old a)
-        (length-map-range_with_len (λ b. minutes_of new a b) 0 (length new.places) ∙ ap length p ∙ sym (length-map-range_with_len (λ b. minutes_of old a b) 0 (length old.places)))
-        (λ i l. let b : i < length new.places = (let m = length-map-range_with_len (λ b. minutes_of new a b) 0 (length new.places) in omega arith) in
-        let c : i < length old.places = (let e = ap length p in omega arith) in
-        get_or-map-range_with_len (λ b. minutes_of new a b) 0 (length new.places) i i 0 b (omega arith)
-        ∙ minutes i ∙ sym (get_or-map-range_with_len (λ b. minutes_of old a b) 0 (length old.places) i i 0 c (omega arith)))
+    same_row : (a : ℕ) → ((y : ℕ) → time_of (with_row d r row) a y ≡ time_of d a y) → minutes_from (with_row d r row) a ≡ minutes_from d a
+    same_row a h = ext_get_or 0 (minutes_from (with_row d r row) a) (minutes_from d a)
+        (length-map-range_with_len (λ b. minutes_of (with_row d r row) a b) 0 (length d.places) ∙ sym (length-map-range_with_len (λ b. minutes_of d a b) 0 (length d.places)))
+        (λ i l. let b : i < length d.places = (let m = length-map-range_with_len (λ b. minutes_of (with_row d r row) a b) 0 (length d.places) in omega arith) in
+        get_or-map-range_with_len (λ b. minutes_of (with_row d r row) a b) 0 (length d.places) i i 0 b (omega arith)
+        ∙ minutes i ∙ sym (get_or-map-range_with_len (λ b. minutes_of d a b) 0 (length d.places) i i 0 b (omega arith)))
       where
-        minutes : (y : ℕ) → minutes_of new a y ≡ minutes_of old a y
-        minutes y = rw (h y, s)
+        minutes : (y : ℕ) → minutes_of (with_row d r row) a y ≡ minutes_of d a y
+        minutes y = rw (h y)
 
 -- ---- one row after another, for the fields that the line spells
 

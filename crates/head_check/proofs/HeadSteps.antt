@@ -1,22 +1,23 @@
 -- what a builder answers, as steps of the checker
-use Rattle.std.proofs.Common.{◌≡◌, ◌≢◌, ◌≤◌, ◌<◌, ◌+◌, ◌-◌, ◌++◌, ℕ, zero, suc, List, [], ◌∷◌, length, map, ap, subst, sym, refl, ◌∙◌, arith, ◌⊎◌, inl, inr, Option, None, Some, Result, Ok, Err}
+use Rattle.std.proofs.Common.{◌≡◌, ◌≢◌, ◌≤◌, ◌<◌, ◌+◌, ◌-◌, ◌++◌, ℕ, zero, suc, List, [], ◌∷◌, length, map, get_or, ap, subst, sym, refl, ◌∙◌, arith, ◌⊎◌, inl, inr, Option, None, Some, Result, Ok, Err}
 use Rattle.std.specs.Prelude.{ℤ, pos, All, IsTrue, IfOk, MatchOption, is_some, unwrap_or}
 use Rattle.std.specs.List.Sorted.{IsStrictlyIncreasing}
 use Rattle.std.proofs.lemmas.Bool.{cases_lt, cases_eq}
 use Rattle.crew_terms.specs.declared.Team.{Team}
 use Rattle.crew_terms.specs.declared.Task.{Task}
-use Rattle.crew_instance.specs.Draft.{Draft as Parts, time_of}
+use Rattle.crew_instance.specs.Draft.{Draft as Parts, time_of, with_row}
 use Rattle.crew_instance.specs.Rules.{HasTeam, HasTask, TakesTeam, TakesTask, IsShift, IsWindow}
 use Rattle.dossier_terms.specs.declared.Size.{Size}
 use Rattle.dossier_terms.specs.Dossier.{mask_of}
 use Rattle.dossier_terms.specs.Reading.{More as Goes, teams_due, tasks_due}
 use Rattle.dossier_terms.specs.Rules.{Holds, On}
 use Rattle.head_check.specs.Numbers.{naturals, AreBelow}
-use Rattle.head_check.specs.Head.{IsHead, IsDue, SetsRow, Tells, parts_of}
+use Rattle.head_check.specs.Head.{IsHead, IsDue, Tells, parts_of}
 use Rattle.head_check.specs.Rows.{after_team, after_task, IsTaskRange}
 use Rattle.head_check.specs.declared.due.HeadDue.{HeadDue}
 use Rattle.head_check.specs.declared.due.HeadStep.TheVariants.{More}
 use Rattle.head_check.proofs.Steps.{plainly}
+use Rattle.head_check.proofs.GivenRow.{time_in_row, time_elsewhere}
 use Rattle.head_check.proofs.Listed.{naturals-pos}
 use Rattle.head_check.proofs.HeadRows.{none_of}
 
@@ -66,25 +67,15 @@ task_more z k d new p t Rises due rises room places range same window is next =
     ]
 
 -- a row of travel times more is given
-pub head_more : (z : Size) (old new : Parts) (r p more : ℕ) (times : List ℤ) → IsHead (record { size = z; builder = old }) p r 0 0
-    → SetsRow old new r times → length times ≡ p → IsHead (record { size = z; builder = new }) p (r + 1) 0 0
-head_more z old new r p more times h s n = record {
-  size = h.size;
-  places = ap (λ (d : Parts). length d.places) s.parts ∙ h.places;
-  given = λ a b l m. at a b l m (cases_eq a r);
-  teams = ap (λ (d : Parts). length d.teams) s.parts ∙ h.teams;
-  tasks = ap (λ (d : Parts). length d.tasks) s.parts ∙ h.tasks;
-}
+pub head_more : (z : Size) (d : Parts) (r p : ℕ) (row : List ℕ) → IsHead (record { size = z; builder = d }) p r 0 0
+    → r < length d.times → length row ≡ p → IsHead (record { size = z; builder = with_row d r row }) p (r + 1) 0 0
+head_more z d r p row h below n = record { size = h.size; places = h.places; given = λ a b l m. at a b l m (cases_eq a r); teams = h.teams; tasks = h.tasks }
   where
-    at : (a b : ℕ) → a < r + 1 → b < length new.places → (a ≡ r) ⊎ (a ≢ r) → time_of new a b ≢ None
+    at : (a b : ℕ) → a < r + 1 → b < length d.places → (a ≡ r) ⊎ (a ≢ r) → time_of (with_row d r row) a b ≢ None
     at a b l m (inl e) none =
-        let q = ap (λ (d : Parts). length d.places) s.parts in
-        let q' = h.places in
-        let t = s.set b (omega arith) in
-        let f : Some t.0 ≡ None = sym t.2 ∙ ap (λ x. time_of new x b) (sym e) ∙ none in cc
-    at a b l m (inr ne) none =
-        let q = ap (λ (d : Parts). length d.places) s.parts in
-        h.given a b (omega arith) (omega arith) (sym (s.others a b ne) ∙ none)
+        let q = h.places in
+        let f : Some (get_or row b 0) ≡ None = sym (time_in_row d r b row below (omega arith)) ∙ ap (λ x. time_of (with_row d r row) x b) (sym e) ∙ none in cc
+    at a b l m (inr ne) none = h.given a b (omega arith) m (sym (time_elsewhere d r a b row ne) ∙ none)
 
 pub minutes_below : (row : List ℕ) → All (λ t. t ≤ 2880) row → AreBelow 2881 (map pos row)
 minutes_below [] h k d l = absurd (omega arith)

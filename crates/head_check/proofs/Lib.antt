@@ -2,4 +2,4 @@ pub mod Steps
 pub mod Listed
 pub mod HeadRows
 pub mod HeadSteps
-pub mod SetRow
+pub mod GivenRow

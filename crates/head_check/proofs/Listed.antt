@@ -1,6 +1,6 @@
 -- the numbers at the end of a line, read one after another
 use Rattle.std.proofs.Common.{◌≡◌, ◌≤◌, ◌<◌, ◌+◌, ◌^◌, ◌++◌, ℕ, zero, suc, List, [], ◌∷◌, length, map, take, get_or, ap, subst, sym, refl, ◌∙◌, arith, ◌⊎◌, inl, inr, lit<}
-use Rattle.std.specs.Prelude.{ℤ, pos, slice_index_or}
+use Rattle.std.specs.Prelude.{ℤ, pos, slice_index_or, All}
 use Rattle.std.specs.List.{AllByRecursion}
 use Rattle.std.specs.List.Sorted.{IsStrictlyIncreasing}
 use Rattle.std.proofs.Math.Nat.{pow-succ'}
@@ -127,3 +127,10 @@ pushed zs n t copied l e so_far =
   where
     next : suc n ≡ n + 1
     next = omega arith
+
+pub naturals_below : (most : ℕ) (zs : List ℤ) → AreBelow (most + 1) zs → All (λ n. n ≤ most) (naturals zs)
+naturals_below most [] h k d l = absurd (omega arith)
+naturals_below most (z ∷ zs) h zero d l =
+    let b = h 0 (pos 0) (omega arith) in
+    let e : natural z ≡ b.0 = ap natural b.1 in let f = b.2 in omega arith
+naturals_below most (z ∷ zs) h (suc k) d l = naturals_below most zs (λ n x m. h (suc n) x (omega arith)) k d (omega arith)

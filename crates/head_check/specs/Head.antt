@@ -1,5 +1,5 @@
 -- what is held of the head of a dossier stands for what has been read of it
-use Rattle.std.specs.Prelude.{◌≡◌, ◌≢◌, ◌<◌, ◌+◌, ◌-◌, ℕ, suc, ℤ, pos, List, length, map, None, Some, slice_index_or}
+use Rattle.std.specs.Prelude.{◌≡◌, ◌≢◌, ◌<◌, ◌+◌, ◌-◌, ℕ, suc, length, map, None}
 use Rattle.std.specs.List.{range_with_len}
 use Rattle.crew_terms.specs.Words.{Words}
 use Rattle.crew_terms.specs.Instance.{Instance}
@@ -24,11 +24,11 @@ rows_read head more = head.size.places - suc more
 abbrev pub reading_of : HeadDue → Reading
 reading_of Form = FormDue
 reading_of Size = Sizes
-reading_of (Place head more) = Places head.size more (parts_of head.builder 0)
-reading_of (Travel head more) = Travels head.size more (parts_of head.builder (rows_read head more))
-reading_of (Team head more) = Teams head.size more (parts_of head.builder head.size.places)
-reading_of (Task head more) = Tasks head.size more (parts_of head.builder head.size.places)
-reading_of (Whole base) = Pools base.instance base.nodes
+reading_of (Place head more) = Places head.value.size more (parts_of head.value.builder 0)
+reading_of (Travel head more) = Travels head.value.size more (parts_of head.value.builder (rows_read head.value more))
+reading_of (Team head more) = Teams head.value.size more (parts_of head.value.builder head.value.size.places)
+reading_of (Task head more) = Tasks head.value.size more (parts_of head.value.builder head.value.size.places)
+reading_of (Whole base) = Pools base.value.instance base.value.nodes
 
 -- a line of the head is due
 abbrev pub IsLineDue : HeadDue → Type 0
@@ -51,10 +51,10 @@ pub record IsHead (head : Head) (p r m n : ℕ) : Type 0 where
 abbrev pub Holds : HeadDue → Type 0
 Holds Form = Unit {0}
 Holds Size = Unit {0}
-Holds (Place head more) = (p : ℕ) × (p + suc more ≡ head.size.places) × IsHead head p 0 0 0
-Holds (Travel head more) = (p : ℕ) × (p + suc more ≡ head.size.places) × IsHead head head.size.places p 0 0
-Holds (Team head more) = (p : ℕ) × (p + suc more ≡ head.size.teams) × IsHead head head.size.places head.size.places p 0
-Holds (Task head more) = (p : ℕ) × (p + suc more ≡ head.size.tasks) × IsHead head head.size.places head.size.places head.size.teams p
+Holds (Place head more) = (p : ℕ) × (p + suc more ≡ head.value.size.places) × IsHead head.value p 0 0 0
+Holds (Travel head more) = (p : ℕ) × (p + suc more ≡ head.value.size.places) × IsHead head.value head.value.size.places p 0 0
+Holds (Team head more) = (p : ℕ) × (p + suc more ≡ head.value.size.teams) × IsHead head.value head.value.size.places head.value.size.places p 0
+Holds (Task head more) = (p : ℕ) × (p + suc more ≡ head.value.size.tasks) × IsHead head.value head.value.size.places head.value.size.places head.value.size.teams p
 Holds (Whole base) = Unit {0}
 
 -- this is due, and what is held stands for it
@@ -80,9 +80,3 @@ pub record Tells (Rules : Said → Type 0) (step : HeadStep) : Type 0 where
 -- the step is what the table says of the line
 abbrev pub IsStep : HeadDue → Words → HeadStep → Type 0
 IsStep due words step = Tells (Says (reading_of due) words) step
-
--- the times from place a are set to these, and nothing else is changed
-pub record SetsRow (old new : Parts) (a : ℕ) (times : List ℤ) : Type 0 where
-  pub parts : new ≡ record old { times = new.times }
-  pub others : (x y : ℕ) → x ≢ a → time_of new x y ≡ time_of old x y
-  pub set : (y : ℕ) → y < length times → (t : ℕ) × (slice_index_or times y (pos 0) ≡ pos t) × (time_of new a y ≡ Some t)

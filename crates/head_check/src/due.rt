@@ -22,12 +22,12 @@ pub struct Base {
 pub enum HeadDue {
     Form,
     Size,
-    Place { head: Head, more: u32 },
-    Travel { head: Head, more: u32 },
-    Team { head: Head, more: u32 },
-    Task { head: Head, more: u32 },
+    Place { head: Box<Head>, more: u32 },
+    Travel { head: Box<Head>, more: u32 },
+    Team { head: Box<Head>, more: u32 },
+    Task { head: Box<Head>, more: u32 },
     /// No line of the head is due: the instance is whole.
-    Whole { base: Base },
+    Whole { base: Box<Base> },
 }
 
 /// What is said of a line of the head.

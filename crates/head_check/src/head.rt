@@ -3,13 +3,14 @@ ghost use Rattle.std.specs.Prelude.{◌≡◌, ◌<◌, ◌≤◌, ◌+◌, ◌-
 ghost use Rattle.crew_terms.specs.Name.{IsName};
 ghost use Rattle.crew_terms.specs.Words.{Words};
 ghost use Rattle.dossier_terms.specs.Table.{IsTravel, IsTeamLine, IsTaskLine};
-ghost use Rattle.head_check.specs.Numbers.{AreBelow};
+ghost use Rattle.crew_instance.specs.Draft.{with_row};
+ghost use Rattle.head_check.specs.Numbers.{AreBelow, naturals};
 ghost use Rattle.head_check.specs.Rows.{after_place, after_travel, after_team, after_task, IsTaskRange};
 ghost use Rattle.dossier_terms.specs.Reading.{places_due, travels_due, teams_due, tasks_due};
-ghost use Rattle.head_check.specs.Head.{Holds, IsHead, IsStep, IsDue, SetsRow, Tells, parts_of, rows_read};
+ghost use Rattle.head_check.specs.Head.{Holds, IsHead, IsStep, IsDue, Tells, parts_of, rows_read};
 
 use crate::due::{Base, Head, HeadDue, HeadStep};
-use crate::numbers::{number_at, skill_set};
+use crate::numbers::{number_list, skill_set};
 use cert_format::{Expect, LineKind, Rest, fault_is_refused, read_line};
 use crew_instance::{BuildFault, Builder, Name, Task, Team};
 use dossier_terms::{Reason, Size};
@@ -25,9 +26,9 @@ fn out_of_memory(fault: BuildFault) -> AllocError
 }
 
 /// What is due where so many tasks are to come.
-fn due_tasks(head: Head, more: u32) -> Result<HeadDue, AllocError>
-    requires { (p : ℕ) × (p + more ≡ head.size.tasks) × IsHead head head.size.places head.size.places head.size.teams p }
-    ensures { IfOk result (λ due. IsDue (tasks_due head.size more (parts_of head.builder head.size.places)) due) }
+fn due_tasks(alloc: Global, head: Box<Head>, more: u32) -> Result<HeadDue, AllocError>
+    requires { (p : ℕ) × (p + more ≡ head.value.size.tasks) × IsHead head.value head.value.size.places head.value.size.places head.value.size.teams p }
+    ensures { IfOk result (λ due. IsDue (tasks_due head.value.size more (parts_of head.value.builder head.value.size.places)) due) }
 {
     if more > 0 {
         return Ok(HeadDue::Task {
@@ -35,21 +36,25 @@ fn due_tasks(head: Head, more: u32) -> Result<HeadDue, AllocError>
             more: more - 1,
         });
     }
-    match head.builder.finish() {
-        Ok(instance) => Ok(HeadDue::Whole {
-            base: Base {
+    let Head { size, builder } = Box::into_inner(head);
+    match builder.into_instance() {
+        Ok(instance) => {
+            let base = Base {
                 instance,
-                nodes: head.size.nodes,
-            },
-        }),
+                nodes: size.nodes,
+            };
+            Ok(HeadDue::Whole {
+                base: Box::new(alloc, base)?,
+            })
+        }
         Err(fault) => Err(out_of_memory(fault)),
     }
 }
 
 /// What is due where so many teams are to come.
-fn due_teams(head: Head, more: u32) -> Result<HeadDue, AllocError>
-    requires { (p : ℕ) × (p + more ≡ head.size.teams) × IsHead head head.size.places head.size.places p 0 }
-    ensures { IfOk result (λ due. IsDue (teams_due head.size more (parts_of head.builder head.size.places)) due) }
+fn due_teams(alloc: Global, head: Box<Head>, more: u32) -> Result<HeadDue, AllocError>
+    requires { (p : ℕ) × (p + more ≡ head.value.size.teams) × IsHead head.value head.value.size.places head.value.size.places p 0 }
+    ensures { IfOk result (λ due. IsDue (teams_due head.value.size more (parts_of head.value.builder head.value.size.places)) due) }
 {
     if more > 0 {
         return Ok(HeadDue::Team {
@@ -58,13 +63,13 @@ fn due_teams(head: Head, more: u32) -> Result<HeadDue, AllocError>
         });
     }
     let tasks = head.size.tasks;
-    due_tasks(head, tasks)
+    due_tasks(alloc, head, tasks)
 }
 
 /// What is due where so many rows of travel times are to come.
-fn due_travels(head: Head, more: u32) -> Result<HeadDue, AllocError>
-    requires { (p : ℕ) × (p + more ≡ head.size.places) × IsHead head head.size.places p 0 0 }
-    ensures { IfOk result (λ due. IsDue (travels_due head.size more (parts_of head.builder (head.size.places - more))) due) }
+fn due_travels(alloc: Global, head: Box<Head>, more: u32) -> Result<HeadDue, AllocError>
+    requires { (p : ℕ) × (p + more ≡ head.value.size.places) × IsHead head.value head.value.size.places p 0 0 }
+    ensures { IfOk result (λ due. IsDue (travels_due head.value.size more (parts_of head.value.builder (head.value.size.places - more))) due) }
 {
     if more > 0 {
         return Ok(HeadDue::Travel {
@@ -73,13 +78,13 @@ fn due_travels(head: Head, more: u32) -> Result<HeadDue, AllocError>
         });
     }
     let teams = head.size.teams;
-    due_teams(head, teams)
+    due_teams(alloc, head, teams)
 }
 
 /// What is due where so many places are to come.
-fn due_places(head: Head, more: u32) -> Result<HeadDue, AllocError>
-    requires { (p : ℕ) × (p + more ≡ head.size.places) × IsHead head p 0 0 0 }
-    ensures { IfOk result (λ due. IsDue (places_due head.size more (parts_of head.builder 0)) due) }
+fn due_places(alloc: Global, head: Box<Head>, more: u32) -> Result<HeadDue, AllocError>
+    requires { (p : ℕ) × (p + more ≡ head.value.size.places) × IsHead head.value p 0 0 0 }
+    ensures { IfOk result (λ due. IsDue (places_due head.value.size more (parts_of head.value.builder 0)) due) }
 {
     if more > 0 {
         return Ok(HeadDue::Place {
@@ -88,7 +93,7 @@ fn due_places(head: Head, more: u32) -> Result<HeadDue, AllocError>
         });
     }
     let places = head.size.places;
-    due_travels(head, places)
+    due_travels(alloc, head, places)
 }
 
 /// The line `crew dossier 1`.
@@ -130,16 +135,23 @@ pub fn size_line(alloc: Global, words: LineWords<'_>) -> Result<HeadStep, AllocE
         size,
         builder: Builder::new(alloc),
     };
-    Ok(HeadStep::More(due_places(head, places)?))
+    let head = Box::new(alloc, head)?;
+    Ok(HeadStep::More(due_places(alloc, head, places)?))
 }
 
 /// Adds a place that a line spells.
-fn add_place(mut head: Head, more: u32, name: Name) -> Result<HeadStep, AllocError>
+fn add_place(
+    alloc: Global,
+    mut head: Box<Head>,
+    more: u32,
+    name: Name,
+) -> Result<HeadStep, AllocError>
     requires { Holds (HeadDue.Place head more) }
-    ensures { IfOk result (Tells (after_place head.size more (parts_of head.builder 0) name)) }
+    ensures { IfOk result (Tells (after_place head.value.size more (parts_of head.value.builder 0) name)) }
 {
-    match head.builder.place(name) {
-        Ok(()) => Ok(HeadStep::More(due_places(head, more)?)),
+    let held = &mut *head;
+    match held.builder.place(name) {
+        Ok(()) => Ok(HeadStep::More(due_places(alloc, head, more)?)),
         Err(BuildFault::SameName) => Ok(HeadStep::No(Reason::Name)),
         Err(BuildFault::OutOfMemory) => Err(AllocError),
         Err(_) => unreachable!(),
@@ -147,7 +159,12 @@ fn add_place(mut head: Head, more: u32, name: Name) -> Result<HeadStep, AllocErr
 }
 
 /// A line `place`.
-pub fn place_line(head: Head, more: u32, words: LineWords<'_>) -> Result<HeadStep, AllocError>
+pub fn place_line(
+    alloc: Global,
+    head: Box<Head>,
+    more: u32,
+    words: LineWords<'_>,
+) -> Result<HeadStep, AllocError>
     requires { Holds (HeadDue.Place head more) }
     ensures { IfOk result (IsStep (HeadDue.Place head more) words.entry) }
 {
@@ -159,39 +176,52 @@ pub fn place_line(head: Head, more: u32, words: LineWords<'_>) -> Result<HeadSte
     let LineKind::Place { name } = kind else {
         unreachable!()
     };
-    add_place(head, more, name)
+    add_place(alloc, head, more, name)
 }
 
-/// Sets the times from place `row` to each place.
-fn set_row(builder: &mut Builder, row: u32, times: &Rest<'_>) -> Result<(), AllocError>
-    requires row { row < length builder.old.places }
+/// Sets the times from a place to each place.
+fn set_row(
+    alloc: Global,
+    builder: &mut Builder,
+    place: u32,
+    times: &Rest<'_>,
+) -> Result<(), AllocError>
+    requires place { place < length builder.old.places }
     requires count { length times.now ≡ length builder.old.places }
     requires day { AreBelow 2881 times.now }
-    ensures { OnOk result (SetsRow builder.old builder.new row times.now) }
+    ensures { OnOk result (builder.new ≡ with_row builder.old place (naturals times.now)) }
 {
-    let places = builder.places() as u32;
-    for to in 0..places {
-        match builder.travel(row, to, number_at(times, to as usize)) {
-            Ok(()) => {}
-            Err(BuildFault::OutOfMemory) => return Err(AllocError),
-            Err(_) => unreachable!(),
-        }
+    let row = number_list(alloc, times)?;
+    match builder.travel_from(place, row) {
+        Ok(()) => Ok(()),
+        Err(_) => unreachable!(),
     }
-    Ok(())
 }
 
 /// Adds the travel times from the next place, which a line spells.
-fn add_travel(mut head: Head, more: u32, times: &Rest<'_>) -> Result<HeadStep, AllocError>
+fn add_travel(
+    alloc: Global,
+    mut head: Box<Head>,
+    more: u32,
+    times: &Rest<'_>,
+) -> Result<HeadStep, AllocError>
     requires held { Holds (HeadDue.Travel head more) }
-    requires times { (row : List ℕ) × (times.now ≡ map pos row) × IsTravel head.size.places row }
-    ensures { IfOk result (λ step. (row : List ℕ) → times.now ≡ map pos row → Tells (after_travel head.size more (parts_of head.builder (rows_read head more)) row) step) }
+    requires times { (row : List ℕ) × (times.now ≡ map pos row) × IsTravel head.value.size.places row }
+    ensures { IfOk result (λ step. (row : List ℕ) → times.now ≡ map pos row → Tells (after_travel head.value.size more (parts_of head.value.builder (rows_read head.value more)) row) step) }
 {
-    set_row(&mut head.builder, head.size.places - 1 - more, times)?;
-    Ok(HeadStep::More(due_travels(head, more)?))
+    let held = &mut *head;
+    let from = held.builder.places() as u32 - 1 - more;
+    set_row(alloc, &mut held.builder, from, times)?;
+    Ok(HeadStep::More(due_travels(alloc, head, more)?))
 }
 
 /// A line `travel`.
-pub fn travel_line(head: Head, more: u32, words: LineWords<'_>) -> Result<HeadStep, AllocError>
+pub fn travel_line(
+    alloc: Global,
+    head: Box<Head>,
+    more: u32,
+    words: LineWords<'_>,
+) -> Result<HeadStep, AllocError>
     requires { Holds (HeadDue.Travel head more) }
     ensures { IfOk result (IsStep (HeadDue.Travel head more) words.entry) }
 {
@@ -204,18 +234,25 @@ pub fn travel_line(head: Head, more: u32, words: LineWords<'_>) -> Result<HeadSt
     let LineKind::Travel { times } = kind else {
         unreachable!()
     };
-    add_travel(head, more, &times)
+    add_travel(alloc, head, more, &times)
 }
 
 /// Adds a team that a line spells, whose skills rise strictly where `rises` says so.
-fn add_team(mut head: Head, more: u32, team: Team, rises: bool) -> Result<HeadStep, AllocError>
+fn add_team(
+    alloc: Global,
+    mut head: Box<Head>,
+    more: u32,
+    team: Team,
+    rises: bool,
+) -> Result<HeadStep, AllocError>
     requires held { Holds (HeadDue.Team head more) }
-    requires home { team.home < head.size.places }
+    requires home { team.home < head.value.size.places }
     requires day { team.until ≤ 2880 }
-    ensures { IfOk result (Tells (after_team head.size more (parts_of head.builder head.size.places) team (IsTrue rises))) }
+    ensures { IfOk result (Tells (after_team head.value.size more (parts_of head.value.builder head.value.size.places) team (IsTrue rises))) }
 {
-    match head.builder.team(team) {
-        Ok(()) if rises => Ok(HeadStep::More(due_teams(head, more)?)),
+    let held = &mut *head;
+    match held.builder.team(team) {
+        Ok(()) if rises => Ok(HeadStep::More(due_teams(alloc, head, more)?)),
         Ok(()) | Err(BuildFault::BadShift) => Ok(HeadStep::No(Reason::Instance)),
         Err(BuildFault::SameName) => Ok(HeadStep::No(Reason::Name)),
         Err(BuildFault::OutOfMemory) => Err(AllocError),
@@ -224,7 +261,12 @@ fn add_team(mut head: Head, more: u32, team: Team, rises: bool) -> Result<HeadSt
 }
 
 /// A line `team`.
-pub fn team_line(head: Head, more: u32, words: LineWords<'_>) -> Result<HeadStep, AllocError>
+pub fn team_line(
+    alloc: Global,
+    head: Box<Head>,
+    more: u32,
+    words: LineWords<'_>,
+) -> Result<HeadStep, AllocError>
     requires { Holds (HeadDue.Team head more) }
     ensures { IfOk result (IsStep (HeadDue.Team head more) words.entry) }
 {
@@ -252,17 +294,24 @@ pub fn team_line(head: Head, more: u32, words: LineWords<'_>) -> Result<HeadStep
         until,
         skills: set.unwrap_or(0),
     };
-    add_team(head, more, team, set.is_some())
+    add_team(alloc, head, more, team, set.is_some())
 }
 
 /// Adds a task that a line spells, whose skills rise strictly where `rises` says so.
-fn add_task(mut head: Head, more: u32, task: Task, rises: bool) -> Result<HeadStep, AllocError>
+fn add_task(
+    alloc: Global,
+    mut head: Box<Head>,
+    more: u32,
+    task: Task,
+    rises: bool,
+) -> Result<HeadStep, AllocError>
     requires held { Holds (HeadDue.Task head more) }
-    requires ranges { IsTaskRange head.size.places task }
-    ensures { IfOk result (Tells (after_task head.size more (parts_of head.builder head.size.places) task (IsTrue rises))) }
+    requires ranges { IsTaskRange head.value.size.places task }
+    ensures { IfOk result (Tells (after_task head.value.size more (parts_of head.value.builder head.value.size.places) task (IsTrue rises))) }
 {
-    match head.builder.task(task) {
-        Ok(()) if rises => Ok(HeadStep::More(due_tasks(head, more)?)),
+    let held = &mut *head;
+    match held.builder.task(task) {
+        Ok(()) if rises => Ok(HeadStep::More(due_tasks(alloc, head, more)?)),
         Ok(()) | Err(BuildFault::BadWindow) => Ok(HeadStep::No(Reason::Instance)),
         Err(BuildFault::SameName) => Ok(HeadStep::No(Reason::Name)),
         Err(BuildFault::OutOfMemory) => Err(AllocError),
@@ -271,7 +320,12 @@ fn add_task(mut head: Head, more: u32, task: Task, rises: bool) -> Result<HeadSt
 }
 
 /// A line `task`.
-pub fn task_line(head: Head, more: u32, words: LineWords<'_>) -> Result<HeadStep, AllocError>
+pub fn task_line(
+    alloc: Global,
+    head: Box<Head>,
+    more: u32,
+    words: LineWords<'_>,
+) -> Result<HeadStep, AllocError>
     requires { Holds (HeadDue.Task head more) }
     ensures { IfOk result (IsStep (HeadDue.Task head more) words.entry) }
 {
@@ -304,5 +358,5 @@ pub fn task_line(head: Head, more: u32, words: LineWords<'_>) -> Result<HeadStep
         teams,
         skills,
     };
-    add_task(head, more, task, set.is_some())
+    add_task(alloc, head, more, task, set.is_some())
 }

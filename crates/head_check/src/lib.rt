@@ -23,10 +23,10 @@ pub fn judge_head(alloc: Global, due: HeadDue, words: LineWords<'_>) -> Result<H
     match due {
         HeadDue::Form => Ok(form_line(words)),
         HeadDue::Size => size_line(alloc, words),
-        HeadDue::Place { head, more } => place_line(head, more, words),
-        HeadDue::Travel { head, more } => travel_line(head, more, words),
-        HeadDue::Team { head, more } => team_line(head, more, words),
-        HeadDue::Task { head, more } => task_line(head, more, words),
+        HeadDue::Place { head, more } => place_line(alloc, head, more, words),
+        HeadDue::Travel { head, more } => travel_line(alloc, head, more, words),
+        HeadDue::Team { head, more } => team_line(alloc, head, more, words),
+        HeadDue::Task { head, more } => task_line(alloc, head, more, words),
         HeadDue::Whole { .. } => unreachable!(),
     }
 }

@@ -34,14 +34,22 @@ pub fn skill_set(skills: &Rest<'_>) -> Option<u64>
     Some(set)
 }
 
+/// The numbers at the end of a line, copied out of it.
+pub(crate) fn number_list(alloc: Global, numbers: &Rest<'_>) -> Result<Vec<u32>, AllocError>
+    requires { AreBelow 2881 numbers.now }
+    ensures { IfOk result (λ list. list.items ≡ naturals numbers.now) }
+{
+    let mut list = Vec::with_capacity(alloc, numbers.len())?;
+    for n in 0..numbers.len() {
+        list.push(number_at(numbers, n))?;
+    }
+    Ok(list)
+}
+
 /// The numbers of teams, copied out of a line.
 pub fn team_list(alloc: Global, teams: &Rest<'_>) -> Result<Vec<u32>, AllocError>
     requires { AreBelow 64 teams.now }
     ensures { IfOk result (λ list. list.items ≡ naturals teams.now) }
 {
-    let mut list = Vec::with_capacity(alloc, teams.len())?;
-    for n in 0..teams.len() {
-        list.push(number_at(teams, n))?;
-    }
-    Ok(list)
+    number_list(alloc, teams)
 }

@@ -1,15 +1,24 @@
-use Rattle.std.proofs.Common.{arith}
+use Rattle.std.proofs.Common.{◌≡◌, ◌<◌, ◌+◌, ℕ, suc, sym, subst, arith}
 use Rattle.std.specs.Prelude.{IsTrue}
+use Rattle.head_check.specs.declared.due.Head.{Head}
+use Rattle.head_check.specs.declared.due.HeadStep.TheVariants.{More}
+use Rattle.head_check.specs.Head.{IsHead, Tells, parts_of}
+use Rattle.head_check.specs.Rows.{after_team}
 use Rattle.head_check.proofs.HeadSteps.{team_more}
 use Rattle.head_check.proofs.head.add_team.Goals as goal
 
 pub returns-in_ok-due_teams-in-Ok : goal.returns-in_ok-due_teams-in-Ok
 returns-in_ok-due_teams-in-Ok c =
-    let held = c.requires.held in
+    let b : Head = c.deref_mut-held.result.now in
+    let e : b ≡ c.args.head.value = c.deref_mut-held.ensures.value in
+    let Read : Head → Type 0 = λ h. (p : ℕ) × (p + suc c.args.more ≡ h.size.teams) × IsHead h h.size.places h.size.places p 0 in
+    let held : Read b = subst Read (sym e) c.requires.held in
     let head = held.2 in
     let few = head.size.teams in
     let read = head.teams in
     let all = held.1 in
-    team_more c.args.head.size c.args.more c.args.head.builder c.team.new.self c.args.head.size.places c.args.team (IsTrue c.args.rises) c.in_ok-due_teams-in-Ok.field-0
-    c.if-rises.true (omega arith) head.places c.requires.home c.requires.day
-    (λ h. let e = (c.in-Ok.ensures.same_name).1 h in cc) (λ h. let e = (c.in-Ok.ensures.bad_shift).1 h in cc) c.in-Ok.ensures.ok c.in_ok-due_teams-in-Ok.ensures
+    let due = c.in_ok-due_teams-in-Ok.field-0 in
+    subst (λ (h : Head). Tells (after_team h.size c.args.more (parts_of h.builder h.size.places) c.args.team (IsTrue c.args.rises)) (More due)) e
+    (team_more b.size c.args.more b.builder c.team.new.self b.size.places c.args.team (IsTrue c.args.rises) due
+    c.if-rises.true (omega arith) head.places (subst (λ (h : Head). c.args.team.home < h.size.places) (sym e) c.requires.home) c.requires.day
+    (λ h. let e = (c.in-Ok.ensures.same_name).1 h in cc) (λ h. let e = (c.in-Ok.ensures.bad_shift).1 h in cc) c.in-Ok.ensures.ok c.in_ok-due_teams-in-Ok.ensures)

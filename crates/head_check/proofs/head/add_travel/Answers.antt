@@ -1,14 +1,46 @@
-use Rattle.std.proofs.Common.{◌≡◌, ◌+◌, ◌-◌, suc, length, map, ap, sym, subst, ◌∙◌, arith}
-use Rattle.std.specs.Prelude.{pos}
+use Rattle.std.proofs.Common.{◌≡◌, ◌+◌, ◌-◌, ℕ, suc, List, length, map, ap, sym, subst, ◌∙◌, arith}
+use Rattle.std.specs.Prelude.{ℤ, pos}
 use Rattle.std.proofs.lemmas.List.{length-map}
+use Rattle.crew_instance.specs.Draft.{with_row}
 use Rattle.dossier_terms.specs.Reading.{More as Goes, travels_due}
 use Rattle.dossier_terms.specs.Rules.{On}
-use Rattle.head_check.specs.Numbers.{AreBelow}
-use Rattle.head_check.specs.Head.{SetsRow, parts_of}
+use Rattle.dossier_terms.specs.Table.{IsTravel}
+use Rattle.head_check.specs.declared.due.Head.{Head}
+use Rattle.head_check.specs.declared.due.HeadStep.TheVariants.{More}
+use Rattle.head_check.specs.Numbers.{AreBelow, naturals}
+use Rattle.head_check.specs.Rows.{after_travel}
+use Rattle.head_check.specs.Head.{IsHead, Tells, parts_of, rows_read}
 use Rattle.head_check.proofs.Steps.{plainly}
+use Rattle.head_check.proofs.Listed.{naturals-pos}
 use Rattle.head_check.proofs.HeadRows.{travel_parts}
 use Rattle.head_check.proofs.HeadSteps.{head_more, minutes_below}
 use Rattle.head_check.proofs.head.add_travel.Goals as goal
+
+-- what is read of the head where so many more rows are to come after the next, and the row that is next
+abbrev IsRead : ℕ → Head → Type 0
+IsRead more h = (p : ℕ) × (p + suc more ≡ h.size.places) × IsHead h h.size.places p 0 0
+
+abbrev IsRowOf : List ℤ → Head → Type 0
+IsRowOf times h = (row : List ℕ) × (times ≡ map pos row) × IsTravel h.size.places row
+
+counted : (times : List ℤ) (h : Head) → IsRowOf times h → length times ≡ h.size.places
+counted times h t = ap length t.1 ∙ length-map t.0 pos ∙ t.2.count
+
+pub overflow_sub-from : goal.overflow_sub-from
+overflow_sub-from c =
+    let held = subst (IsRead c.args.more) (sym c.deref_mut-held.ensures.value) c.requires.held in
+    let n = held.2.places in let l = held.1 in let m = c.places.ensures.count in omega arith
+
+pub set_row-requires-clause-place : goal.set_row-requires-clause-place
+set_row-requires-clause-place c =
+    let held = subst (IsRead c.args.more) (sym c.deref_mut-held.ensures.value) c.requires.held in
+    let n = held.2.places in let l = held.1 in let m = c.places.ensures.count in omega arith
+
+pub set_row-requires-clause-count : goal.set_row-requires-clause-count
+set_row-requires-clause-count c =
+    let b : Head = c.deref_mut-held.result.now in
+    let held = subst (IsRead c.args.more) (sym c.deref_mut-held.ensures.value) c.requires.held in
+    counted c.args.times.now b (subst (IsRowOf c.args.times.now) (sym c.deref_mut-held.ensures.value) c.requires.times) ∙ sym held.2.places
 
 pub set_row-requires-clause-day : goal.set_row-requires-clause-day
 set_row-requires-clause-day c =
@@ -17,32 +49,44 @@ set_row-requires-clause-day c =
 
 pub due_travels-requires : goal.due_travels-requires
 due_travels-requires c =
-    let held = c.requires.held in
-    let t = c.requires.times in
-    let size = c.args.head.size in
-    let row = size.places - 1 - c.args.more in
-    let r : row ≡ held.0 = (let e = held.1 in omega arith) in
-    let n : length c.args.times.now ≡ size.places = ap length t.1 ∙ length-map t.0 pos ∙ t.2.count in (
-      held.0 + 1,
-      (let e = held.1 in omega arith),
-      head_more size c.args.head.builder c.set_row.new.builder held.0 size.places c.args.more c.args.times.now held.2
-          (subst (λ x. SetsRow c.args.head.builder c.set_row.new.builder x c.args.times.now) r c.in_ok-set_row.ensures) n,
+    let b : Head = c.deref_mut-held.result.now in
+    let held : IsRead c.args.more b = subst (IsRead c.args.more) (sym c.deref_mut-held.ensures.value) c.requires.held in
+    let t : IsRowOf c.args.times.now b = subst (IsRowOf c.args.times.now) (sym c.deref_mut-held.ensures.value) c.requires.times in
+    let p = held.0 in
+    let l = held.1 in
+    let n = held.2.places in
+    let m = c.places.ensures.count in
+    let rows = c.places.ensures.limits.rows in
+    let from : c.places.result - 1 - c.args.more ≡ p = omega arith in
+    let row : naturals c.args.times.now ≡ t.0 = ap naturals t.1 ∙ naturals-pos t.0 in
+    let sets : c.set_row.new.builder ≡ with_row b.builder p t.0 =
+    c.in_ok-set_row.ensures ∙ ap (λ a. with_row b.builder a (naturals c.args.times.now)) from ∙ ap (with_row b.builder p) row in (
+      p + 1,
+      (omega arith),
+      subst (λ d. IsHead (record { size = b.size; builder = d }) b.size.places (p + 1) 0 0) (sym sets)
+          (head_more b.size b.builder p b.size.places t.0 held.2 (omega arith) t.2.count),
     )
 
 pub returns : goal.returns
-returns c = λ row e.
-    let held = c.requires.held in
-    let t = c.requires.times in
-    let size = c.args.head.size in
-    let old = c.args.head.builder in
+returns c = λ row is.
+    let b : Head = c.deref_mut-held.result.now in
+    let e : b ≡ c.args.head.value = c.deref_mut-held.ensures.value in
+    let held : IsRead c.args.more b = subst (IsRead c.args.more) (sym e) c.requires.held in
+    let t : IsRowOf c.args.times.now b = subst (IsRowOf c.args.times.now) (sym e) c.requires.times in
+    let r = rows_read b c.args.more in
     let new = c.set_row.new.builder in
-    let r = size.places - suc c.args.more in
-    let is : size.places - 1 - c.args.more ≡ r = omega arith in
-    let next : size.places - c.args.more ≡ suc r = (let f = held.1 in omega arith) in
-    let n : length c.args.times.now ≡ size.places = ap length t.1 ∙ length-map t.0 pos ∙ t.2.count in
-    let m : length row ≡ size.places = sym (length-map row pos) ∙ sym (ap length e) ∙ n in
-    let p = held.2.places in
-    let sets : SetsRow old new r (map pos row) = subst (SetsRow old new r) e (subst (λ x. SetsRow old new x c.args.times.now) is c.in_ok-set_row.ensures) in
-    let parts = travel_parts old new r row sets (omega arith) in
-    plainly (On (ap Goes (c.in_ok-due_travels.ensures.is ∙ ap (λ x. travels_due size c.args.more (parts_of new x)) next ∙ ap (travels_due size c.args.more) parts)))
-    c.in_ok-due_travels.ensures.holds
+    let l = held.1 in
+    let n = held.2.places in
+    let m = c.places.ensures.count in
+    let rows = c.places.ensures.limits.rows in
+    let from : c.places.result - 1 - c.args.more ≡ r = omega arith in
+    let sets : new ≡ with_row b.builder r row =
+    c.in_ok-set_row.ensures ∙ ap (λ a. with_row b.builder a (naturals c.args.times.now)) from
+    ∙ ap (with_row b.builder r) (ap naturals is ∙ naturals-pos row) in
+    let next : b.size.places - c.args.more ≡ suc r = omega arith in
+    let size : length row ≡ b.size.places = sym (length-map row pos) ∙ sym (ap length is) ∙ counted c.args.times.now b t in
+    let parts = travel_parts b.builder r row (omega arith) (omega arith) in
+    subst (λ (h : Head). Tells (after_travel h.size c.args.more (parts_of h.builder (rows_read h c.args.more)) row) (More c.in_ok-due_travels.field-0)) e
+    (plainly (On (ap Goes (c.in_ok-due_travels.ensures.is ∙ ap (λ x. travels_due b.size c.args.more (parts_of new x)) next
+    ∙ ap (λ d. travels_due b.size c.args.more (parts_of d (suc r))) sets ∙ ap (travels_due b.size c.args.more) parts)))
+    c.in_ok-due_travels.ensures.holds)

@@ -1,9 +1,10 @@
-use Rattle.std.proofs.Common.{◌≡◌, ℕ, refl, ap, arith, length, Err}
+use Rattle.std.proofs.Common.{◌≡◌, ℕ, refl, ap, sym, subst, arith, length, Err}
 use Rattle.crew_instance.specs.Draft.{Draft, IsFirstMissing}
 use Rattle.crew_instance.specs.Rules.{IsFinishFault}
 use Rattle.crew_instance.specs.declared.faults.BuildFault.{BuildFault}
 use Rattle.crew_instance.specs.declared.faults.BuildFault.TheVariants.{OutOfMemory, MissingTravel}
-use Rattle.head_check.specs.Head.{AreGiven}
+use Rattle.head_check.specs.declared.due.Head.{Head}
+use Rattle.head_check.specs.Head.{AreGiven, IsHead}
 use Rattle.head_check.proofs.head.due_tasks.Goals as goal
 
 -- where every time is given, only memory is wanting
@@ -18,6 +19,8 @@ only_memory d places _ e given is missing = absurd is
 
 pub out_of_memory-requires : goal.out_of_memory-requires
 out_of_memory-requires c =
-    let head = c.requires.2 in
-    only_memory c.args.head.builder c.args.head.size.places c.in-Err.fault head.places head.given c.in-Err.ensures.no_other
+    let b : Head = c.into_inner-builder.result in
+    let head : IsHead b b.size.places b.size.places b.size.teams c.requires.0 =
+    subst (λ (h : Head). IsHead h h.size.places h.size.places h.size.teams c.requires.0) (sym c.into_inner-builder.ensures) c.requires.2 in
+    only_memory b.builder b.size.places c.in-Err.fault head.places head.given c.in-Err.ensures.no_other
     (λ a b e. (c.in-Err.ensures.missing a b).0 (ap Err e))

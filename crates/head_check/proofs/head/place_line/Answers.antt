@@ -18,6 +18,6 @@ pub returns : goal.returns
 returns c =
     let h = subst (IsPlaceLine c.args.words) c.in-Place.is c.in-Ok.ensures in
     let due = Place c.args.head c.args.more in
-    let rules = after_place c.args.head.size c.args.more (parts_of c.args.head.builder 0) c.in-Place.name in
+    let rules = after_place c.args.head.value.size c.args.more (parts_of c.args.head.value.builder 0) c.in-Place.name in
     if_ok c.add_place.result (Tells rules) (IsStep due c.args.words) c.add_place.ensures (λ step t.
-    tells_step due c.args.words step rules (λ said rest. place_says c.args.head.size c.args.more (parts_of c.args.head.builder 0) c.args.words c.in-Place.name said h.0 h.1 rest) t)
+    tells_step due c.args.words step rules (λ said rest. place_says c.args.head.value.size c.args.more (parts_of c.args.head.value.builder 0) c.args.words c.in-Place.name said h.0 h.1 rest) t)

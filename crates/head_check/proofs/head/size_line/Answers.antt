@@ -3,6 +3,7 @@ use Rattle.cert_format.specs.Lines.{IsSizeLine}
 use Rattle.dossier_terms.specs.declared.Size.{Size as SizeNumbers}
 use Rattle.dossier_terms.specs.Reading.{More as Goes, places_due}
 use Rattle.head_check.specs.Head.{IsStep, reading_of, parts_of}
+use Rattle.head_check.specs.declared.due.Head.{Head}
 use Rattle.head_check.specs.declared.due.HeadDue.TheVariants.{Size}
 use Rattle.head_check.specs.declared.due.HeadStep.TheVariants.{More, No}
 use Rattle.head_check.proofs.Steps.{says_step}
@@ -20,5 +21,5 @@ returns c =
     let z : SizeNumbers = record { teams = c.in-Size.teams; tasks = c.in-Size.tasks; places = c.in-Size.places; nodes = c.in-Size.nodes } in
     let next = c.in_ok-due_places.ensures in
     says_step Size c.args.words (More c.in_ok-due_places.field-0)
-    (size_more c.args.words z (Goes (reading_of c.in_ok-due_places.field-0)) h.0 h.1 (ap Goes (next.is ∙ ap (λ b. places_due z z.places (parts_of b 0)) c.new.ensures)))
+    (size_more c.args.words z (Goes (reading_of c.in_ok-due_places.field-0)) h.0 h.1 (ap Goes (next.is ∙ ap (λ (h : Head). places_due h.size z.places (parts_of h.builder 0)) c.in_ok-head.ensures.ok ∙ ap (λ b. places_due z z.places (parts_of b 0)) c.new.ensures)))
     next.holds

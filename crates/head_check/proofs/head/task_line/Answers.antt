@@ -1,10 +1,12 @@
 use Rattle.std.proofs.Common.{sym, subst, ◌∙◌}
-use Rattle.cert_format.specs.Lines.{IsTaskOf}
+use Rattle.cert_format.specs.Lines.{IsFaultOf, IsTaskOf}
+use Rattle.cert_format.specs.declared.kinds.Expect.TheVariants as expects
 use Rattle.head_check.specs.Numbers.{AreBelow}
 use Rattle.head_check.specs.Rows.{after_task}
 use Rattle.head_check.specs.Head.{reading_of, IsStep, Tells, parts_of}
 use Rattle.std.specs.Prelude.{IsTrue}
 use Rattle.crew_terms.specs.declared.Task.{Task}
+use Rattle.head_check.specs.declared.due.Head.{Head}
 use Rattle.head_check.specs.declared.due.HeadDue.TheVariants.{Task as TaskDue}
 use Rattle.head_check.specs.declared.due.HeadStep.TheVariants.{No}
 use Rattle.head_check.proofs.Steps.{says_step, tells_step}
@@ -16,19 +18,19 @@ use Rattle.head_check.proofs.head.task_line.Goals as goal
 pub returns-in-Err : goal.returns-in-Err
 returns-in-Err c =
     let due = TaskDue c.args.head c.args.more in
-    subst (λ r. IsStep due c.args.words (No r)) (sym c.reason.ensures) (says_step due c.args.words (No _) (c.fault_is_refused.ensures (reading_of due) c.args.words c.in-Err.fault c.in-Err.ensures) tt)
+    subst (λ r. IsStep due c.args.words (No r)) (sym c.reason.ensures) (says_step due c.args.words (No _) (c.fault_is_refused.ensures (reading_of due) c.args.words c.in-Err.fault (subst (λ (h : Head). IsFaultOf (expects.Task h.size.places) c.args.words c.in-Err.fault) c.deref.ensures c.in-Err.ensures)) tt)
 
 pub skill_set-set-requires : goal.skill_set-set-requires
 skill_set-set-requires c =
-    let h = subst (IsTaskOf c.args.head.size.places c.args.words) c.in-Task.is c.in-Ok.ensures in
+    let h = subst (IsTaskOf c.args.head.value.size.places c.args.words) c.in-Task.is (subst (λ (h : Head). IsTaskOf h.size.places c.args.words c.in-Ok.kind) c.deref.ensures c.in-Ok.ensures) in
     subst (AreBelow 64) (sym h.1) (below_from 64 h.0 h.2.skills)
 
 pub returns : goal.returns
 returns c =
-    let z = c.args.head.size in
-    let h = subst (IsTaskOf z.places c.args.words) c.in-Task.is c.in-Ok.ensures in
+    let z = c.args.head.value.size in
+    let h = subst (IsTaskOf z.places c.args.words) c.in-Task.is (subst (λ (h : Head). IsTaskOf h.size.places c.args.words c.in-Ok.kind) c.deref.ensures c.in-Ok.ensures) in
     let due = TaskDue c.args.head c.args.more in
-    let i = parts_of c.args.head.builder z.places in
+    let i = parts_of c.args.head.value.builder z.places in
     let facts = set_facts c.in-Task.skills h.0 c.skill_set-set.result h.1 c.skill_set-set.ensures in
     let spelled : Task = record { name = c.in-Task.name; place = c.in-Task.place; earliest = c.in-Task.earliest; latest = c.in-Task.latest; minutes = c.in-Task.minutes; teams = c.in-Task.teams; skills = 0 } in
     let task : Task = record spelled { skills = c.unwrap_or-skills.result } in

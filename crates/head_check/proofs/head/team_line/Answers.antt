@@ -1,10 +1,12 @@
 use Rattle.std.proofs.Common.{sym, subst, ◌∙◌}
-use Rattle.cert_format.specs.Lines.{IsTeamOf}
+use Rattle.cert_format.specs.Lines.{IsFaultOf, IsTeamOf}
+use Rattle.cert_format.specs.declared.kinds.Expect.TheVariants as expects
 use Rattle.head_check.specs.Numbers.{AreBelow}
 use Rattle.head_check.specs.Rows.{after_team}
 use Rattle.head_check.specs.Head.{reading_of, IsStep, Tells, parts_of}
 use Rattle.std.specs.Prelude.{IsTrue}
 use Rattle.crew_terms.specs.declared.Team.{Team}
+use Rattle.head_check.specs.declared.due.Head.{Head}
 use Rattle.head_check.specs.declared.due.HeadDue.TheVariants.{Team as TeamDue}
 use Rattle.head_check.specs.declared.due.HeadStep.TheVariants.{No}
 use Rattle.head_check.proofs.Steps.{says_step, tells_step}
@@ -16,19 +18,19 @@ use Rattle.head_check.proofs.head.team_line.Goals as goal
 pub returns-in-Err : goal.returns-in-Err
 returns-in-Err c =
     let due = TeamDue c.args.head c.args.more in
-    subst (λ r. IsStep due c.args.words (No r)) (sym c.reason.ensures) (says_step due c.args.words (No _) (c.fault_is_refused.ensures (reading_of due) c.args.words c.in-Err.fault c.in-Err.ensures) tt)
+    subst (λ r. IsStep due c.args.words (No r)) (sym c.reason.ensures) (says_step due c.args.words (No _) (c.fault_is_refused.ensures (reading_of due) c.args.words c.in-Err.fault (subst (λ (h : Head). IsFaultOf (expects.Team h.size.places) c.args.words c.in-Err.fault) c.deref.ensures c.in-Err.ensures)) tt)
 
 pub skill_set-set-requires : goal.skill_set-set-requires
 skill_set-set-requires c =
-    let h = subst (IsTeamOf c.args.head.size.places c.args.words) c.in-Team.is c.in-Ok.ensures in
+    let h = subst (IsTeamOf c.args.head.value.size.places c.args.words) c.in-Team.is (subst (λ (h : Head). IsTeamOf h.size.places c.args.words c.in-Ok.kind) c.deref.ensures c.in-Ok.ensures) in
     subst (AreBelow 64) (sym h.1) (below_from 64 h.0 h.2.skills)
 
 pub returns : goal.returns
 returns c =
-    let z = c.args.head.size in
-    let h = subst (IsTeamOf z.places c.args.words) c.in-Team.is c.in-Ok.ensures in
+    let z = c.args.head.value.size in
+    let h = subst (IsTeamOf z.places c.args.words) c.in-Team.is (subst (λ (h : Head). IsTeamOf h.size.places c.args.words c.in-Ok.kind) c.deref.ensures c.in-Ok.ensures) in
     let due = TeamDue c.args.head c.args.more in
-    let i = parts_of c.args.head.builder z.places in
+    let i = parts_of c.args.head.value.builder z.places in
     let facts = set_facts c.in-Team.skills h.0 c.skill_set-set.result h.1 c.skill_set-set.ensures in
     let spelled : Team = record { name = c.in-Team.name; home = c.in-Team.home; from = c.in-Team.from; until = c.in-Team.until; skills = 0 } in
     let team : Team = record spelled { skills = c.unwrap_or.result } in

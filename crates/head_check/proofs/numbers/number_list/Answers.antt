@@ -1,0 +1,11 @@
+use Rattle.std.proofs.Common.{◌<◌, length, arith, ◌∙◌}
+use Rattle.head_check.proofs.Listed.{told_at, pushed}
+use Rattle.head_check.proofs.numbers.number_list.Goals as goal
+
+pub loop-n-preserved : goal.loop-n-preserved
+loop-n-preserved c =
+    let zs = c.args.numbers.now in
+    let n = c.loop-n.n in
+    let below : n < length zs = (let t = c.loop-n-test.true in let e = c.len-n-end.ensures in omega arith) in
+    let told = told_at zs n c.number_at.result below c.number_at.ensures in
+    (c.in_ok-push.ensures).items ∙ pushed zs n c.number_at.result c.loop-n.list.items below told c.loop-n.invariant
