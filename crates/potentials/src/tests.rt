@@ -115,9 +115,10 @@ fn verdict(
     let prices = each_at(alloc, &root, price)?;
     let table = table(rt, alloc, instance, potentials)?;
     assert!(rt; 0 < instance.teams());
-    let said = local(&root, 0, &prices, &table, worth);
+    let mut room = Room::reserve(alloc, instance)?;
+    let said = local(&root, 0, &prices, &table, &mut room, worth);
     assert_eq!(rt;
-        holds_locally(&root, 0, &prices, &table, worth),
+        holds_locally(&root, 0, &prices, &table, &mut room, worth),
         said == LocalVerdict::Holds
     );
     Ok(said)
@@ -235,9 +236,10 @@ fn time_of_rules(
     let root = Limits::root(rt.alloc(), &day)?;
     let prices = Prices::zero(rt.alloc(), &root)?;
     let table = Table::reserve(rt.alloc(), &day)?;
+    let mut room = Room::reserve(rt.alloc(), &day)?;
     assert!(rt; 0 < day.teams());
     let start = rt.thread_cpu_time()?;
-    assert!(rt; holds_locally(&root, 0, &prices, &table, 0));
+    assert!(rt; holds_locally(&root, 0, &prices, &table, &mut room, 0));
     Ok(rt.thread_cpu_time()?.saturating_sub(start))
 }
 
