@@ -3,6 +3,7 @@ use Rattle.std.specs.Prelude.{◌≡◌, ◌<◌, ◌+◌, ℕ, suc, ℤ, pos, L
 use Rattle.crew_terms.specs.Words.{Words}
 use Rattle.crew_terms.specs.Plan.{unassigned_count}
 use Rattle.crew_terms.specs.Limits.{Limits, IsPermittedVisit, has_required, tasks_in, teams_in}
+use Rattle.potentials.specs.Room.{HasRoom}
 use Rattle.potentials.specs.Table.{IsTableOf, phi}
 use Rattle.dossier_terms.specs.declared.Reason.{Reason}
 use Rattle.dossier_terms.specs.Dossier.{Leaf, Potentials, minute_count, phi_in, prices_of, worths_of}
@@ -30,6 +31,7 @@ IsDue n (due.Phi team task) = (team < teams_in n) × (task < tasks_in n) × (0 <
 pub record IsReady (n : Limits) (r : LeafReader) : Type 0 where
   pub prices : ArePricesIn n r.prices
   pub table : IsTableOf n.instance r.table
+  pub room : HasRoom n.instance r.room
   pub worths : length r.worths.items ≡ teams_in n
   pub due : IsDue n r.due
 

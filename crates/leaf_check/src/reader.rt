@@ -15,7 +15,7 @@ use dossier_laws::minutes_are_permitted;
 use dossier_terms::Reason;
 use field_table::LineWords;
 use node_limits::Limits;
-use potentials::{LocalVerdict, Prices, Table, bound, local, proves};
+use potentials::{LocalVerdict, Prices, Room, Table, bound, local, proves};
 use std::alloc::{AllocError, Global};
 
 /// What a leaf has to prove: that every plan of its node leaves at least `bound` tasks unassigned and, where it is
@@ -58,6 +58,7 @@ pub enum LeafStep {
 pub struct LeafReader {
     prices: Prices,
     table: Table,
+    room: Room,
     // A worth for each team; those of the teams so far are the leaf's.
     worths: Vec<i64>,
     due: LeafDue,
@@ -70,10 +71,12 @@ impl LeafReader {
     {
         let prices = Prices::zero(alloc, limits)?;
         let table = Table::reserve(alloc, limits.instance())?;
+        let room = Room::reserve(alloc, limits.instance())?;
         let worths = vec![in alloc; 0; limits.instance().teams()]?;
         Ok(LeafReader {
             prices,
             table,
+            room,
             worths,
             due: LeafDue::Price,
         })
@@ -277,7 +280,14 @@ impl LeafReader {
             → Tells a (after_phi a leaf.prices leaf.extras leaf.tables left table.worth table.phi []) result self.new }
     {
         let worth = self.worths[team as usize];
-        match local(limits, team, &self.prices, &self.table, worth) {
+        match local(
+            limits,
+            team,
+            &self.prices,
+            &self.table,
+            &mut self.room,
+            worth,
+        ) {
             LocalVerdict::Holds => self.after_table(limits, goal, team as usize + 1),
             LocalVerdict::Low { task } => LeafStep::No(Reason::Potential(team, task)),
             LocalVerdict::Worth => LeafStep::No(Reason::Worth(team)),

@@ -1,4 +1,6 @@
 pub mod Most
+pub mod Recorded
+pub mod Lowest
 pub mod Covered
 pub mod Decided
 pub mod Tables

@@ -4,13 +4,16 @@ use Rattle.std.specs.List.{All}
 use Rattle.std.proofs.lemmas.Int.{ints}
 use Rattle.std.proofs.lemmas.Bool.{cases_eq}
 use Rattle.std.proofs.lemmas.List.Elements.{All-get_or, All-from_get_or}
-use Rattle.crew_terms.specs.Instance.{task_of, minutes_between}
+use Rattle.crew_terms.specs.Instance.{task_of}
 use Rattle.crew_terms.specs.Limits.{Limits, IsPermittedVisit, tasks_in}
 use Rattle.crew_terms.specs.Leaf.{Prices, reward, HoldsLocally}
 use Rattle.dossier_terms.specs.Table.{HoldsPotential, HoldsWorth}
 use Rattle.node_limits.specs.Minutes.{AreMinutes}
-use Rattle.potentials.specs.Followers.{Covers, potential_at}
-use Rattle.potentials.specs.Rules.{AreVisits, HoldsStep, HoldBelow}
+use Rattle.potentials.specs.Followers.{Allows, potential_at}
+use Rattle.potentials.specs.Least.{AreLeast}
+use Rattle.potentials.specs.Rules.{AreRecordsOf, AreVisits, HoldsStep, HoldBelow, ready_at}
+use Rattle.potentials.specs.declared.records.Record.{Record}
+use Rattle.potentials.proofs.Covered.{Covers, covers_from, allow_from}
 
 module _ (n : Limits) (k : ℕ) (phi : ℕ → ℕ → ℤ) where
   -- the potentials between the first and the last permitted minute
@@ -41,26 +44,35 @@ module _ (n : Limits) (k : ℕ) (phi : ℕ → ℕ → ℤ) where
     pub to_all : (P : ℤ → Type 0) → ((t : ℕ) → IsPermittedVisit n k j t → P (phi j t)) → All P here
     to_all P each = All-from_get_or P here (pos 0) (λ a l. subst P (sym (are.each a l)) (each (first + a) (are.inside a l)))
 
-    module _ (h opens : ℕ) (next : List ℤ) (follow : AreVisits n k h phi opens next) (w : ℤ) (ready : ℕ)
-        (is : ready ≡ first + (task_of n.instance j).minutes + minutes_between n.instance (task_of n.instance j).place (task_of n.instance h).place) where
-      pub step_from_covers : Covers w here ready next opens → HoldsStep n k phi w j h
-      step_from_covers covers t u visit next_visit step =
+    -- what follows at task h is covered where the records of h are allowed
+    module _ (h : ℕ) (reward : ℤ) (least : List ℤ) (lowest : AreLeast here least) (records : List Record) (of_next : AreRecordsOf n k h phi records)
+        (ready : ℕ) (is : ready ≡ ready_at n.instance j first h) where
+      abbrev Allowed : Type 0
+      Allowed = All (Allows reward least ready) records
+
+      pub step_from_records : All (λ v. reward ≤ℤ v) here → Allowed → HoldsStep n k phi reward j h
+      step_from_records alone allowed t u visit next_visit step =
+          let opens = of_next.0 in
+          let next = of_next.1 in
           let at = place_of j first here are t visit in
-          let to = place_of h opens next follow u next_visit in
+          let to = place_of h opens next of_next.2 u next_visit in
           let here_is = at.2 in
           let next_is = to.2 in
           let after = step.follow in
-          let low = covers at.0 to.0 at.1 to.1 (omega arith) in
+          let low = covers_from reward here least lowest ready next opens records of_next.3 alone allowed at.0 to.0 at.1 to.1 (omega arith) in
           let e = at.3 in
           let f = to.3 in
           omega (arith, ints)
 
-      pub covers_from_step : j ≢ h → HoldsStep n k phi w j h → Covers w here ready next opens
-      covers_from_step other holds a b l m after =
-          let low = holds (first + a) (opens + b) (are.inside a l) (follow.inside b m) (record { other = other; follow = omega arith }) in
-          let f = are.each a l in
-          let g = follow.each b m in
-          omega (arith, ints)
+      pub records_from_step : j ≢ h → HoldsStep n k phi reward j h → Allowed
+      records_from_step other holds = allow_from reward here least lowest ready of_next.1 of_next.0 records of_next.3 covers
+        where
+          covers : Covers reward here ready of_next.1 of_next.0
+          covers a b l m after =
+              let low = holds (first + a) (of_next.0 + b) (are.inside a l) (of_next.2.inside b m) (record { other = other; follow = omega arith }) in
+              let f = are.each a l in
+              let g = of_next.2.each b m in
+              omega (arith, ints)
 
   -- the rules of a task, from those of each next task
   pub potential_from : (p : Prices) (j first : ℕ) (here : List ℤ) → AreVisits n k j phi first here → All (λ v. reward p k j ≤ℤ v) here

@@ -1,41 +1,8 @@
-// Whether a task's potentials cover what can follow. Each minute later leaves fewer visits of the next task,
-// so the minutes are gone down, and the greatest potential that can follow is kept: each of the next task's
-// potentials is looked at once.
-ghost use Rattle.std.specs.Prelude.{◌≡◌, ◌+◌, ◌-◌, ◌^◌, ◌<◌, ◌+ℤ◌, ◌≤ℤ◌, ◌↔◌, All, IsTrue, length};
-ghost use Rattle.potentials.specs.Followers.{Covers, IsMost};
+// Whether a task's potentials cover what can follow, by the records of the next task and the least potentials of this one.
+ghost use Rattle.std.specs.Prelude.{◌≡◌, ◌+ℤ◌, ◌≤ℤ◌, ◌↔◌, All, IsTrue};
+ghost use Rattle.potentials.specs.Followers.{Allows, IsFalling};
 
-// The greatest of 0 and the potentials from place `from` on, where `most` is that from the place after.
-fn raised(most: i64, next: &[i64], from: usize) -> i64
-    requires { IsMost next.now (from + 1) most }
-    ensures { IsMost next.now from result }
-{
-    match next.get(from) {
-        Some(potential) => most.max(*potential),
-        None => most,
-    }
-}
-
-// The same at a minute of the day, where the first potential is that of minute `opens`.
-fn raised_at(most: i64, next: &[i64], opens: u32, minute: u32) -> i64
-    requires { IsMost next.now (minute + 1 - opens) most }
-    ensures { IsMost next.now (minute - opens) result }
-{
-    match minute.checked_sub(opens) {
-        Some(from) => raised(most, next, from as usize),
-        None => most,
-    }
-}
-
-// The greatest of 0 and the potentials from place `from` on.
-fn most_from(next: &[i64], from: usize) -> i64
-    ensures { IsMost next.now from result }
-{
-    let mut most = 0;
-    for b in (from..next.len()).rev() {
-        most = raised(most, next, b);
-    }
-    most
-}
+use crate::records::Record;
 
 // Whether a potential is at least the reward and what can follow. No sum wraps.
 fn is_enough(potential: i64, reward: i64, most: i64) -> bool
@@ -44,19 +11,27 @@ fn is_enough(potential: i64, reward: i64, most: i64) -> bool
     i128::from(reward) + i128::from(most) <= i128::from(potential)
 }
 
-// Whether each potential of a task is at least the reward and the potential of each visit that can follow.
-// A team at the first visit is ready for the next task at minute `ready`, and at each further one a minute
-// later; the next task's potentials are those of the minutes from `opens` on.
-pub(crate) fn covers(reward: i64, here: &[i64], ready: u32, next: &[i64], opens: u32) -> bool
-    requires room { ready + length here.now < 2 ^ 32 }
-    requires alone { All (λ potential. reward ≤ℤ potential) here.now }
-    ensures { IsTrue result ↔ Covers reward here.now ready next.now opens }
+// Whether each of these potentials, which never go up, is at least the reward and that of a record, where the record can
+// follow. A team at the first visit is ready for the next task at minute `ready`, and at each further one a minute later.
+fn allows(reward: i64, least: &[i64], ready: u32, next: Record) -> bool
+    requires { IsFalling least.now }
+    ensures { IsTrue result ↔ Allows reward least.now ready next }
 {
-    let past = ready + here.len() as u32;
-    let mut most = most_from(next, past.saturating_sub(opens) as usize);
-    for a in (0..here.len()).rev() {
-        most = raised_at(most, next, opens, ready + a as u32);
-        if !is_enough(here[a], reward, most) {
+    if next.minute < ready || least.is_empty() {
+        return true;
+    }
+    let place = (next.minute - ready) as usize;
+    let last = place.min(least.len() - 1);
+    is_enough(least[last], reward, next.potential)
+}
+
+// The same for each of the next task's records.
+pub(crate) fn covers(reward: i64, least: &[i64], ready: u32, records: &[Record]) -> bool
+    requires { IsFalling least.now }
+    ensures { IsTrue result ↔ All (Allows reward least.now ready) records.now }
+{
+    for next in records {
+        if !allows(reward, least, ready, *next) {
             return false;
         }
     }
