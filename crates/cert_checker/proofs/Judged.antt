@@ -5,12 +5,10 @@ use Rattle.dossier_terms.specs.Dossier.{Dossier}
 use Rattle.dossier_terms.specs.Reading.{Reading, Form, Said as Answer, More as Goes, Whole as Ends, No as Refuses}
 use Rattle.dossier_terms.specs.Table.{Says}
 use Rattle.cert_checker.specs.Due.{Awaits, IsEndOf, IsStep, Tells}
-use Rattle.cert_checker.specs.Checked.{Checked, IsEnded, IsOpen, IsJudged, IsReached, IsTrueVerdict, IsTrueYes, IsWholeAt, said_of, StandsAfter, verdict_of}
+use Rattle.cert_checker.specs.Checked.{Checked, IsEnded, IsOpen, IsJudged, IsReached, IsTrueYes, IsWholeAt, said_of, StandsAfter}
 use Rattle.cert_checker.specs.Kept.{IsKeptFrom, IsSettled, state_in}
 use Rattle.cert_checker.specs.Said.{IsSaidOf}
-use Rattle.cert_checker.specs.declared.checker.Verdict.{Verdict}
 use Rattle.cert_checker.specs.declared.checker.Said.{Said}
-use Rattle.cert_checker.specs.declared.checker.Said.TheVariants.{Whole as SaidWhole}
 use Rattle.cert_checker.specs.declared.checker.State.{State}
 use Rattle.cert_checker.specs.declared.checker.State.TheVariants as states
 use Rattle.cert_checker.specs.declared.due.Due.{Due as Held}
@@ -39,13 +37,6 @@ pub settles : (reading : Reading) (words : Words) (number : ℕ) (step : Step) �
 settles reading words number (More next) reached tells goes ends = (tells.0, goes reading tells.0 words reached tells.1, tells.2)
 settles reading words number (Whole ended) reached tells goes ends = (tells.0, tells.2, ends reading words tells.0 reached tells.1)
 settles reading words number (No reason) reached tells goes ends = tt
-
--- what is said of a whole dossier is so
-pub is_true : (number : ℕ) (step : Step) (said : Said) (verdict : Verdict) → IsSettled (state_in number step) → IsSaidOf number step said → said ≡ SaidWhole verdict
-    → IsTrueVerdict (state_in number step) verdict
-is_true number (More next) said verdict h e f = absurd (let g = sym e ∙ f in cc)
-is_true number (Whole ended) said verdict h e f = record { dossier = h.0; is = h.1; says = (let g : SaidWhole verdict ≡ SaidWhole (verdict_of h.0) = sym f ∙ e h.0 h.1 in cc); true_yes = h.2 }
-is_true number (No reason) said verdict h e f = absurd (let g = sym e ∙ f in cc)
 
 -- a step is what the table says
 pub judged : (lines : ℕ) (reading : Reading) (words : Words) (step : Step) (said : Said) → IsReached reading → Tells (Says reading words) step

@@ -57,15 +57,15 @@ is_leaf false leaf = refl
 
 -- ---- what is kept of a leaf
 
--- the tree with its limits at rest again, and the reader behind a line
-abbrev pub read_on : TreeDraft → Rest → Box LeafReader → TreeDraft
-read_on tree rest reader = record { draft = tree.draft; claimed = tree.claimed; limits = rest; walk = tree.walk; reader = reader }
+-- the tree with its limits at rest again
+abbrev pub rested : TreeDraft → Rest → TreeDraft
+rested tree rest = record { draft = tree.draft; claimed = tree.claimed; limits = rest; walk = tree.walk }
 
 module _ (tree : TreeDraft) (t : Trail) (rest : Rest) (woke : t ≡ trail_over tree.draft.value.base.instance tree.limits)
     (back : trail_over t.limits.instance rest ≡ t) (over : IsRestOver t.limits.instance rest) where
   -- the walk stands where it stood
-  pub stays : (reader : Box LeafReader) (fs : List Frame) → IsNode tree fs → IsNode (read_on tree rest reader) fs
-  stays reader fs node =
+  pub stays : (fs : List Frame) → IsNode tree fs → IsNode (rested tree rest) fs
+  stays fs node =
       let h = at_node tree t t tree.walk rest woke refl back over fs node.claimed
       (subst (λ x. IsAt (root_limits tree.draft.value.base.instance) x tree.walk fs) (sym woke) node.at) in
       record { claimed = h.claimed; over = h.over; at = h.at }
@@ -76,11 +76,11 @@ module _ (tree : TreeDraft) (t : Trail) (rest : Rest) (woke : t ≡ trail_over t
   goal_at is_closed goal fs node bound count kind = record { limits = sym (limits_at tree t fs woke node); bound = bound; unassigned = count; is_closed = kind }
 
   -- one more line of the leaf is due
-  pub in_leaf : (is_closed : Bool) (reader : Box LeafReader) (fs : List Frame) (next : Reading) → IsNode tree fs → HasLeafRoom tree is_closed → IsReady t.limits reader.value
-      → StandsFor (place_of tree fs is_closed) reader.value next → IsInLeaf (read_on tree rest reader) is_closed fs next
+  pub in_leaf : (is_closed : Bool) (reader : LeafReader) (fs : List Frame) (next : Reading) → IsNode tree fs → HasLeafRoom tree is_closed → IsReady t.limits reader
+      → StandsFor (place_of tree fs is_closed) reader next → IsInLeaf (rested tree rest) reader is_closed fs next
   in_leaf is_closed reader fs next node room ready stands = record {
-    node = stays reader fs node;
-    ready = subst (λ n. IsReady n reader.value) (limits_at tree t fs woke node) ready;
+    node = stays fs node;
+    ready = subst (λ n. IsReady n reader) (limits_at tree t fs woke node) ready;
     room = room;
     stands = stands;
   }

@@ -1,6 +1,7 @@
 -- where a walk stands behind a line of a node, and the rows of the table for these lines
 use Rattle.std.proofs.Common.{◌≡◌, ◌≤◌, ◌<◌, ℕ, List, [], ◌∷◌, length, Bool, true, false, ap, subst, sym, refl, ◌∙◌, arith}
-use Rattle.std.specs.Prelude.{if◌then◌else◌, codes, Result, IfOk, Ok, Err}
+use Rattle.std.specs.Prelude.{if◌then◌else◌, codes, Option, Result, IfOk, Ok, Err}
+use Rattle.std.specs.Global.{Box}
 use Rattle.std.proofs.lemmas.List.{length-map}
 use Rattle.crew_terms.specs.Words.{Words}
 use Rattle.crew_terms.specs.Instance.{Instance}
@@ -20,7 +21,8 @@ use Rattle.cert_format.specs.Expected.{expect_of}
 use Rattle.cert_format.specs.Lines.{IsFaultOf}
 use Rattle.cert_format.specs.declared.kinds.Expect.TheVariants as expected
 use Rattle.cert_format.specs.declared.kinds.LineFault.{LineFault}
-use Rattle.cert_checker.specs.Due.{Awaits, HasLeafRoom, HasReader, HasSplitRoom, IsNode, IsStep, Tells, draft_of}
+use Rattle.leaf_check.specs.declared.reader.LeafReader.{LeafReader}
+use Rattle.cert_checker.specs.Due.{Awaits, HasLeafRoom, HasSplitRoom, IsNode, IsReaderFor, IsStep, Tells, draft_of}
 use Rattle.cert_checker.specs.Rules.{after_bare, after_leaf, after_pair, after_window}
 use Rattle.cert_checker.specs.declared.due.TreeDraft.{TreeDraft}
 use Rattle.cert_checker.specs.declared.due.Due.TheVariants.{Node as NodeDue, End as EndDue}
@@ -51,7 +53,7 @@ instance_below i (With k j without ∷ fs) = instance_below i fs
 
 -- the tree where the walk went on and the limits with it
 abbrev pub moved : TreeDraft → Rest → Walked → TreeDraft
-moved tree rest to = record { draft = tree.draft; claimed = tree.claimed; limits = rest; walk = to; reader = tree.reader }
+moved tree rest to = record { draft = tree.draft; claimed = tree.claimed; limits = rest; walk = to }
 
 module _ (tree : TreeDraft) (old new : Trail) (to : Walked) (rest : Rest)
     (woke : old ≡ trail_over tree.draft.value.base.instance tree.limits) (same : new.limits.instance ≡ old.limits.instance)
@@ -73,16 +75,17 @@ module _ (tree : TreeDraft) (old new : Trail) (to : Walked) (rest : Rest)
   woken fs node = subst (λ t. IsAt (root_limits tree.draft.value.base.instance) t tree.walk fs) (sym woke) node.at
 
   -- past a leaf the walk stands at the node that is due
-  pub left_at : (is_closed : Bool) → LeavesLeaf is_closed old tree.walk new to false → HasReader tree → (fs : List Frame) (leaf : Written) → IsNode tree fs → IsLeaf is_closed leaf
-      → Awaits (NodeDue (moved tree rest to)) (node_done (draft_of tree.draft.value) (counts_of tree.claimed) fs leaf)
-  left_at is_closed leaves reader fs leaf node is =
+  pub left_at : (reader : Option (Box LeafReader)) (is_closed : Bool) → LeavesLeaf is_closed old tree.walk new to false → IsReaderFor tree.draft.value.base.instance reader
+      → (fs : List Frame) (leaf : Written) → IsNode tree fs → IsLeaf is_closed leaf
+      → Awaits (NodeDue (moved tree rest to) reader) (node_done (draft_of tree.draft.value) (counts_of tree.claimed) fs leaf)
+  left_at reader is_closed leaves for_tree fs leaf node is =
       let p = leaves (root_limits tree.draft.value.base.instance) fs leaf (draft_of tree.draft.value) (counts_of tree.claimed) (woken fs node) is in
-      (p.0, at_node p.0 node.claimed p.2, reader, p.1)
+      (p.0, at_node p.0 node.claimed p.2, for_tree, p.1)
 
   -- below a split the walk stands in its first child
-  pub entered_at : (f : Frame) → Enters f old tree.walk new to → HasReader tree → (fs : List Frame) → IsNode tree fs
-      → Awaits (NodeDue (moved tree rest to)) (Nodes (draft_of tree.draft.value) (counts_of tree.claimed) (f ∷ fs))
-  entered_at f enters reader fs node = (f ∷ fs, at_node (f ∷ fs) node.claimed (enters (root_limits tree.draft.value.base.instance) fs (woken fs node)), reader, refl)
+  pub entered_at : (reader : Option (Box LeafReader)) (f : Frame) → Enters f old tree.walk new to → IsReaderFor tree.draft.value.base.instance reader → (fs : List Frame) → IsNode tree fs
+      → Awaits (NodeDue (moved tree rest to) reader) (Nodes (draft_of tree.draft.value) (counts_of tree.claimed) (f ∷ fs))
+  entered_at reader f enters for_tree fs node = (f ∷ fs, at_node (f ∷ fs) node.claimed (enters (root_limits tree.draft.value.base.instance) fs (woken fs node)), for_tree, refl)
 
 -- past the last leaf the whole tree is seen
 pub ended_at : (tree : TreeDraft) (old new : Trail) (to : Walked) (seen : TreeCounts) (is_closed : Bool)
@@ -236,15 +239,15 @@ closed_says b c fs ws said is rest = leaf_says b c fs ws said _ is (λ w p. Else
 -- ---- the step of a line of a node
 
 -- a node is due, and the step is what its row says
-pub node_step : (tree : TreeDraft) (ws : Words) (step : Step)
-    → ((fs : List Frame) → IsNode tree fs → Tells (node_row (draft_of tree.draft.value) (counts_of tree.claimed) fs ws) step) → IsStep (NodeDue tree) ws step
-node_step tree ws step f = λ reading awaited. subst (λ r. Tells (Says r ws) step) (sym awaited.3) (f awaited.0 awaited.1)
+pub node_step : (tree : TreeDraft) (reader : Option (Box LeafReader)) (ws : Words) (step : Step)
+    → ((fs : List Frame) → IsNode tree fs → Tells (node_row (draft_of tree.draft.value) (counts_of tree.claimed) fs ws) step) → IsStep (NodeDue tree reader) ws step
+node_step tree reader ws step f = λ reading awaited. subst (λ r. Tells (Says r ws) step) (sym awaited.3) (f awaited.0 awaited.1)
 
 -- what some rules tell behind the words of a line, its row tells
-pub node_rest : (tree : TreeDraft) (ws : Words) (step : Step) (Rules : List Frame → Said → Type 0)
+pub node_rest : (tree : TreeDraft) (reader : Option (Box LeafReader)) (ws : Words) (step : Step) (Rules : List Frame → Said → Type 0)
     → ((fs : List Frame) (said : Said) → Rules fs said → node_row (draft_of tree.draft.value) (counts_of tree.claimed) fs ws said)
-    → ((fs : List Frame) → IsNode tree fs → Tells (Rules fs) step) → IsStep (NodeDue tree) ws step
-node_rest tree ws step Rules row told = node_step tree ws step (λ fs node. tells_row (Rules fs) (node_row (draft_of tree.draft.value) (counts_of tree.claimed) fs ws) step (row fs) (told fs node))
+    → ((fs : List Frame) → IsNode tree fs → Tells (Rules fs) step) → IsStep (NodeDue tree reader) ws step
+node_rest tree reader ws step Rules row told = node_step tree reader ws step (λ fs node. tells_row (Rules fs) (node_row (draft_of tree.draft.value) (counts_of tree.claimed) fs ws) step (row fs) (told fs node))
 
 -- a fault of a line of these counts is one where the node is due
 pub node_fault : (b : Draft) (c : Counts) (fs : List Frame) (teams tasks : ℕ) (ws : Words) (fault : LineFault) → teams ≡ length b.instance.teams → tasks ≡ length b.instance.tasks

@@ -13,7 +13,7 @@ use Rattle.node_limits.specs.Rest.{Rest, IsRestOver, trail_over}
 use Rattle.node_limits.specs.Trail.{Trail}
 use Rattle.tree_walk.specs.Way.{Walked, IsAt, counts_of}
 use Rattle.tree_walk.specs.declared.walk.TreeCounts.{TreeCounts}
-use Rattle.cert_checker.specs.Due.{HasReader, IsNode, Tells, draft_of}
+use Rattle.cert_checker.specs.Due.{IsNode, Tells, draft_of}
 use Rattle.cert_checker.specs.Rules.{IsTreeFault, tree_rules}
 use Rattle.cert_checker.specs.declared.due.Draft.{Draft as Held}
 use Rattle.cert_checker.specs.declared.due.TreeDraft.{TreeDraft}
@@ -32,12 +32,12 @@ tree_faulty b claimed ws reason fits is broken = tree_says (draft_of b.value) (c
 -- the numbers of a tree break no rule, and its root is due
 pub tree_begun : (b : Box Held) (claimed : TreeCounts) (tree : TreeDraft) (ws : Words) → IsCounts (counts_of claimed)
     → ws ≡ tree_line claimed.splits claimed.closed claimed.left_open claimed.depth → IsTreeFault (draft_of b.value) (counts_of claimed) None
-    → tree.draft ≡ b → tree.claimed ≡ claimed → IsNode tree [] → HasReader tree → Tells (tree_row (draft_of b.value) ws) (More (Node tree))
-tree_begun b claimed tree ws fits is good e f node reader =
+    → tree.draft ≡ b → tree.claimed ≡ claimed → IsNode tree [] → Tells (tree_row (draft_of b.value) ws) (More (Node tree None))
+tree_begun b claimed tree ws fits is good e f node =
     let root = Nodes (draft_of b.value) (counts_of claimed) [] in
     let same : root ≡ Nodes (draft_of tree.draft.value) (counts_of tree.claimed) [] =
     ap (λ (d : Box Held). Nodes (draft_of d.value) (counts_of claimed) []) (sym e) ∙ ap (λ c. Nodes (draft_of tree.draft.value) (counts_of c) []) (sym f) in
-    (root, tree_says (draft_of b.value) (counts_of claimed) ws (Goes root) fits is (good (Goes root) (On refl)), ([], node, reader, same))
+    (root, tree_says (draft_of b.value) (counts_of claimed) ws (Goes root) fits is (good (Goes root) (On refl)), ([], node, tt, same))
 
 -- the limits of the root are kept, and a walk begins there
 pub root_over : (i : Instance) (t : Trail) (rest : Rest) → t ≡ record { limits = root_limits i; past = []; spare = 0 } → IsRestOver t.limits.instance rest → IsRestOver i rest

@@ -88,13 +88,6 @@ pub record IsTrueYes (d : Dossier) : Type 0 where
   pub legal : IsLegal d.instance d.plan
   pub bound : (p : Plan) → IsLegal d.instance p → d.bound ≤ unassigned_count p
 
--- a dossier is whole of which this is said, and it is so
-pub record IsTrueVerdict (at : State) (verdict : Verdict) : Type 0 where
-  pub dossier : Dossier
-  pub is : IsWholeAt at dossier
-  pub says : verdict ≡ verdict_of dossier
-  pub true_yes : IsTrueYes dossier
-
 -- ---- where no line comes
 
 -- the reason that tells why no line comes

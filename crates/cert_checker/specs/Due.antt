@@ -1,5 +1,6 @@
 -- what the checker keeps stands for what has been read of a dossier
-use Rattle.std.specs.Prelude.{◌≡◌, ◌<◌, ℕ, List, Bool, length}
+use Rattle.std.specs.Prelude.{◌≡◌, ◌<◌, ℕ, List, Bool, Option, IfSome, length}
+use Rattle.std.specs.Global.{Box}
 use Rattle.crew_terms.specs.Words.{Words}
 use Rattle.crew_terms.specs.Instance.{Instance}
 use Rattle.crew_terms.specs.Limits.{Limits as Bounds, root_limits}
@@ -10,6 +11,7 @@ use Rattle.dossier_terms.specs.Table.{IsCounts, Says}
 use Rattle.node_limits.specs.Rest.{Rest, IsRestOver, limits_over, trail_over}
 use Rattle.head_check.specs.Head.{Holds as HoldsHead, IsLineDue, reading_of}
 use Rattle.leaf_check.specs.Reader.{IsReady, StandsFor}
+use Rattle.leaf_check.specs.declared.reader.LeafReader.{LeafReader}
 use Rattle.tree_walk.specs.Way.{IsAt, counts_of, counts_of_tree, leaves_like}
 use Rattle.cert_checker.specs.declared.due.Draft.{Draft}
 use Rattle.cert_checker.specs.declared.due.TreeDraft.{TreeDraft}
@@ -37,9 +39,9 @@ pub record IsNode (tree : TreeDraft) (above : List Frame) : Type 0 where
 abbrev pub IsInTree : TreeDraft → Type 0
 IsInTree tree = (above : List Frame) × IsNode tree above
 
--- the reader has room for the leaves of the instance
-abbrev pub HasReader : TreeDraft → Type 0
-HasReader tree = (n : Bounds) × (n.instance ≡ tree.draft.value.base.instance) × IsReady n tree.reader.value
+-- a reader that is there has room for the leaves of the instance
+abbrev pub IsReaderFor : Instance → Option (Box LeafReader) → Type 0
+IsReaderFor i reader = IfSome reader (λ r. (n : Bounds) × (n.instance ≡ i) × IsReady n r.value)
 
 -- the numbers that are claimed have room for one more split of the node, and for one more leaf of a kind
 pub record HasSplitRoom (tree : TreeDraft) : Type 0 where
@@ -54,11 +56,11 @@ abbrev pub place_of : TreeDraft → List Frame → Bool → Place
 place_of tree above is_closed = record { draft = draft_of tree.draft.value; counts = counts_of tree.claimed; above = above; is_closed = is_closed }
 
 -- the reader stands for what has been read of the leaf below these splits
-pub record IsInLeaf (tree : TreeDraft) (is_closed : Bool) (above : List Frame) (reading : Reading) : Type 0 where
+pub record IsInLeaf (tree : TreeDraft) (reader : LeafReader) (is_closed : Bool) (above : List Frame) (reading : Reading) : Type 0 where
   pub node : IsNode tree above
-  pub ready : IsReady (limits_of (place_of tree above is_closed)) tree.reader.value
+  pub ready : IsReady (limits_of (place_of tree above is_closed)) reader
   pub room : HasLeafRoom tree is_closed
-  pub stands : StandsFor (place_of tree above is_closed) tree.reader.value reading
+  pub stands : StandsFor (place_of tree above is_closed) reader reading
 
 -- what is kept stands for this state of the table of lines. It is that state but for the numbers of the leaves, of
 -- which no more is kept than the next lines need.
@@ -69,8 +71,8 @@ Awaits (Route b root more) r = IsRoot b.value.base.instance root × IsPlanOf b.v
 Awaits (Plan b) r = IsPlanOf b.value.base.instance b.value.plan × (r ≡ Plans (draft_of b.value))
 Awaits (Job b more from) r = IsPlanOf b.value.base.instance b.value.plan × (r ≡ Jobs (draft_of b.value) more from)
 Awaits (Tree b) r = r ≡ Trees (draft_of b.value)
-Awaits (Node tree) r = (above : List Frame) × IsNode tree above × HasReader tree × (r ≡ Nodes (draft_of tree.draft.value) (counts_of tree.claimed) above)
-Awaits (Leaf tree is_closed) r = (above : List Frame) × IsInLeaf tree is_closed above r
+Awaits (Node tree reader) r = (above : List Frame) × IsNode tree above × IsReaderFor tree.draft.value.base.instance reader × (r ≡ Nodes (draft_of tree.draft.value) (counts_of tree.claimed) above)
+Awaits (Leaf tree reader is_closed) r = (above : List Frame) × IsInLeaf tree reader.value is_closed above r
 Awaits (End b claimed seen) r = (t : Written) × (counts_of seen ≡ counts_of_tree t) × (r ≡ EndDue (draft_of b.value) (counts_of claimed) t)
 
 -- what is kept stands for some state of the table

@@ -4,7 +4,7 @@ ghost use Rattle.crew_terms.specs.Words.{IsLine, words_of};
 ghost use Rattle.dossier_terms.specs.declared.Reason.{Reason};
 ghost use Rattle.dossier_terms.specs.Dossier.{Dossier};
 ghost use Rattle.dossier_terms.specs.Reading.{Reading};
-ghost use Rattle.cert_checker.specs.Checked.{IsDueAt, IsEnded, IsJudged, IsOpen, IsReached, IsTrueVerdict, IsTrueYes, IsWholeAt, fresh_checker, refused_at, stop_reason_of, verdict_of};
+ghost use Rattle.cert_checker.specs.Checked.{IsDueAt, IsEnded, IsJudged, IsOpen, IsReached, IsTrueYes, IsWholeAt, fresh_checker, refused_at, stop_reason_of, verdict_of};
 ghost use Rattle.cert_checker.specs.Due.{Awaits, IsEndOf};
 ghost use Rattle.cert_checker.specs.Kept.{IsKeptFrom, state_in};
 ghost use Rattle.cert_checker.specs.Said.{IsSaidOf};
@@ -174,7 +174,6 @@ impl Checker {
         requires plain { IsLine line.now }
         requires few { self.old.lines < 2 ^ 62 }
         ensures judged { (reading : Reading) → IsReached reading → Awaits due reading → IfOk result (λ said. IsJudged self.old.lines reading (words_of line.now) said self.new) }
-        ensures whole { IfOk result (λ said. (verdict : Verdict) → said ≡ Said.Whole verdict → IsTrueVerdict self.new.at verdict) }
         ensures memory { OnErr result (self.new.at ≡ State.Spent) }
     {
         one_answer();
@@ -197,9 +196,6 @@ impl Checker {
         // The line that was due is judged by the table of lines.
         ensures judged { (due : Reading) → IsReached due → IsDueAt self.old.at due → IfOk result (λ said. IsJudged self.old.lines due (words_of line.now) said self.new) }
 
-        // What a whole dossier says is so.
-        ensures whole { IfOk result (λ said. (verdict : Verdict) → said ≡ Said.Whole verdict → IsTrueVerdict self.new.at verdict) }
-
         ensures refused { (number : ℕ) (reason : Reason) → self.old.at ≡ State.Refused number reason → (result ≡ Ok (Said.No number reason)) × (self.new ≡ self.old) }
         ensures spent { self.old.at ≡ State.Spent → IsErr result }
         ensures memory { OnErr result (self.new.at ≡ State.Spent) }
@@ -219,7 +215,7 @@ impl Checker {
     }
 
     /// Whether a dossier is whole, and no line was read after it.
-    fn is_between(&self) -> bool
+    pub fn is_between(&self) -> bool
         ensures { IsTrue result ↔ IsEnded self.now.at }
     {
         matches!(self.state, State::Whole(_))

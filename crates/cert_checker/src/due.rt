@@ -28,7 +28,6 @@ pub struct TreeDraft {
     /// The limits of the node that is due.
     pub limits: Held,
     pub walk: Walk,
-    pub reader: Box<LeafReader>,
 }
 
 /// A whole dossier: all but its tree, of which it has the numbers.
@@ -63,9 +62,12 @@ pub enum Due {
     },
     Node {
         tree: TreeDraft,
+        /// What read the leaves with prices so far; none before the first one.
+        reader: Option<Box<LeafReader>>,
     },
     Leaf {
         tree: TreeDraft,
+        reader: Box<LeafReader>,
         is_closed: bool,
     },
     End {

@@ -51,8 +51,12 @@ pub fn judge(alloc: Global, due: Due, words: LineWords<'_>) -> Result<Step, Allo
         Due::Plan { draft } => Ok(plan_line(draft, words)),
         Due::Job { draft, more, from } => job_line(alloc, draft, more, from, words),
         Due::Tree { draft } => tree_line(alloc, draft, words),
-        Due::Node { tree } => node_line(tree, words),
-        Due::Leaf { tree, is_closed } => Ok(number_line(tree, is_closed, words)),
+        Due::Node { tree, reader } => node_line(alloc, tree, reader, words),
+        Due::Leaf {
+            tree,
+            reader,
+            is_closed,
+        } => Ok(number_line(tree, reader, is_closed, words)),
         Due::End {
             draft,
             claimed,

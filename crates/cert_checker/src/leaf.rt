@@ -7,20 +7,25 @@ use crate::node::leave;
 use cert_format::{Expect, fault_is_refused, read_line};
 use dossier_terms::Reason;
 use field_table::LineWords;
-use leaf_check::{Goal, LeafStep};
+use leaf_check::{Goal, LeafReader, LeafStep};
 use node_limits::Limits;
 use plan_check::unassigned;
 use tree_walk::TreeCounts;
 
 /// A line of the numbers of a leaf.
-pub fn number_line(tree: TreeDraft, is_closed: bool, words: LineWords<'_>) -> Step
-    requires { IsAwaited (Due.Leaf tree is_closed) }
-    ensures { IsStep (Due.Leaf tree is_closed) words.entry result }
+pub fn number_line(
+    tree: TreeDraft,
+    mut reader: Box<LeafReader>,
+    is_closed: bool,
+    words: LineWords<'_>,
+) -> Step
+    requires { IsAwaited (Due.Leaf tree reader is_closed) }
+    ensures { IsStep (Due.Leaf tree reader is_closed) words.entry result }
 {
-    let p = &*tree.draft;
+    let held = &*tree.draft;
     let goal = Goal {
-        bound: p.bound,
-        unassigned: unassigned(&p.plan),
+        bound: held.bound,
+        unassigned: unassigned(&held.plan),
         is_closed,
     };
     let TreeDraft {
@@ -28,7 +33,6 @@ pub fn number_line(tree: TreeDraft, is_closed: bool, words: LineWords<'_>) -> St
         claimed,
         limits,
         walk,
-        mut reader,
     } = tree;
     let limits = Limits::wake(&draft.base.instance, limits);
     let step = reader.line(&limits, goal, words);
@@ -38,11 +42,14 @@ pub fn number_line(tree: TreeDraft, is_closed: bool, words: LineWords<'_>) -> St
         claimed,
         limits,
         walk,
-        reader,
     };
     match step {
-        LeafStep::More => Step::More(Due::Leaf { tree, is_closed }),
-        LeafStep::Done => Step::More(leave(tree, is_closed)),
+        LeafStep::More => Step::More(Due::Leaf {
+            tree,
+            reader,
+            is_closed,
+        }),
+        LeafStep::Done => Step::More(leave(tree, Some(reader), is_closed)),
         LeafStep::No(reason) => Step::No(reason),
     }
 }

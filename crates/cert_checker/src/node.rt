@@ -2,10 +2,11 @@
 ghost use Rattle.std.specs.Prelude.{◌≡◌, ◌≤◌, ◌<◌, ◌↔◌, List, length, IfOk, IsTrue};
 ghost use Rattle.crew_terms.specs.Limits.{tasks_in, teams_in};
 ghost use Rattle.dossier_terms.specs.Dossier.{Written};
-ghost use Rattle.dossier_terms.specs.Reading.{Frame, node_done};
+ghost use Rattle.dossier_terms.specs.Reading.{Frame, Place, Prices, node_done};
+ghost use Rattle.leaf_check.specs.Reader.{IsReady, StandsFor};
 ghost use Rattle.tree_walk.specs.Splits.{IsFreePair};
 ghost use Rattle.tree_walk.specs.Way.{IsLeaf, counts_of};
-ghost use Rattle.cert_checker.specs.Due.{Awaits, HasLeafRoom, HasReader, HasSplitRoom, IsAwaited, IsInTree, IsNode, IsStep, Tells, draft_of};
+ghost use Rattle.cert_checker.specs.Due.{Awaits, HasLeafRoom, HasSplitRoom, IsAwaited, IsInTree, IsNode, IsReaderFor, IsStep, Tells, draft_of};
 ghost use Rattle.cert_checker.specs.Rules.{after_bare, after_leaf, after_pair, after_window};
 
 use crate::due::{Due, Step, TreeDraft};
@@ -13,8 +14,9 @@ use cert_format::{Expect, LineKind, fault_is_refused, read_line};
 use crew_terms::Pair;
 use dossier_terms::Reason;
 use field_table::LineWords;
+use leaf_check::LeafReader;
 use node_limits::Limits;
-use std::alloc::AllocError;
+use std::alloc::{AllocError, Global};
 use tree_walk::is_inside;
 
 /// Whether the numbers that are claimed have room for a split of the node that is due.
@@ -36,9 +38,9 @@ fn has_leaf_room(tree: &TreeDraft, is_closed: bool) -> bool
 }
 
 /// What is due behind a leaf of this kind.
-pub fn leave(tree: TreeDraft, is_closed: bool) -> Due
+pub fn leave(tree: TreeDraft, reader: Option<Box<LeafReader>>, is_closed: bool) -> Due
     requires node { IsInTree tree }
-    requires reader { HasReader tree }
+    requires reader { IsReaderFor tree.draft.value.base.instance reader }
     requires room { HasLeafRoom tree is_closed }
     ensures { (fs : List Frame) (leaf : Written) → IsNode tree fs → IsLeaf is_closed leaf
         → Awaits result (node_done (draft_of tree.draft.value) (counts_of tree.claimed) fs leaf) }
@@ -48,7 +50,6 @@ pub fn leave(tree: TreeDraft, is_closed: bool) -> Due
         claimed,
         limits,
         mut walk,
-        reader,
     } = tree;
     let mut limits = Limits::wake(&draft.base.instance, limits);
     let is_whole = walk.leave(&mut limits, is_closed);
@@ -66,15 +67,19 @@ pub fn leave(tree: TreeDraft, is_closed: bool) -> Due
         claimed,
         limits,
         walk,
-        reader,
     };
-    Due::Node { tree }
+    Due::Node { tree, reader }
 }
 
 /// A line `window`.
-fn window_line(tree: TreeDraft, task: u32, cut: u32) -> Result<Step, AllocError>
+fn window_line(
+    tree: TreeDraft,
+    reader: Option<Box<LeafReader>>,
+    task: u32,
+    cut: u32,
+) -> Result<Step, AllocError>
     requires node { IsInTree tree }
-    requires reader { HasReader tree }
+    requires reader { IsReaderFor tree.draft.value.base.instance reader }
     requires task { task < length tree.draft.value.base.instance.tasks }
     ensures { IfOk result (λ step. (fs : List Frame) → IsNode tree fs → Tells (after_window (draft_of tree.draft.value) (counts_of tree.claimed) fs task cut) step) }
 {
@@ -86,7 +91,6 @@ fn window_line(tree: TreeDraft, task: u32, cut: u32) -> Result<Step, AllocError>
         claimed,
         limits,
         mut walk,
-        reader,
     } = tree;
     let mut limits = Limits::wake(&draft.base.instance, limits);
     if !is_inside(&limits, task, cut) {
@@ -99,9 +103,8 @@ fn window_line(tree: TreeDraft, task: u32, cut: u32) -> Result<Step, AllocError>
         claimed,
         limits,
         walk,
-        reader,
     };
-    Ok(Step::More(Due::Node { tree }))
+    Ok(Step::More(Due::Node { tree, reader }))
 }
 
 /// Whether nothing is said yet of the team and the task.
@@ -117,9 +120,14 @@ fn is_free(limits: &Limits<'_>, team: u32, task: u32) -> bool
 }
 
 /// A line `pair`.
-fn pair_line(tree: TreeDraft, team: u32, task: u32) -> Result<Step, AllocError>
+fn pair_line(
+    tree: TreeDraft,
+    reader: Option<Box<LeafReader>>,
+    team: u32,
+    task: u32,
+) -> Result<Step, AllocError>
     requires node { IsInTree tree }
-    requires reader { HasReader tree }
+    requires reader { IsReaderFor tree.draft.value.base.instance reader }
     requires team { team < length tree.draft.value.base.instance.teams }
     requires task { task < length tree.draft.value.base.instance.tasks }
     ensures { IfOk result (λ step. (fs : List Frame) → IsNode tree fs → Tells (after_pair (draft_of tree.draft.value) (counts_of tree.claimed) fs team task) step) }
@@ -132,7 +140,6 @@ fn pair_line(tree: TreeDraft, team: u32, task: u32) -> Result<Step, AllocError>
         claimed,
         limits,
         mut walk,
-        reader,
     } = tree;
     let mut limits = Limits::wake(&draft.base.instance, limits);
     if !is_free(&limits, team, task) {
@@ -145,15 +152,14 @@ fn pair_line(tree: TreeDraft, team: u32, task: u32) -> Result<Step, AllocError>
         claimed,
         limits,
         walk,
-        reader,
     };
-    Ok(Step::More(Due::Node { tree }))
+    Ok(Step::More(Due::Node { tree, reader }))
 }
 
 /// The line `leaf bare`.
-fn bare_line(tree: TreeDraft) -> Step
+fn bare_line(tree: TreeDraft, reader: Option<Box<LeafReader>>) -> Step
     requires node { IsInTree tree }
-    requires reader { HasReader tree }
+    requires reader { IsReaderFor tree.draft.value.base.instance reader }
     ensures { (fs : List Frame) → IsNode tree fs → Tells (after_bare (draft_of tree.draft.value) (counts_of tree.claimed) fs) result }
 {
     if !has_leaf_room(&tree, false) {
@@ -162,26 +168,72 @@ fn bare_line(tree: TreeDraft) -> Step
     if tree.draft.bound > 0 {
         return Step::No(Reason::Bound);
     }
-    Step::More(leave(tree, false))
+    Step::More(leave(tree, reader, false))
+}
+
+/// The reader of a leaf that begins: the one that read the leaves before it, or a new one.
+fn leaf_reader(
+    alloc: Global,
+    limits: &Limits<'_>,
+    reader: Option<Box<LeafReader>>,
+) -> Result<Box<LeafReader>, AllocError>
+    requires { IsReaderFor limits.now.limits.instance reader }
+    ensures ready { IfOk result (λ r. IsReady limits.now.limits r.value) }
+    ensures begun { IfOk result (λ r. (place : Place) → StandsFor place r.value (Prices place)) }
+{
+    let mut reader = match reader {
+        Some(reader) => reader,
+        None => Box::new(alloc, LeafReader::open(alloc, limits)?)?,
+    };
+    reader.begin();
+    Ok(reader)
 }
 
 /// The line `leaf open` or `leaf closed`.
-fn leaf_line(mut tree: TreeDraft, is_closed: bool) -> Step
+fn leaf_line(
+    alloc: Global,
+    tree: TreeDraft,
+    reader: Option<Box<LeafReader>>,
+    is_closed: bool,
+) -> Result<Step, AllocError>
     requires node { IsInTree tree }
-    requires reader { HasReader tree }
-    ensures { (fs : List Frame) → IsNode tree fs → Tells (after_leaf (draft_of tree.draft.value) (counts_of tree.claimed) fs is_closed) result }
+    requires reader { IsReaderFor tree.draft.value.base.instance reader }
+    ensures { IfOk result (λ step. (fs : List Frame) → IsNode tree fs → Tells (after_leaf (draft_of tree.draft.value) (counts_of tree.claimed) fs is_closed) step) }
 {
     if !has_leaf_room(&tree, is_closed) {
-        return Step::No(Reason::Count);
+        return Ok(Step::No(Reason::Count));
     }
-    tree.reader.begin();
-    Step::More(Due::Leaf { tree, is_closed })
+    let TreeDraft {
+        draft,
+        claimed,
+        limits,
+        walk,
+    } = tree;
+    let limits = Limits::wake(&draft.base.instance, limits);
+    let reader = leaf_reader(alloc, &limits, reader)?;
+    let limits = limits.rest();
+    let tree = TreeDraft {
+        draft,
+        claimed,
+        limits,
+        walk,
+    };
+    Ok(Step::More(Due::Leaf {
+        tree,
+        reader,
+        is_closed,
+    }))
 }
 
 /// A line of a node.
-pub fn node_line(tree: TreeDraft, words: LineWords<'_>) -> Result<Step, AllocError>
-    requires { IsAwaited (Due.Node tree) }
-    ensures { IfOk result (IsStep (Due.Node tree) words.entry) }
+pub fn node_line(
+    alloc: Global,
+    tree: TreeDraft,
+    reader: Option<Box<LeafReader>>,
+    words: LineWords<'_>,
+) -> Result<Step, AllocError>
+    requires { IsAwaited (Due.Node tree reader) }
+    ensures { IfOk result (IsStep (Due.Node tree reader) words.entry) }
 {
     fault_is_refused();
     let instance = &tree.draft.base.instance;
@@ -192,11 +244,11 @@ pub fn node_line(tree: TreeDraft, words: LineWords<'_>) -> Result<Step, AllocErr
         Err(fault) => return Ok(Step::No(fault.reason())),
     };
     match kind {
-        LineKind::Window { task, cut } => window_line(tree, task, cut),
-        LineKind::Pair { team, task } => pair_line(tree, team, task),
-        LineKind::LeafBare => Ok(bare_line(tree)),
-        LineKind::LeafOpen => Ok(leaf_line(tree, false)),
-        LineKind::LeafClosed => Ok(leaf_line(tree, true)),
+        LineKind::Window { task, cut } => window_line(tree, reader, task, cut),
+        LineKind::Pair { team, task } => pair_line(tree, reader, team, task),
+        LineKind::LeafBare => Ok(bare_line(tree, reader)),
+        LineKind::LeafOpen => leaf_line(alloc, tree, reader, false),
+        LineKind::LeafClosed => leaf_line(alloc, tree, reader, true),
         _ => unreachable!(),
     }
 }

@@ -36,8 +36,8 @@ pub fn plan_line(mut draft: Box<Draft>, words: LineWords<'_>) -> Step
     ensures { IsStep (Due.Plan draft) words.entry result }
 {
     fault_is_refused();
-    let p = &mut *draft;
-    let tasks = p.base.instance.tasks() as u32;
+    let held = &mut *draft;
+    let tasks = held.base.instance.tasks() as u32;
     let kind = match read_line(Expect::Plan { tasks }, words) {
         Ok(kind) => kind,
         Err(fault) => return Step::No(fault.reason()),
@@ -45,7 +45,7 @@ pub fn plan_line(mut draft: Box<Draft>, words: LineWords<'_>) -> Step
     let LineKind::Plan { unassigned, bound } = kind else {
         unreachable!()
     };
-    p.bound = bound;
+    held.bound = bound;
     Step::More(due_jobs(draft, tasks - unassigned, 0))
 }
 
@@ -61,8 +61,8 @@ fn judge_job(draft: Box<Draft>, more: u32, from: u32) -> Step
             from,
         });
     }
-    let p = &*draft;
-    match check_plan(&p.base.instance, &p.plan) {
+    let held = &*draft;
+    match check_plan(&held.base.instance, &held.plan) {
         PlanVerdict::Legal => Step::More(Due::Tree { draft }),
         verdict => Step::No(Reason::Plan(verdict)),
     }
@@ -80,9 +80,9 @@ pub fn job_line(
     ensures { IfOk result (IsStep (Due.Job draft more from) words.entry) }
 {
     fault_is_refused();
-    let p = &mut *draft;
-    let teams = p.base.instance.teams() as u32;
-    let tasks = p.base.instance.tasks() as u32;
+    let held = &mut *draft;
+    let teams = held.base.instance.teams() as u32;
+    let tasks = held.base.instance.tasks() as u32;
     let kind = match read_line(Expect::Job { teams, tasks }, words) {
         Ok(kind) => kind,
         Err(fault) => return Ok(Step::No(fault.reason())),
@@ -94,6 +94,6 @@ pub fn job_line(
         return Ok(Step::No(Reason::Shape));
     }
     let teams = team_list(alloc, &teams)?;
-    p.plan.assign(task, start, &teams)?;
+    held.plan.assign(task, start, &teams)?;
     Ok(judge_job(draft, more, task + 1))
 }

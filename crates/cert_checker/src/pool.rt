@@ -104,9 +104,9 @@ pub fn route_line(
     ensures { IfOk result (IsStep (Due.Route draft root more) words.entry) }
 {
     fault_is_refused();
-    let p = &mut *draft;
-    let teams = p.base.instance.teams() as u32;
-    let tasks = p.base.instance.tasks() as u32;
+    let held = &mut *draft;
+    let teams = held.base.instance.teams() as u32;
+    let tasks = held.base.instance.tasks() as u32;
     let kind = match read_line(Expect::Route { teams, tasks }, words) {
         Ok(kind) => kind,
         Err(fault) => return Ok(Step::No(fault.reason())),
@@ -115,8 +115,8 @@ pub fn route_line(
         unreachable!()
     };
     let route = Route::read(alloc, team, &visits)?;
-    let limits = Limits::wake(&p.base.instance, root);
-    let verdict = p.pool.add(&limits, route)?;
+    let limits = Limits::wake(&held.base.instance, root);
+    let verdict = held.pool.add(&limits, route)?;
     let root = limits.rest();
     Ok(judge_route(draft, root, more, verdict))
 }

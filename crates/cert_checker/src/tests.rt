@@ -42,6 +42,39 @@ const SPLIT_SAYS: Verdict = Verdict {
     left_open: 0,
 };
 
+/// A good dossier whose first leaf is bare and whose second one has prices.
+const HALF_BARE: &[&[u8]] = &[
+    b"crew dossier 1",
+    b"size 2 1 2 1",
+    b"place BASE",
+    b"place G1",
+    b"travel 0 10",
+    b"travel 10 0",
+    b"team T1 0 410 460",
+    b"team T2 0 440 490",
+    b"task J 1 420 480 30 2",
+    b"pool 0 0",
+    b"plan 1 0",
+    b"tree 1 0 2 1",
+    b"window 0 435",
+    b"leaf bare",
+    b"leaf open",
+    b"price 0",
+    b"worth 0",
+    b"worth 0",
+    b"phi 0 0",
+    b"end",
+];
+
+/// What that dossier says.
+const HALF_BARE_SAYS: Verdict = Verdict {
+    unassigned: 1,
+    bound: 0,
+    splits: 1,
+    closed: 0,
+    left_open: 2,
+};
+
 /// What is said of one more line.
 fn said_of(checker: &mut Checker, line: &[u8]) -> Result<Said, Fail> {
     if line.len() > 60 || line.contains(&b'\n') || checker.lines() > 1000 {
@@ -50,9 +83,9 @@ fn said_of(checker: &mut Checker, line: &[u8]) -> Result<Said, Fail> {
     Ok(checker.line(line)?)
 }
 
-/// Reads all lines but the last.
-fn read_most(checker: &mut Checker) -> Result<(), Fail> {
-    for line in &SPLIT[..25] {
+/// Reads lines of a good dossier before its last one.
+fn read_most(checker: &mut Checker, lines: &[&[u8]]) -> Result<(), Fail> {
+    for line in lines {
         let said = said_of(checker, line)?;
         if said != Said::More {
             return Err(Fail::from("a line of a good dossier"));
@@ -74,6 +107,9 @@ fn read_end(checker: &mut Checker) -> Result<Kept, Fail> {
     let Said::Whole(verdict) = said else {
         return Err(Fail::from("the last line"));
     };
+    if !checker.is_between() {
+        return Err(Fail::from("a whole dossier"));
+    }
     let tasks = checker.instance().tasks();
     let slots = checker.plan().len();
     Ok((
@@ -84,18 +120,27 @@ fn read_end(checker: &mut Checker) -> Result<Kept, Fail> {
     ))
 }
 
-/// Reads the whole dossier.
-fn read_all(checker: &mut Checker) -> Result<Kept, Fail> {
-    read_most(checker)?;
+/// Reads a good dossier, whose last line is `end`, from these lines before it.
+fn read_all(checker: &mut Checker, lines: &[&[u8]]) -> Result<Kept, Fail> {
+    read_most(checker, lines)?;
     read_end(checker)
 }
 
 #[test]
 fn reads_a_whole_dossier(rt: HostRuntime) -> Result<(), Fail> {
     let mut checker = Checker::open(rt.alloc())?;
-    let kept = read_all(&mut checker);
+    let kept = read_all(&mut checker, &SPLIT[..25]);
     drop(checker);
     assert_eq!(rt; kept?, (SPLIT_SAYS, 1, 1, None));
+    Ok(())
+}
+
+#[test]
+fn reads_prices_behind_a_bare_leaf(rt: HostRuntime) -> Result<(), Fail> {
+    let mut checker = Checker::open(rt.alloc())?;
+    let kept = read_all(&mut checker, &HALF_BARE[..19]);
+    drop(checker);
+    assert_eq!(rt; kept?, (HALF_BARE_SAYS, 1, 1, None));
     Ok(())
 }
 

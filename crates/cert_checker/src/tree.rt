@@ -2,14 +2,13 @@
 ghost use Rattle.std.specs.Prelude.{◌≡◌, [], IfOk};
 ghost use Rattle.dossier_terms.specs.Table.{IsCounts};
 ghost use Rattle.tree_walk.specs.Way.{counts_of};
-ghost use Rattle.cert_checker.specs.Due.{HasReader, IsAwaited, IsNode, IsStep, draft_of};
+ghost use Rattle.cert_checker.specs.Due.{IsAwaited, IsNode, IsStep, draft_of};
 ghost use Rattle.cert_checker.specs.Rules.{IsTreeFault};
 
 use crate::due::{Draft, Due, Step, TreeDraft};
 use cert_format::{Expect, LineKind, fault_is_refused, read_line};
 use dossier_terms::Reason;
 use field_table::LineWords;
-use leaf_check::LeafReader;
 use node_limits::Limits;
 use plan_check::unassigned;
 use std::alloc::{AllocError, Global};
@@ -43,17 +42,14 @@ fn begin_tree(
     ensures draft { IfOk result (λ tree. tree.draft ≡ draft) }
     ensures claimed { IfOk result (λ tree. tree.claimed ≡ claimed) }
     ensures node { IfOk result (λ tree. IsNode tree []) }
-    ensures reader { IfOk result HasReader }
 {
     let limits = Limits::root(alloc, &draft.base.instance)?;
-    let reader = Box::new(alloc, LeafReader::open(alloc, &limits)?)?;
     let limits = limits.rest();
     Ok(TreeDraft {
         draft,
         claimed,
         limits,
         walk: Walk::new(alloc),
-        reader,
     })
 }
 
@@ -86,5 +82,5 @@ pub fn tree_line(alloc: Global, draft: Box<Draft>, words: LineWords<'_>) -> Resu
         return Ok(Step::No(reason));
     }
     let tree = begin_tree(alloc, draft, claimed)?;
-    Ok(Step::More(Due::Node { tree }))
+    Ok(Step::More(Due::Node { tree, reader: None }))
 }

@@ -17,4 +17,4 @@ returns c =
     let woke : c.wake-limits.result ≡ trail_over tree.draft.value.base.instance tree.limits = c.wake-limits.ensures ∙ ap (λ (d : Draft). trail_over d.base.instance tree.limits) c.deref.ensures in
     left_at tree c.wake-limits.result c.leave-is_whole.new.limits c.leave-is_whole.new.self c.rest-limits.result
     woke c.leave-is_whole.ensures.instance c.rest-limits.ensures.same c.rest-limits.ensures.over
-    c.args.is_closed c.if-is_whole.ensures.leaves c.requires.reader
+    c.args.reader c.args.is_closed c.if-is_whole.ensures.leaves c.requires.reader

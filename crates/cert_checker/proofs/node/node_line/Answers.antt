@@ -18,7 +18,7 @@ returns-in-Err c =
     let b = draft_of tree.draft.value in
     let n = counts_of tree.claimed in
     let ws = c.args.words in
-    node_step tree ws (No c.reason.result) (λ fs node. subst (λ r. node_row b n fs ws (Refuses r)) (sym c.reason.ensures)
+    node_step tree c.args.reader ws (No c.reason.result) (λ fs node. subst (λ r. node_row b n fs ws (Refuses r)) (sym c.reason.ensures)
     (c.fault_is_refused.ensures (Nodes b n fs) ws c.in-Err.fault
     (node_fault b n fs c.teams-teams.result c.tasks-tasks.result ws c.in-Err.fault (c.teams-teams.ensures.count ∙ ap (λ (d : Draft). length d.base.instance.teams) c.deref.ensures) (c.tasks-tasks.ensures.count ∙ ap (λ (d : Draft). length d.base.instance.tasks) c.deref.ensures) c.in-Err.ensures)))
 
@@ -32,8 +32,8 @@ returns-in-Window c =
     let cut = c.in-Window.cut in
     let h = subst (IsNodeLine c.teams-teams.result c.tasks-tasks.result ws) c.in-Window.is c.in-Ok.ensures in
     let task : j < length tree.draft.value.base.instance.tasks = subst (λ x. j < x) (c.tasks-tasks.ensures.count ∙ ap (λ (d : Draft). length d.base.instance.tasks) c.deref.ensures) h.0 in
-    if_ok c.window_line.result (λ step. (fs : List Frame) → IsNode tree fs → Tells (after_window b n fs j cut) step) (IsStep (NodeDue tree) ws)
-    (λ step told. node_rest tree ws step (λ fs. after_window b n fs j cut) (λ fs said rest. window_says b n fs j cut ws said task h.1 h.2 rest) told)
+    if_ok c.window_line.result (λ step. (fs : List Frame) → IsNode tree fs → Tells (after_window b n fs j cut) step) (IsStep (NodeDue tree c.args.reader) ws)
+    (λ step told. node_rest tree c.args.reader ws step (λ fs. after_window b n fs j cut) (λ fs said rest. window_says b n fs j cut ws said task h.1 h.2 rest) told)
     c.window_line.ensures
 
 pub returns-in-Pair : goal.returns-in-Pair
@@ -47,8 +47,8 @@ returns-in-Pair c =
     let h = subst (IsNodeLine c.teams-teams.result c.tasks-tasks.result ws) c.in-Pair.is c.in-Ok.ensures in
     let team : k < length tree.draft.value.base.instance.teams = subst (λ x. k < x) (c.teams-teams.ensures.count ∙ ap (λ (d : Draft). length d.base.instance.teams) c.deref.ensures) h.0 in
     let task : j < length tree.draft.value.base.instance.tasks = subst (λ x. j < x) (c.tasks-tasks.ensures.count ∙ ap (λ (d : Draft). length d.base.instance.tasks) c.deref.ensures) h.1 in
-    if_ok c.pair_line.result (λ step. (fs : List Frame) → IsNode tree fs → Tells (after_pair b n fs k j) step) (IsStep (NodeDue tree) ws)
-    (λ step told. node_rest tree ws step (λ fs. after_pair b n fs k j) (λ fs said rest. pair_says b n fs k j ws said team task h.2 rest) told)
+    if_ok c.pair_line.result (λ step. (fs : List Frame) → IsNode tree fs → Tells (after_pair b n fs k j) step) (IsStep (NodeDue tree c.args.reader) ws)
+    (λ step told. node_rest tree c.args.reader ws step (λ fs. after_pair b n fs k j) (λ fs said rest. pair_says b n fs k j ws said team task h.2 rest) told)
     c.pair_line.ensures
 
 pub returns-in-LeafBare : goal.returns-in-LeafBare
@@ -58,7 +58,7 @@ returns-in-LeafBare c =
     let n = counts_of tree.claimed in
     let ws = c.args.words in
     let h = subst (IsNodeLine c.teams-teams.result c.tasks-tasks.result ws) c.in-LeafBare.is c.in-Ok.ensures in
-    node_rest tree ws c.bare_line.result (after_bare b n) (λ fs said rest. bare_says b n fs ws said h rest) c.bare_line.ensures
+    node_rest tree c.args.reader ws c.bare_line.result (after_bare b n) (λ fs said rest. bare_says b n fs ws said h rest) c.bare_line.ensures
 
 pub returns-in-LeafOpen : goal.returns-in-LeafOpen
 returns-in-LeafOpen c =
@@ -67,7 +67,9 @@ returns-in-LeafOpen c =
     let n = counts_of tree.claimed in
     let ws = c.args.words in
     let h = subst (IsNodeLine c.teams-teams.result c.tasks-tasks.result ws) c.in-LeafOpen.is c.in-Ok.ensures in
-    node_rest tree ws c.leaf_line.result (λ fs. after_leaf b n fs false) (λ fs said rest. open_says b n fs ws said h rest) c.leaf_line.ensures
+    if_ok c.leaf_line.result (λ step. (fs : List Frame) → IsNode tree fs → Tells (after_leaf b n fs false) step) (IsStep (NodeDue tree c.args.reader) ws)
+    (λ step told. node_rest tree c.args.reader ws step (λ fs. after_leaf b n fs false) (λ fs said rest. open_says b n fs ws said h rest) told)
+    c.leaf_line.ensures
 
 pub returns-in-LeafClosed : goal.returns-in-LeafClosed
 returns-in-LeafClosed c =
@@ -76,4 +78,6 @@ returns-in-LeafClosed c =
     let n = counts_of tree.claimed in
     let ws = c.args.words in
     let h = subst (IsNodeLine c.teams-teams.result c.tasks-tasks.result ws) c.in-LeafClosed.is c.in-Ok.ensures in
-    node_rest tree ws c.leaf_line-in-LeafClosed.result (λ fs. after_leaf b n fs true) (λ fs said rest. closed_says b n fs ws said h rest) c.leaf_line-in-LeafClosed.ensures
+    if_ok c.leaf_line-in-LeafClosed.result (λ step. (fs : List Frame) → IsNode tree fs → Tells (after_leaf b n fs true) step) (IsStep (NodeDue tree c.args.reader) ws)
+    (λ step told. node_rest tree c.args.reader ws step (λ fs. after_leaf b n fs true) (λ fs said rest. closed_says b n fs ws said h rest) told)
+    c.leaf_line-in-LeafClosed.ensures

@@ -34,6 +34,6 @@ returns c = λ fs node.
       pair_more b (counts_of tree.claimed) fs c.args.team c.args.task n.limits (limits_at tree n fs woke node)
           (room_at tree fs node (c.has_split_room.ensures.0 c.if-not-has_split_room.false)) (c.is_free.ensures.0 c.if-not-is_free.false),
       entered_at tree n c.enter_pair.new.limits c.enter_pair.new.self c.rest-limits.result woke
-          c.enter_pair.ensures.instance c.rest-limits.ensures.same c.rest-limits.ensures.over (Without c.args.team c.args.task)
+          c.enter_pair.ensures.instance c.rest-limits.ensures.same c.rest-limits.ensures.over c.args.reader (Without c.args.team c.args.task)
           c.in_ok-enter_pair.ensures.ok c.requires.reader fs node,
     )

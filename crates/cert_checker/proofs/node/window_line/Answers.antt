@@ -34,6 +34,6 @@ returns c = λ fs node.
       window_more b (counts_of tree.claimed) fs c.args.task c.args.cut n.limits (limits_at tree n fs woke node)
           (room_at tree fs node (c.has_split_room.ensures.0 c.if-not-has_split_room.false)) (c.is_inside.ensures.0 c.if-not-is_inside.false),
       entered_at tree n c.enter_window.new.limits c.enter_window.new.self c.rest-limits.result woke
-          c.enter_window.ensures.instance c.rest-limits.ensures.same c.rest-limits.ensures.over (Lower c.args.task c.args.cut)
+          c.enter_window.ensures.instance c.rest-limits.ensures.same c.rest-limits.ensures.over c.args.reader (Lower c.args.task c.args.cut)
           c.in_ok-enter_window.ensures.ok c.requires.reader fs node,
     )

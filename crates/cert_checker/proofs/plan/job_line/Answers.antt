@@ -16,10 +16,10 @@ use Rattle.cert_checker.proofs.plan.job_line.Goals as goal
 pub returns-then-task-from : goal.returns-then-task-from
 returns-then-task-from c = λ reading a.
     let h = subst (IsJobLine c.teams-teams.result c.tasks-tasks.result c.args.words) c.in-Job.is c.in-Ok.ensures in
-    let b : Draft = c.deref_mut-p.result.now in
+    let b : Draft = c.deref_mut-held.result.now in
     let job : Job = record { start = c.in-Job.start; teams = h.0 } in
     let low = c.if-task-from.true in
-    subst (λ r. Says r c.args.words (Refuses reasons.Shape)) (sym (a.1 ∙ ap (λ (d : Draft). Jobs (draft_of d) c.args.more c.args.from) (sym c.deref_mut-p.ensures.value)))
+    subst (λ r. Says r c.args.words (Refuses reasons.Shape)) (sym (a.1 ∙ ap (λ (d : Draft). Jobs (draft_of d) c.args.more c.args.from) (sym c.deref_mut-held.ensures.value)))
     (job_says (draft_of b) c.args.more c.args.from c.args.words (c.in-Job.task, job) (Refuses reasons.Shape)
     (line_of_counts b.base.instance c.teams-teams.result c.tasks-tasks.result (c.in-Job.task, job) c.teams-teams.ensures.count c.tasks-tasks.ensures.count h.2) h.3
     (Fails (λ le. absurd (omega arith)) refl))
@@ -34,18 +34,18 @@ team_list-requires c =
 pub judge_job-requires : goal.judge_job-requires
 judge_job-requires c =
     let h = subst (IsJobLine c.teams-teams.result c.tasks-tasks.result c.args.words) c.in-Job.is c.in-Ok.ensures in
-    let b : Draft = c.deref_mut-p.result.now in
+    let b : Draft = c.deref_mut-held.result.now in
     let i = b.base.instance in
     let job : Job = record { start = c.in-Job.start; teams = h.0 } in
     let listed : c.deref.result.now ≡ h.0 = c.deref.ensures.value ∙ c.in_ok-teams.ensures ∙ ap naturals h.1 ∙ naturals-pos h.0 in
     let line = line_of_counts i c.teams-teams.result c.tasks-tasks.result (c.in-Job.task, job) c.teams-teams.ensures.count c.tasks-tasks.ensures.count h.2 in
     subst (IsPlanOf i) (sym (c.in_ok-assign.ensures.ok ∙ ap (λ ks. slice_set b.plan c.in-Job.task (Some (record job { teams = ks }))) listed))
-    (plan_of_more i b.plan c.in-Job.task c.in-Job.start h.0 (subst (λ (d : Draft). IsPlanOf d.base.instance d.plan) (sym c.deref_mut-p.ensures.value) c.requires.1.0) line.task line.teams)
+    (plan_of_more i b.plan c.in-Job.task c.in-Job.start h.0 (subst (λ (d : Draft). IsPlanOf d.base.instance d.plan) (sym c.deref_mut-held.ensures.value) c.requires.1.0) line.task line.teams)
 
 pub returns : goal.returns
 returns c = λ reading a.
     let h = subst (IsJobLine c.teams-teams.result c.tasks-tasks.result c.args.words) c.in-Job.is c.in-Ok.ensures in
-    let b : Draft = c.deref_mut-p.result.now in
+    let b : Draft = c.deref_mut-held.result.now in
     let i = b.base.instance in
     let job : Job = record { start = c.in-Job.start; teams = h.0 } in
     let listed : c.deref.result.now ≡ h.0 = c.deref.ensures.value ∙ c.in_ok-teams.ensures ∙ ap naturals h.1 ∙ naturals-pos h.0 in
@@ -53,7 +53,7 @@ returns c = λ reading a.
     let plan : c.assign.new.self ≡ slice_set b.plan c.in-Job.task (Some job) = c.in_ok-assign.ensures.ok ∙ ap (λ ks. slice_set b.plan c.in-Job.task (Some (record job { teams = ks }))) listed in
     let next : c.in-Job.task + 1 ≡ suc c.in-Job.task = omega arith in
     let rules = after_job (record (draft_of b) { plan = c.assign.new.self }) c.args.more (c.in-Job.task + 1) in
-    subst (λ r. Tells (Says r c.args.words) c.judge_job.result) (sym (a.1 ∙ ap (λ (d : Draft). Jobs (draft_of d) c.args.more c.args.from) (sym c.deref_mut-p.ensures.value)))
+    subst (λ r. Tells (Says r c.args.words) c.judge_job.result) (sym (a.1 ∙ ap (λ (d : Draft). Jobs (draft_of d) c.args.more c.args.from) (sym c.deref_mut-held.ensures.value)))
     (told_by rules (job_row (draft_of b) c.args.more c.args.from c.args.words) c.judge_job.result
     (λ said rest. job_says (draft_of b) c.args.more c.args.from c.args.words (c.in-Job.task, job) said line h.3
     (Holds c.if-task-from.false

@@ -11,8 +11,8 @@ use Rattle.cert_checker.proofs.plan.plan_line.Goals as goal
 pub returns : goal.returns
 returns c = λ reading a.
     let h = subst (IsPlanLine c.tasks-tasks.result c.args.words) c.in-Plan.is c.in-Ok.ensures in
-    let b : Kept = c.deref_mut-p.result.now in
-    let same : b ≡ c.args.draft.value = c.deref_mut-p.ensures.value in
+    let b : Kept = c.deref_mut-held.result.now in
+    let same : b ≡ c.args.draft.value = c.deref_mut-held.ensures.value in
     let i = b.base.instance in
     let size = c.tasks-tasks.ensures.count in
     let u = c.in-Plan.unassigned in

@@ -24,7 +24,7 @@ pub add-requires : goal.add-requires
 add-requires c =
     let h = subst (IsRouteLine c.teams-teams.result c.tasks-tasks.result c.args.words) c.in-Route.is c.in-Ok.ensures in
     let route : Route = record { team = c.in-Route.team; visits = h.0 } in
-    let i = c.deref_mut-p.result.now.base.instance in
+    let i = c.deref_mut-held.result.now.base.instance in
     let count = c.tasks-tasks.ensures.count in
     let few = c.tasks-tasks.ensures.limits.few_tasks in
     let numbers = subst (AreNumbersOf h.0) (sym h.1) (route_numbers c.teams-teams.result c.tasks-tasks.result route (omega arith) h.2) in
@@ -37,8 +37,8 @@ pub returns : goal.returns
 returns c = λ reading kept.
     let h = subst (IsRouteLine c.teams-teams.result c.tasks-tasks.result c.args.words) c.in-Route.is c.in-Ok.ensures in
     let route : Route = record { team = c.in-Route.team; visits = h.0 } in
-    let b = c.deref_mut-p.result.now in
-    let same : b ≡ c.args.draft.value = c.deref_mut-p.ensures.value in
+    let b = c.deref_mut-held.result.now in
+    let same : b ≡ c.args.draft.value = c.deref_mut-held.ensures.value in
     let root : IsRoot b.base.instance c.args.root = subst (λ (d : Draft). IsRoot d.base.instance c.args.root) (sym same) kept.0 in
     let due : reading ≡ Routes (draft_of b) c.args.more = kept.2 ∙ ap (λ (d : Draft). Routes (draft_of d) c.args.more) (sym same) in
     let i = b.base.instance in

@@ -2,10 +2,10 @@ use Rattle.cert_checker.proofs.Judged.{ended_is_open}
 use Rattle.cert_checker.proofs.tests.read_end.Goals as goal
 
 pub instance-requires : goal.instance-requires
-instance-requires c = let t = c.in_ok-said.ensures.whole c.in-Whole.verdict c.in-Whole.is in (t.dossier, t.is)
+instance-requires c = c.is_between.ensures.0 c.if-not-is_between.false
 
 pub plan-requires : goal.plan-requires
-plan-requires c = let t = c.in_ok-said.ensures.whole c.in-Whole.verdict c.in-Whole.is in (t.dossier, t.is)
+plan-requires c = c.is_between.ensures.0 c.if-not-is_between.false
 
 pub stopped-requires : goal.stopped-requires
-stopped-requires c = let t = c.in_ok-said.ensures.whole c.in-Whole.verdict c.in-Whole.is in ended_is_open c.line.new.self.at (t.dossier, t.is)
+stopped-requires c = ended_is_open c.line.new.self.at (c.is_between.ensures.0 c.if-not-is_between.false)

@@ -13,5 +13,5 @@ returns-clause-node c =
     c.in_ok-limits.ensures ∙ ap (λ (d : Draft). record { limits = root_limits d.base.instance; past = []; spare = 0 }) c.deref.ensures in record {
       claimed = c.requires;
       over = root_over i c.in_ok-limits.limits c.rest-limits.result at c.rest-limits.ensures.over;
-      at = at_root i c.in_ok-limits.limits c.rest-limits.result c.new-2.result at c.rest-limits.ensures.same c.new-2.ensures;
+      at = at_root i c.in_ok-limits.limits c.rest-limits.result c.new.result at c.rest-limits.ensures.same c.new.ensures;
     }

@@ -27,5 +27,5 @@ returns c = λ reading e.
     let tree = c.in_ok-tree.tree in
     let none : IsTreeFault (draft_of c.args.draft.value) (counts_of claimed) None =
     subst (λ (d : Draft). IsTreeFault (draft_of d) (counts_of claimed) None) c.deref.ensures c.in_default-fault_of_tree.ensures in
-    subst (λ r. Tells (Says r c.args.words) (More (Node tree))) (sym e)
-    (tree_begun c.args.draft claimed tree c.args.words h.0 h.1 none c.in_ok-tree.ensures.draft c.in_ok-tree.ensures.claimed c.in_ok-tree.ensures.node c.in_ok-tree.ensures.reader)
+    subst (λ r. Tells (Says r c.args.words) (More (Node tree None))) (sym e)
+    (tree_begun c.args.draft claimed tree c.args.words h.0 h.1 none c.in_ok-tree.ensures.draft c.in_ok-tree.ensures.claimed c.in_ok-tree.ensures.node)

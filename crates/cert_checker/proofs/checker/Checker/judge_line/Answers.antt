@@ -1,9 +1,9 @@
 use Rattle.std.proofs.Common.{◌+◌, ap, subst, sym, ◌∙◌, arith}
 use Rattle.crew_terms.specs.Words.{words_of}
-use Rattle.cert_checker.specs.Checked.{IsJudged, IsTrueVerdict}
+use Rattle.cert_checker.specs.Checked.{IsJudged}
 use Rattle.cert_checker.specs.Due.{IsStep}
 use Rattle.cert_checker.specs.Kept.{IsSettled, state_in}
-use Rattle.cert_checker.proofs.Judged.{is_true, judged, settles}
+use Rattle.cert_checker.proofs.Judged.{judged, settles}
 use Rattle.cert_checker.proofs.checker.Checker.judge_line.Goals as goal
 
 pub invariant_of-self-2 : goal.invariant_of-self-2
@@ -22,10 +22,3 @@ returns-clause-judged c = λ reading reached awaits.
     (subst (λ n. IsJudged n reading (words_of c.args.line.now) c.said_after-said.result (record { lines = c.self.inside.lines + 1; at = state_in (c.self.inside.lines + 1) c.in_ok-step.step })) (ap (λ v. v.lines) c.self.view_is)
     (judged c.self.inside.lines reading (words_of c.args.line.now) c.in_ok-step.step c.said_after-said.result
     reached (step reading awaits) c.one_answer.ensures c.said_after-said.ensures))
-
-pub returns-clause-whole : goal.returns-clause-whole
-returns-clause-whole c = λ verdict is.
-    let step = subst (λ ws. IsStep c.args.due ws c.in_ok-step.step) c.split-words.ensures c.in_ok-step.ensures in
-    subst (λ state. IsTrueVerdict state verdict) (sym (c.put.ensures ∙ c.state_after.ensures))
-    (is_true (c.self.inside.lines + 1) c.in_ok-step.step c.said_after-said.result verdict (settles c.requires.kept.0 (words_of c.args.line.now) (c.self.inside.lines + 1) c.in_ok-step.step
-    c.requires.kept.1 (step c.requires.kept.0 c.requires.kept.2) c.reached_goes_on.ensures c.whole_is_true.ensures) c.said_after-said.ensures is)
