@@ -2,6 +2,7 @@
 use Rattle.std.proofs.Common.{◌≡◌, ℕ, List, Bool, true, false, ap, subst, sym, refl, ◌∙◌, eqb, ◌&&◌}
 use Rattle.std.specs.Prelude.{if◌then◌else◌}
 use Rattle.std.specs.Global.{Box}
+use Rattle.std.specs.Box.{with_value}
 use Rattle.std.proofs.lemmas.Bool.{and_parts, and_from, eqb-true, eq-eqb, both_ways}
 use Rattle.crew_terms.specs.Words.{Words}
 use Rattle.crew_terms.specs.Limits.{root_limits}
@@ -30,7 +31,7 @@ use Rattle.cert_checker.specs.declared.due.TreeDraft.{TreeDraft}
 use Rattle.cert_checker.specs.declared.due.Due.TheVariants.{End as EndLine}
 use Rattle.cert_checker.specs.declared.due.Step.{Step}
 use Rattle.cert_checker.specs.declared.due.Step.TheVariants.{More, Whole, No}
-use Rattle.cert_checker.proofs.NodeRows.{at_node, limits_at}
+use Rattle.cert_checker.proofs.NodeRows.{at_node, limits_at, moved, written_back}
 
 -- ---- what the reader of a leaf tells
 
@@ -59,16 +60,19 @@ is_leaf false leaf = refl
 
 -- the tree with its limits at rest again
 abbrev pub rested : TreeDraft → Rest → TreeDraft
-rested tree rest = record { draft = tree.draft; claimed = tree.claimed; limits = rest; walk = tree.walk }
+rested tree rest = moved tree rest tree.walk
 
-module _ (tree : TreeDraft) (t : Trail) (rest : Rest) (woke : t ≡ trail_over tree.draft.value.base.instance tree.limits)
+-- it is what is written back into its box and that of its draft
+pub rested_back : (tree held : TreeDraft) (draft : Held) (rest : Rest) → held ≡ tree → draft ≡ held.draft.value
+    → ◌≡◌ {A = TreeDraft} (record { draft = with_value held.draft (record draft { limits = rest }); claimed = held.claimed; walk = held.walk }) (rested tree rest)
+rested_back tree held draft rest e f = written_back tree held draft rest held.walk e f ∙ ap (λ (t : TreeDraft). moved tree rest t.walk) e
+
+module _ (tree : TreeDraft) (t : Trail) (rest : Rest) (woke : t ≡ trail_over tree.draft.value.base.instance tree.draft.value.limits)
     (back : trail_over t.limits.instance rest ≡ t) (over : IsRestOver t.limits.instance rest) where
   -- the walk stands where it stood
   pub stays : (fs : List Frame) → IsNode tree fs → IsNode (rested tree rest) fs
-  stays fs node =
-      let h = at_node tree t t tree.walk rest woke refl back over fs node.claimed
-      (subst (λ x. IsAt (root_limits tree.draft.value.base.instance) x tree.walk fs) (sym woke) node.at) in
-      record { claimed = h.claimed; over = h.over; at = h.at }
+  stays fs node = at_node tree t t tree.walk rest woke refl back over fs node.claimed
+      (subst (λ x. IsAt (root_limits tree.draft.value.base.instance) x tree.walk fs) (sym woke) node.at)
 
   -- the goal is that of the place
   pub goal_at : (is_closed : Bool) (goal : Goal) (fs : List Frame) → IsNode tree fs → goal.bound ≡ tree.draft.value.bound → goal.unassigned ≡ unassigned_count tree.draft.value.plan → goal.is_closed ≡ is_closed
@@ -76,14 +80,14 @@ module _ (tree : TreeDraft) (t : Trail) (rest : Rest) (woke : t ≡ trail_over t
   goal_at is_closed goal fs node bound count kind = record { limits = sym (limits_at tree t fs woke node); bound = bound; unassigned = count; is_closed = kind }
 
   -- one more line of the leaf is due
-  pub in_leaf : (is_closed : Bool) (reader : LeafReader) (fs : List Frame) (next : Reading) → IsNode tree fs → HasLeafRoom tree is_closed → IsReady t.limits reader
-      → StandsFor (place_of tree fs is_closed) reader next → IsInLeaf (rested tree rest) reader is_closed fs next
-  in_leaf is_closed reader fs next node room ready stands = record {
+  pub in_leaf : (new : TreeDraft) → new ≡ rested tree rest → (is_closed : Bool) (reader : LeafReader) (fs : List Frame) (next : Reading) → IsNode tree fs → HasLeafRoom tree is_closed
+      → IsReady t.limits reader → StandsFor (place_of tree fs is_closed) reader next → IsInLeaf new reader is_closed fs next
+  in_leaf new is is_closed reader fs next node room ready stands = subst (λ (x : TreeDraft). IsInLeaf x reader is_closed fs next) (sym is) (record {
     node = stays fs node;
     ready = subst (λ n. IsReady n reader) (limits_at tree t fs woke node) ready;
     room = room;
     stands = stands;
-  }
+  })
 
 -- ---- the line `end`
 

@@ -2,6 +2,7 @@
 use Rattle.std.proofs.Common.{◌≡◌, ◌≤◌, ◌<◌, ℕ, List, [], ◌∷◌, length, Bool, true, false, ap, subst, sym, refl, ◌∙◌, arith}
 use Rattle.std.specs.Prelude.{if◌then◌else◌, codes, Option, Result, IfOk, Ok, Err}
 use Rattle.std.specs.Global.{Box}
+use Rattle.std.specs.Box.{with_value}
 use Rattle.std.proofs.lemmas.List.{length-map}
 use Rattle.crew_terms.specs.Words.{Words}
 use Rattle.crew_terms.specs.Instance.{Instance}
@@ -9,7 +10,7 @@ use Rattle.crew_terms.specs.Limits.{Limits, root_limits, tasks_in, teams_in}
 use Rattle.dossier_terms.specs.declared.Reason.TheVariants as reasons
 use Rattle.dossier_terms.specs.Dossier.{Written, Bare, closed, left_open}
 use Rattle.dossier_terms.specs.Lines.{window_line, pair_line, bare_line, open_line, closed_line}
-use Rattle.dossier_terms.specs.Reading.{Said, More as Goes, No as Refuses, Draft, Counts, Frame, Lower, Upper, Without, With, Nodes, Prices, limits_below, node_done, sum_in}
+use Rattle.dossier_terms.specs.Reading.{Reading, Said, More as Goes, No as Refuses, Draft, Counts, Frame, Lower, Upper, Without, With, Nodes, Ends, Prices, limits_below, node_done, sum_in}
 use Rattle.dossier_terms.specs.Rules.{Holds, Fails, Spelled, Then, Else, On, Begins}
 use Rattle.dossier_terms.specs.Table.{IsCounts, HasRoom, Says, node_row}
 use Rattle.node_limits.specs.Trail.{Trail}
@@ -24,6 +25,7 @@ use Rattle.cert_format.specs.declared.kinds.LineFault.{LineFault}
 use Rattle.leaf_check.specs.declared.reader.LeafReader.{LeafReader}
 use Rattle.cert_checker.specs.Due.{Awaits, HasLeafRoom, HasSplitRoom, IsNode, IsReaderFor, IsStep, Tells, draft_of}
 use Rattle.cert_checker.specs.Rules.{after_bare, after_leaf, after_pair, after_window}
+use Rattle.cert_checker.specs.declared.due.Draft.{Draft as Held}
 use Rattle.cert_checker.specs.declared.due.TreeDraft.{TreeDraft}
 use Rattle.cert_checker.specs.declared.due.Due.TheVariants.{Node as NodeDue, End as EndDue}
 use Rattle.cert_checker.specs.declared.due.Step.{Step}
@@ -53,10 +55,29 @@ instance_below i (With k j without ∷ fs) = instance_below i fs
 
 -- the tree where the walk went on and the limits with it
 abbrev pub moved : TreeDraft → Rest → Walked → TreeDraft
-moved tree rest to = record { draft = tree.draft; claimed = tree.claimed; limits = rest; walk = to }
+moved tree rest to = record { draft = with_value tree.draft (record tree.draft.value { limits = rest }); claimed = tree.claimed; walk = to }
+
+-- it is what is written back into its box and that of its draft
+pub written_back : (tree held : TreeDraft) (draft : Held) (rest : Rest) (to : Walked) → held ≡ tree → draft ≡ held.draft.value
+    → ◌≡◌ {A = TreeDraft} (record { draft = with_value held.draft (record draft { limits = rest }); claimed = held.claimed; walk = to }) (moved tree rest to)
+written_back tree held draft rest to e f =
+    ap (λ (d : Held). with_draft held d) f ∙ ap (λ (t : TreeDraft). moved t rest to) e
+  where
+    with_draft : TreeDraft → Held → TreeDraft
+    with_draft t d = record { draft = with_value t.draft (record d { limits = rest }); claimed = t.claimed; walk = to }
+
+-- limits that were taken out of the draft woke
+pub taken_woke : (tree held : TreeDraft) (draft : Held) (taken : Rest) (t : Trail) → held ≡ tree → draft ≡ held.draft.value → taken ≡ draft.limits
+    → t ≡ trail_over draft.base.instance taken → t ≡ trail_over tree.draft.value.base.instance tree.draft.value.limits
+taken_woke tree held draft taken t e f took woke =
+    woke ∙ ap (trail_over draft.base.instance) took ∙ ap (λ (d : Held). trail_over d.base.instance d.limits) (f ∙ ap (λ (x : TreeDraft). x.draft.value) e)
+
+-- a node of the tree is due, and this is the state of the table
+abbrev pub IsDueAt : TreeDraft → Option (Box LeafReader) → Reading → Type 0
+IsDueAt tree reader r = (above : List Frame) × IsNode tree above × IsReaderFor tree.draft.value.base.instance reader × (r ≡ Nodes (draft_of tree.draft.value) (counts_of tree.claimed) above)
 
 module _ (tree : TreeDraft) (old new : Trail) (to : Walked) (rest : Rest)
-    (woke : old ≡ trail_over tree.draft.value.base.instance tree.limits) (same : new.limits.instance ≡ old.limits.instance)
+    (woke : old ≡ trail_over tree.draft.value.base.instance tree.draft.value.limits) (same : new.limits.instance ≡ old.limits.instance)
     (back : trail_over new.limits.instance rest ≡ new) (over : IsRestOver new.limits.instance rest) where
   of_instance : new.limits.instance ≡ tree.draft.value.base.instance
   of_instance = same ∙ ap (λ (t : Trail). t.limits.instance) woke
@@ -75,30 +96,34 @@ module _ (tree : TreeDraft) (old new : Trail) (to : Walked) (rest : Rest)
   woken fs node = subst (λ t. IsAt (root_limits tree.draft.value.base.instance) t tree.walk fs) (sym woke) node.at
 
   -- past a leaf the walk stands at the node that is due
-  pub left_at : (reader : Option (Box LeafReader)) (is_closed : Bool) → LeavesLeaf is_closed old tree.walk new to false → IsReaderFor tree.draft.value.base.instance reader
-      → (fs : List Frame) (leaf : Written) → IsNode tree fs → IsLeaf is_closed leaf
-      → Awaits (NodeDue (moved tree rest to) reader) (node_done (draft_of tree.draft.value) (counts_of tree.claimed) fs leaf)
-  left_at reader is_closed leaves for_tree fs leaf node is =
-      let p = leaves (root_limits tree.draft.value.base.instance) fs leaf (draft_of tree.draft.value) (counts_of tree.claimed) (woken fs node) is in
-      (p.0, at_node p.0 node.claimed p.2, for_tree, p.1)
+  pub left_at : (box : Box TreeDraft) → box.value ≡ moved tree rest to → (reader : Option (Box LeafReader)) (is_closed : Bool) → LeavesLeaf is_closed old tree.walk new to false
+      → IsReaderFor tree.draft.value.base.instance reader → (fs : List Frame) (leaf : Written) → IsNode tree fs → IsLeaf is_closed leaf
+      → Awaits (NodeDue box reader) (node_done (draft_of tree.draft.value) (counts_of tree.claimed) fs leaf)
+  left_at box is reader is_closed leaves for_tree fs leaf node kind =
+      let p = leaves (root_limits tree.draft.value.base.instance) fs leaf (draft_of tree.draft.value) (counts_of tree.claimed) (woken fs node) kind in
+      subst (λ t. IsDueAt t reader (node_done (draft_of tree.draft.value) (counts_of tree.claimed) fs leaf)) (sym is) (p.0, at_node p.0 node.claimed p.2, for_tree, p.1)
 
   -- below a split the walk stands in its first child
-  pub entered_at : (reader : Option (Box LeafReader)) (f : Frame) → Enters f old tree.walk new to → IsReaderFor tree.draft.value.base.instance reader → (fs : List Frame) → IsNode tree fs
-      → Awaits (NodeDue (moved tree rest to) reader) (Nodes (draft_of tree.draft.value) (counts_of tree.claimed) (f ∷ fs))
-  entered_at reader f enters for_tree fs node = (f ∷ fs, at_node (f ∷ fs) node.claimed (enters (root_limits tree.draft.value.base.instance) fs (woken fs node)), for_tree, refl)
+  pub entered_at : (box : Box TreeDraft) → box.value ≡ moved tree rest to → (reader : Option (Box LeafReader)) (f : Frame) → Enters f old tree.walk new to
+      → IsReaderFor tree.draft.value.base.instance reader → (fs : List Frame) → IsNode tree fs
+      → Awaits (NodeDue box reader) (Nodes (draft_of tree.draft.value) (counts_of tree.claimed) (f ∷ fs))
+  entered_at box is reader f enters for_tree fs node =
+      subst (λ t. IsDueAt t reader (Nodes (draft_of tree.draft.value) (counts_of tree.claimed) (f ∷ fs))) (sym is)
+      (f ∷ fs, at_node (f ∷ fs) node.claimed (enters (root_limits tree.draft.value.base.instance) fs (woken fs node)), for_tree, refl)
 
 -- past the last leaf the whole tree is seen
-pub ended_at : (tree : TreeDraft) (old new : Trail) (to : Walked) (seen : TreeCounts) (is_closed : Bool)
-    → old ≡ trail_over tree.draft.value.base.instance tree.limits → LeavesLeaf is_closed old tree.walk new to true → seen ≡ to.seen
+pub ended_at : (tree : TreeDraft) (old new : Trail) (to : Walked) (draft : Box Held) (claimed seen : TreeCounts) (is_closed : Bool)
+    → old ≡ trail_over tree.draft.value.base.instance tree.draft.value.limits → LeavesLeaf is_closed old tree.walk new to true
+    → draft_of draft.value ≡ draft_of tree.draft.value → claimed ≡ tree.claimed → seen ≡ to.seen
     → (fs : List Frame) (leaf : Written) → IsNode tree fs → IsLeaf is_closed leaf
-    → Awaits (EndDue tree.draft tree.claimed seen) (node_done (draft_of tree.draft.value) (counts_of tree.claimed) fs leaf)
-ended_at tree old new to seen is_closed woke leaves saw fs leaf node is =
+    → Awaits (EndDue draft claimed seen) (node_done (draft_of tree.draft.value) (counts_of tree.claimed) fs leaf)
+ended_at tree old new to draft claimed seen is_closed woke leaves read same saw fs leaf node kind =
     let at : IsAt (root_limits tree.draft.value.base.instance) old tree.walk fs = subst (λ t. IsAt (root_limits tree.draft.value.base.instance) t tree.walk fs) (sym woke) node.at in
-    let p = leaves (root_limits tree.draft.value.base.instance) fs leaf (draft_of tree.draft.value) (counts_of tree.claimed) at is in
-    (p.0, ap counts_of saw ∙ p.2.seen, p.1)
+    let p = leaves (root_limits tree.draft.value.base.instance) fs leaf (draft_of tree.draft.value) (counts_of tree.claimed) at kind in
+    (p.0, ap counts_of saw ∙ p.2.seen, p.1 ∙ ap (λ b. Ends b (counts_of tree.claimed) p.0) (sym read) ∙ ap (λ n. Ends (draft_of draft.value) (counts_of n) p.0) (sym same))
 
 -- the limits that woke are those of the node
-pub limits_at : (tree : TreeDraft) (t : Trail) (fs : List Frame) → t ≡ trail_over tree.draft.value.base.instance tree.limits → IsNode tree fs
+pub limits_at : (tree : TreeDraft) (t : Trail) (fs : List Frame) → t ≡ trail_over tree.draft.value.base.instance tree.draft.value.limits → IsNode tree fs
     → t.limits ≡ limits_below (root_limits tree.draft.value.base.instance) fs
 limits_at tree t fs woke node = ap (λ (x : Trail). x.limits) woke ∙ node.at.way.limits
 
@@ -239,15 +264,15 @@ closed_says b c fs ws said is rest = leaf_says b c fs ws said _ is (λ w p. Else
 -- ---- the step of a line of a node
 
 -- a node is due, and the step is what its row says
-pub node_step : (tree : TreeDraft) (reader : Option (Box LeafReader)) (ws : Words) (step : Step)
-    → ((fs : List Frame) → IsNode tree fs → Tells (node_row (draft_of tree.draft.value) (counts_of tree.claimed) fs ws) step) → IsStep (NodeDue tree reader) ws step
+pub node_step : (tree : Box TreeDraft) (reader : Option (Box LeafReader)) (ws : Words) (step : Step)
+    → ((fs : List Frame) → IsNode tree.value fs → Tells (node_row (draft_of tree.value.draft.value) (counts_of tree.value.claimed) fs ws) step) → IsStep (NodeDue tree reader) ws step
 node_step tree reader ws step f = λ reading awaited. subst (λ r. Tells (Says r ws) step) (sym awaited.3) (f awaited.0 awaited.1)
 
 -- what some rules tell behind the words of a line, its row tells
-pub node_rest : (tree : TreeDraft) (reader : Option (Box LeafReader)) (ws : Words) (step : Step) (Rules : List Frame → Said → Type 0)
-    → ((fs : List Frame) (said : Said) → Rules fs said → node_row (draft_of tree.draft.value) (counts_of tree.claimed) fs ws said)
-    → ((fs : List Frame) → IsNode tree fs → Tells (Rules fs) step) → IsStep (NodeDue tree reader) ws step
-node_rest tree reader ws step Rules row told = node_step tree reader ws step (λ fs node. tells_row (Rules fs) (node_row (draft_of tree.draft.value) (counts_of tree.claimed) fs ws) step (row fs) (told fs node))
+pub node_rest : (tree : Box TreeDraft) (reader : Option (Box LeafReader)) (ws : Words) (step : Step) (Rules : List Frame → Said → Type 0)
+    → ((fs : List Frame) (said : Said) → Rules fs said → node_row (draft_of tree.value.draft.value) (counts_of tree.value.claimed) fs ws said)
+    → ((fs : List Frame) → IsNode tree.value fs → Tells (Rules fs) step) → IsStep (NodeDue tree reader) ws step
+node_rest tree reader ws step Rules row told = node_step tree reader ws step (λ fs node. tells_row (Rules fs) (node_row (draft_of tree.value.draft.value) (counts_of tree.value.claimed) fs ws) step (row fs) (told fs node))
 
 -- a fault of a line of these counts is one where the node is due
 pub node_fault : (b : Draft) (c : Counts) (fs : List Frame) (teams tasks : ℕ) (ws : Words) (fault : LineFault) → teams ≡ length b.instance.teams → tasks ≡ length b.instance.tasks

@@ -17,7 +17,7 @@ use Rattle.dossier_terms.specs.Rules.{Must, Holds, HoldsBy, FailsBy, Spelled, On
 use Rattle.dossier_terms.specs.Table.{IsDoLine, plan_row, job_row, after_job}
 use Rattle.cert_format.specs.Lines.{IsJobOf}
 use Rattle.head_check.specs.Numbers.{naturals, AreBelow}
-use Rattle.cert_checker.specs.Due.{Tells, draft_of}
+use Rattle.cert_checker.specs.Due.{IsBegun, Tells, draft_of}
 use Rattle.cert_checker.specs.declared.due.Draft.{Draft as Held}
 use Rattle.cert_checker.specs.declared.due.Due.TheVariants.{Job as JobDue, Tree as TreeDue}
 use Rattle.cert_checker.specs.declared.due.Step.{Step}
@@ -93,14 +93,14 @@ line_of_counts i m n p a b h = record {
   teams = subst (λ x. AllByRecursion (λ k. k < x) p.1.teams) a h.teams;
 }
 
-pub job_goes_on : (b : Box Held) (more from : ℕ) → 0 < more → IsPlanOf b.value.base.instance b.value.plan → Tells (after_job (draft_of b.value) more from) (More (JobDue b (more - 1) from))
+pub job_goes_on : (b : Box Held) (more from : ℕ) → 0 < more → IsBegun b.value → Tells (after_job (draft_of b.value) more from) (More (JobDue b (more - 1) from))
 job_goes_on b zero from l h = absurd (omega arith)
 job_goes_on b (suc more) from l h = let e : suc more - 1 ≡ more = omega arith in
     subst (λ n. Tells (after_job (draft_of b.value) (suc more) from) (More (JobDue b n from))) (sym e) (Jobs (draft_of b.value) more from, On refl, (h, refl))
 
-pub jobs_judged : (b : Box Held) (more from : ℕ) → more ≡ 0 → IsLegal b.value.base.instance b.value.plan → Tells (after_job (draft_of b.value) more from) (More (TreeDue b))
-jobs_judged b more from none legal = subst (λ n. Tells (after_job (draft_of b.value) n from) (More (TreeDue b))) (sym none)
-    (Trees (draft_of b.value), HoldsBy legal (On refl), refl)
+pub jobs_judged : (b : Box Held) (more from : ℕ) → more ≡ 0 → IsBegun b.value → IsLegal b.value.base.instance b.value.plan → Tells (after_job (draft_of b.value) more from) (More (TreeDue b))
+jobs_judged b more from none begun legal = subst (λ n. Tells (after_job (draft_of b.value) n from) (More (TreeDue b))) (sym none)
+    (Trees (draft_of b.value), HoldsBy legal (On refl), (begun.root, refl))
 
 pub jobs_faulty : (b : Box Held) (more from : ℕ) (v : PlanVerdict) → more ≡ 0 → IsVerdict b.value.base.instance b.value.plan v → (IsLegal b.value.base.instance b.value.plan → ⊥)
     → Tells (after_job (draft_of b.value) more from) (No (reasons.Plan v))

@@ -17,7 +17,7 @@ use Rattle.dossier_terms.specs.Lines.{pool_line, route_line, visit_words}
 use Rattle.dossier_terms.specs.Reading.{More as Goes, No as Refuses, Draft, Routes, Plans, routes_due}
 use Rattle.dossier_terms.specs.Rules.{Holds, Fails, Spelled, On, Begins}
 use Rattle.dossier_terms.specs.Table.{IsRouteLine, IsPairs, draft, pool_row, route_row}
-use Rattle.node_limits.specs.Rest.{Rest, IsRestOver, limits_over, trail_over}
+use Rattle.node_limits.specs.Rest.{State, Rest, IsRestOver, limits_over, trail_over}
 use Rattle.node_limits.specs.Trail.{Trail}
 use Rattle.route_pool.specs.Numbers.{AreNumbersOf}
 use Rattle.route_pool.specs.Verdict.{IsVerdict, pool_after}
@@ -40,13 +40,22 @@ routes_left b (suc k) l = let e : k ≡ suc k - 1 = omega arith in ap (Routes b)
 pub routes_none : (b : Draft) (more : ℕ) → more ≡ 0 → routes_due b more ≡ Plans b
 routes_none b more e = ap (routes_due b) e
 
+none_left : (f : State → Limits) (past : List State) → map f past ≡ [] → past ≡ []
+none_left f [] e = refl
+none_left f (s ∷ past) e = absurd (cc)
+
 -- limits that are put to rest are those of the root
-pub rest_is_root : (i : Instance) (t : Trail) (rest : Rest) → t.limits ≡ root_limits i → trail_over t.limits.instance rest ≡ t → IsRestOver t.limits.instance rest → IsRoot i rest
-rest_is_root i t rest e same over =
+pub rest_is_root : (i : Instance) (t : Trail) (rest : Rest) → t.limits ≡ root_limits i → t.past ≡ [] → trail_over t.limits.instance rest ≡ t → IsRestOver t.limits.instance rest → IsRoot i rest
+rest_is_root i t rest e first same over =
     let of : t.limits.instance ≡ i = ap (λ (n : Limits). n.instance) e in record {
       over = subst (λ x. IsRestOver x rest) of over;
       root = ap (λ x. limits_over x rest.present) (sym of) ∙ ap (λ (x : Trail). x.limits) same ∙ e;
+      past = none_left (limits_over t.limits.instance) rest.past (ap (λ (x : Trail). x.past) same ∙ first);
     }
+
+-- limits of the root that woke are those of the root
+pub root_woke : (i : Instance) (rest : Rest) (t : Trail) → IsRoot i rest → t ≡ trail_over i rest → (t.limits ≡ root_limits i) × (t.past ≡ [])
+root_woke i rest t root woke = (ap (λ (x : Trail). x.limits) woke ∙ root.root, ap (λ (x : Trail). x.past) woke ∙ ap (map (limits_over i)) root.past)
 
 -- ---- the empty plan
 

@@ -1,5 +1,5 @@
 -- the row of the table for the line `tree`
-use Rattle.std.proofs.Common.{◌≡◌, [], ap, subst, sym, refl, ◌∙◌, None, Some}
+use Rattle.std.proofs.Common.{◌≡◌, [], map, ap, subst, sym, refl, ◌∙◌, None, Some}
 use Rattle.std.specs.Global.{Box}
 use Rattle.crew_terms.specs.Words.{Words}
 use Rattle.crew_terms.specs.Instance.{Instance}
@@ -9,11 +9,11 @@ use Rattle.dossier_terms.specs.Lines.{tree_line}
 use Rattle.dossier_terms.specs.Reading.{Said, More as Goes, No as Refuses, Draft, Counts, Nodes}
 use Rattle.dossier_terms.specs.Rules.{Holds, Spelled, On}
 use Rattle.dossier_terms.specs.Table.{IsCounts, tree_row}
-use Rattle.node_limits.specs.Rest.{Rest, IsRestOver, trail_over}
+use Rattle.node_limits.specs.Rest.{Rest, limits_over, trail_over}
 use Rattle.node_limits.specs.Trail.{Trail}
 use Rattle.tree_walk.specs.Way.{Walked, IsAt, counts_of}
 use Rattle.tree_walk.specs.declared.walk.TreeCounts.{TreeCounts}
-use Rattle.cert_checker.specs.Due.{IsNode, Tells, draft_of}
+use Rattle.cert_checker.specs.Due.{IsNode, IsRoot, Tells, draft_of}
 use Rattle.cert_checker.specs.Rules.{IsTreeFault, tree_rules}
 use Rattle.cert_checker.specs.declared.due.Draft.{Draft as Held}
 use Rattle.cert_checker.specs.declared.due.TreeDraft.{TreeDraft}
@@ -30,21 +30,15 @@ pub tree_faulty : (b : Box Held) (claimed : TreeCounts) (ws : Words) (reason : R
 tree_faulty b claimed ws reason fits is broken = tree_says (draft_of b.value) (counts_of claimed) ws (Refuses reason) fits is broken
 
 -- the numbers of a tree break no rule, and its root is due
-pub tree_begun : (b : Box Held) (claimed : TreeCounts) (tree : TreeDraft) (ws : Words) → IsCounts (counts_of claimed)
+pub tree_begun : (b : Box Held) (claimed : TreeCounts) (tree : Box TreeDraft) (ws : Words) → IsCounts (counts_of claimed)
     → ws ≡ tree_line claimed.splits claimed.closed claimed.left_open claimed.depth → IsTreeFault (draft_of b.value) (counts_of claimed) None
-    → tree.draft ≡ b → tree.claimed ≡ claimed → IsNode tree [] → Tells (tree_row (draft_of b.value) ws) (More (Node tree None))
+    → tree.value.draft ≡ b → tree.value.claimed ≡ claimed → IsNode tree.value [] → Tells (tree_row (draft_of b.value) ws) (More (Node tree None))
 tree_begun b claimed tree ws fits is good e f node =
     let root = Nodes (draft_of b.value) (counts_of claimed) [] in
-    let same : root ≡ Nodes (draft_of tree.draft.value) (counts_of tree.claimed) [] =
-    ap (λ (d : Box Held). Nodes (draft_of d.value) (counts_of claimed) []) (sym e) ∙ ap (λ c. Nodes (draft_of tree.draft.value) (counts_of c) []) (sym f) in
+    let same : root ≡ Nodes (draft_of tree.value.draft.value) (counts_of tree.value.claimed) [] =
+    ap (λ (d : Box Held). Nodes (draft_of d.value) (counts_of claimed) []) (sym e) ∙ ap (λ c. Nodes (draft_of tree.value.draft.value) (counts_of c) []) (sym f) in
     (root, tree_says (draft_of b.value) (counts_of claimed) ws (Goes root) fits is (good (Goes root) (On refl)), ([], node, tt, same))
 
--- the limits of the root are kept, and a walk begins there
-pub root_over : (i : Instance) (t : Trail) (rest : Rest) → t ≡ record { limits = root_limits i; past = []; spare = 0 } → IsRestOver t.limits.instance rest → IsRestOver i rest
-root_over i t rest e over = subst (λ x. IsRestOver x rest) (ap (λ (x : Trail). x.limits.instance) e) over
-
-pub at_root : (i : Instance) (t : Trail) (rest : Rest) (walk : Walked) → t ≡ record { limits = root_limits i; past = []; spare = 0 }
-    → trail_over t.limits.instance rest ≡ t → ((x : Trail) → x.past ≡ [] → IsAt x.limits x walk []) → IsAt (root_limits i) (trail_over i rest) walk []
-at_root i t rest walk e same begins =
-    let here : trail_over i rest ≡ record { limits = root_limits i; past = []; spare = 0 } = ap (λ x. trail_over x rest) (sym (ap (λ (x : Trail). x.limits.instance) e)) ∙ same ∙ e in
-    subst (λ n. IsAt n (trail_over i rest) walk []) (ap (λ (x : Trail). x.limits) here) (begins (trail_over i rest) (ap (λ (x : Trail). x.past) here))
+-- a walk begins at the root
+pub at_root : (i : Instance) (limits : Rest) (walk : Walked) → IsRoot i limits → ((t : Trail) → t.past ≡ [] → IsAt t.limits t walk []) → IsAt (root_limits i) (trail_over i limits) walk []
+at_root i limits walk root begins = subst (λ n. IsAt n (trail_over i limits) walk []) root.root (begins (trail_over i limits) (ap (map (limits_over i)) root.past))

@@ -1,5 +1,5 @@
 -- what the checker keeps stands for what has been read of a dossier
-use Rattle.std.specs.Prelude.{◌≡◌, ◌<◌, ℕ, List, Bool, Option, IfSome, length}
+use Rattle.std.specs.Prelude.{◌≡◌, ◌<◌, ℕ, List, [], Bool, Option, IfSome, length}
 use Rattle.std.specs.Global.{Box}
 use Rattle.crew_terms.specs.Words.{Words}
 use Rattle.crew_terms.specs.Instance.{Instance}
@@ -28,12 +28,18 @@ draft_of b = record { instance = b.base.instance; budget = b.base.nodes; kept = 
 pub record IsRoot (i : Instance) (limits : Rest) : Type 0 where
   pub over : IsRestOver i limits
   pub root : limits_over i limits.present ≡ root_limits i
+  pub past : limits.past ≡ []
+
+-- a dossier before its tree
+pub record IsBegun (b : Draft) : Type 0 where
+  pub plan : IsPlanOf b.base.instance b.plan
+  pub root : IsRoot b.base.instance b.limits
 
 -- the walk stands at the node below these splits, and the limits are its
 pub record IsNode (tree : TreeDraft) (above : List Frame) : Type 0 where
   pub claimed : IsCounts (counts_of tree.claimed)
-  pub over : IsRestOver tree.draft.value.base.instance tree.limits
-  pub at : IsAt (root_limits tree.draft.value.base.instance) (trail_over tree.draft.value.base.instance tree.limits) tree.walk above
+  pub over : IsRestOver tree.draft.value.base.instance tree.draft.value.limits
+  pub at : IsAt (root_limits tree.draft.value.base.instance) (trail_over tree.draft.value.base.instance tree.draft.value.limits) tree.walk above
 
 -- the walk stands at a node
 abbrev pub IsInTree : TreeDraft → Type 0
@@ -67,12 +73,12 @@ pub record IsInLeaf (tree : TreeDraft) (reader : LeafReader) (is_closed : Bool) 
 abbrev pub Awaits : Due → Reading → Type 0
 Awaits (Head due) r = IsLineDue due × HoldsHead due × (r ≡ reading_of due)
 Awaits (Pool base) r = r ≡ Pools base.instance base.nodes
-Awaits (Route b root more) r = IsRoot b.value.base.instance root × IsPlanOf b.value.base.instance b.value.plan × (r ≡ Routes (draft_of b.value) more)
-Awaits (Plan b) r = IsPlanOf b.value.base.instance b.value.plan × (r ≡ Plans (draft_of b.value))
-Awaits (Job b more from) r = IsPlanOf b.value.base.instance b.value.plan × (r ≡ Jobs (draft_of b.value) more from)
-Awaits (Tree b) r = r ≡ Trees (draft_of b.value)
-Awaits (Node tree reader) r = (above : List Frame) × IsNode tree above × IsReaderFor tree.draft.value.base.instance reader × (r ≡ Nodes (draft_of tree.draft.value) (counts_of tree.claimed) above)
-Awaits (Leaf tree reader is_closed) r = (above : List Frame) × IsInLeaf tree reader.value is_closed above r
+Awaits (Route b more) r = IsBegun b.value × (r ≡ Routes (draft_of b.value) more)
+Awaits (Plan b) r = IsBegun b.value × (r ≡ Plans (draft_of b.value))
+Awaits (Job b more from) r = IsBegun b.value × (r ≡ Jobs (draft_of b.value) more from)
+Awaits (Tree b) r = IsRoot b.value.base.instance b.value.limits × (r ≡ Trees (draft_of b.value))
+Awaits (Node tree reader) r = (above : List Frame) × IsNode tree.value above × IsReaderFor tree.value.draft.value.base.instance reader × (r ≡ Nodes (draft_of tree.value.draft.value) (counts_of tree.value.claimed) above)
+Awaits (Leaf tree reader is_closed) r = (above : List Frame) × IsInLeaf tree.value reader.value is_closed above r
 Awaits (End b claimed seen) r = (t : Written) × (counts_of seen ≡ counts_of_tree t) × (r ≡ EndDue (draft_of b.value) (counts_of claimed) t)
 
 -- what is kept stands for some state of the table

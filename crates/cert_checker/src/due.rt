@@ -14,6 +14,8 @@ pub struct Draft {
     pub base: Base,
     /// How many routes of the pool come from the round before.
     pub kept: u64,
+    /// The limits of the node that is due; before the tree is read, those of its root.
+    pub limits: Held,
     pub pool: Pool,
     pub plan: Plan,
     pub bound: u32,
@@ -25,8 +27,6 @@ pub struct TreeDraft {
     pub draft: Box<Draft>,
     /// The numbers of the line `tree`.
     pub claimed: TreeCounts,
-    /// The limits of the node that is due.
-    pub limits: Held,
     pub walk: Walk,
 }
 
@@ -46,7 +46,6 @@ pub enum Due {
     },
     Route {
         draft: Box<Draft>,
-        root: Held,
         more: u64,
     },
     Plan {
@@ -61,12 +60,12 @@ pub enum Due {
         draft: Box<Draft>,
     },
     Node {
-        tree: TreeDraft,
+        tree: Box<TreeDraft>,
         /// What read the leaves with prices so far; none before the first one.
         reader: Option<Box<LeafReader>>,
     },
     Leaf {
-        tree: TreeDraft,
+        tree: Box<TreeDraft>,
         reader: Box<LeafReader>,
         is_closed: bool,
     },

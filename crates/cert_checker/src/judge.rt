@@ -47,7 +47,7 @@ pub fn judge(alloc: Global, due: Due, words: LineWords<'_>) -> Result<Step, Allo
     match due {
         Due::Head(due) => head_line(alloc, due, words),
         Due::Pool { base } => pool_line(alloc, base, words),
-        Due::Route { draft, root, more } => route_line(alloc, draft, root, more, words),
+        Due::Route { draft, more } => route_line(alloc, draft, more, words),
         Due::Plan { draft } => Ok(plan_line(draft, words)),
         Due::Job { draft, more, from } => job_line(alloc, draft, more, from, words),
         Due::Tree { draft } => tree_line(alloc, draft, words),
@@ -56,7 +56,7 @@ pub fn judge(alloc: Global, due: Due, words: LineWords<'_>) -> Result<Step, Allo
             tree,
             reader,
             is_closed,
-        } => Ok(number_line(tree, reader, is_closed, words)),
+        } => Ok(number_line(alloc, tree, reader, is_closed, words)),
         Due::End {
             draft,
             claimed,

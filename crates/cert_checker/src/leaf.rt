@@ -10,11 +10,13 @@ use field_table::LineWords;
 use leaf_check::{Goal, LeafReader, LeafStep};
 use node_limits::Limits;
 use plan_check::unassigned;
+use std::alloc::Global;
 use tree_walk::TreeCounts;
 
 /// A line of the numbers of a leaf.
 pub fn number_line(
-    tree: TreeDraft,
+    alloc: Global,
+    mut tree: Box<TreeDraft>,
     mut reader: Box<LeafReader>,
     is_closed: bool,
     words: LineWords<'_>,
@@ -22,34 +24,22 @@ pub fn number_line(
     requires { IsAwaited (Due.Leaf tree reader is_closed) }
     ensures { IsStep (Due.Leaf tree reader is_closed) words.entry result }
 {
-    let held = &*tree.draft;
+    let draft = &mut *tree.draft;
     let goal = Goal {
-        bound: held.bound,
-        unassigned: unassigned(&held.plan),
+        bound: draft.bound,
+        unassigned: unassigned(&draft.plan),
         is_closed,
     };
-    let TreeDraft {
-        draft,
-        claimed,
-        limits,
-        walk,
-    } = tree;
-    let limits = Limits::wake(&draft.base.instance, limits);
+    let limits = Limits::wake(&draft.base.instance, draft.limits.take(alloc));
     let step = reader.line(&limits, goal, words);
-    let limits = limits.rest();
-    let tree = TreeDraft {
-        draft,
-        claimed,
-        limits,
-        walk,
-    };
+    draft.limits = limits.rest();
     match step {
         LeafStep::More => Step::More(Due::Leaf {
             tree,
             reader,
             is_closed,
         }),
-        LeafStep::Done => Step::More(leave(tree, Some(reader), is_closed)),
+        LeafStep::Done => Step::More(leave(alloc, tree, Some(reader), is_closed)),
         LeafStep::No(reason) => Step::No(reason),
     }
 }

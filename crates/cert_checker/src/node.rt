@@ -38,72 +38,62 @@ fn has_leaf_room(tree: &TreeDraft, is_closed: bool) -> bool
 }
 
 /// What is due behind a leaf of this kind.
-pub fn leave(tree: TreeDraft, reader: Option<Box<LeafReader>>, is_closed: bool) -> Due
-    requires node { IsInTree tree }
-    requires reader { IsReaderFor tree.draft.value.base.instance reader }
-    requires room { HasLeafRoom tree is_closed }
-    ensures { (fs : List Frame) (leaf : Written) → IsNode tree fs → IsLeaf is_closed leaf
-        → Awaits result (node_done (draft_of tree.draft.value) (counts_of tree.claimed) fs leaf) }
+pub fn leave(
+    alloc: Global,
+    mut tree: Box<TreeDraft>,
+    reader: Option<Box<LeafReader>>,
+    is_closed: bool,
+) -> Due
+    requires node { IsInTree tree.value }
+    requires reader { IsReaderFor tree.value.draft.value.base.instance reader }
+    requires room { HasLeafRoom tree.value is_closed }
+    ensures { (fs : List Frame) (leaf : Written) → IsNode tree.value fs → IsLeaf is_closed leaf
+        → Awaits result (node_done (draft_of tree.value.draft.value) (counts_of tree.value.claimed) fs leaf) }
 {
+    let held = &mut *tree;
+    let draft = &mut *held.draft;
+    let mut limits = Limits::wake(&draft.base.instance, draft.limits.take(alloc));
+    let is_whole = held.walk.leave(&mut limits, is_closed);
+    draft.limits = limits.rest();
+    if !is_whole {
+        return Due::Node { tree, reader };
+    }
     let TreeDraft {
         draft,
         claimed,
-        limits,
-        mut walk,
-    } = tree;
-    let mut limits = Limits::wake(&draft.base.instance, limits);
-    let is_whole = walk.leave(&mut limits, is_closed);
-    let limits = limits.rest();
-    if is_whole {
-        let seen = walk.seen();
-        return Due::End {
-            draft,
-            claimed,
-            seen,
-        };
-    }
-    let tree = TreeDraft {
+        walk,
+    } = Box::into_inner(tree);
+    Due::End {
         draft,
         claimed,
-        limits,
-        walk,
-    };
-    Due::Node { tree, reader }
+        seen: walk.seen(),
+    }
 }
 
 /// A line `window`.
 fn window_line(
-    tree: TreeDraft,
+    alloc: Global,
+    mut tree: Box<TreeDraft>,
     reader: Option<Box<LeafReader>>,
     task: u32,
     cut: u32,
 ) -> Result<Step, AllocError>
-    requires node { IsInTree tree }
-    requires reader { IsReaderFor tree.draft.value.base.instance reader }
-    requires task { task < length tree.draft.value.base.instance.tasks }
-    ensures { IfOk result (λ step. (fs : List Frame) → IsNode tree fs → Tells (after_window (draft_of tree.draft.value) (counts_of tree.claimed) fs task cut) step) }
+    requires node { IsInTree tree.value }
+    requires reader { IsReaderFor tree.value.draft.value.base.instance reader }
+    requires task { task < length tree.value.draft.value.base.instance.tasks }
+    ensures { IfOk result (λ step. (fs : List Frame) → IsNode tree.value fs → Tells (after_window (draft_of tree.value.draft.value) (counts_of tree.value.claimed) fs task cut) step) }
 {
     if !has_split_room(&tree) {
         return Ok(Step::No(Reason::Count));
     }
-    let TreeDraft {
-        draft,
-        claimed,
-        limits,
-        mut walk,
-    } = tree;
-    let mut limits = Limits::wake(&draft.base.instance, limits);
+    let held = &mut *tree;
+    let draft = &mut *held.draft;
+    let mut limits = Limits::wake(&draft.base.instance, draft.limits.take(alloc));
     if !is_inside(&limits, task, cut) {
         return Ok(Step::No(Reason::Cut));
     }
-    walk.enter_window(&mut limits, task, cut)?;
-    let limits = limits.rest();
-    let tree = TreeDraft {
-        draft,
-        claimed,
-        limits,
-        walk,
-    };
+    held.walk.enter_window(&mut limits, task, cut)?;
+    draft.limits = limits.rest();
     Ok(Step::More(Due::Node { tree, reader }))
 }
 
@@ -121,46 +111,37 @@ fn is_free(limits: &Limits<'_>, team: u32, task: u32) -> bool
 
 /// A line `pair`.
 fn pair_line(
-    tree: TreeDraft,
+    alloc: Global,
+    mut tree: Box<TreeDraft>,
     reader: Option<Box<LeafReader>>,
     team: u32,
     task: u32,
 ) -> Result<Step, AllocError>
-    requires node { IsInTree tree }
-    requires reader { IsReaderFor tree.draft.value.base.instance reader }
-    requires team { team < length tree.draft.value.base.instance.teams }
-    requires task { task < length tree.draft.value.base.instance.tasks }
-    ensures { IfOk result (λ step. (fs : List Frame) → IsNode tree fs → Tells (after_pair (draft_of tree.draft.value) (counts_of tree.claimed) fs team task) step) }
+    requires node { IsInTree tree.value }
+    requires reader { IsReaderFor tree.value.draft.value.base.instance reader }
+    requires team { team < length tree.value.draft.value.base.instance.teams }
+    requires task { task < length tree.value.draft.value.base.instance.tasks }
+    ensures { IfOk result (λ step. (fs : List Frame) → IsNode tree.value fs → Tells (after_pair (draft_of tree.value.draft.value) (counts_of tree.value.claimed) fs team task) step) }
 {
     if !has_split_room(&tree) {
         return Ok(Step::No(Reason::Count));
     }
-    let TreeDraft {
-        draft,
-        claimed,
-        limits,
-        mut walk,
-    } = tree;
-    let mut limits = Limits::wake(&draft.base.instance, limits);
+    let held = &mut *tree;
+    let draft = &mut *held.draft;
+    let mut limits = Limits::wake(&draft.base.instance, draft.limits.take(alloc));
     if !is_free(&limits, team, task) {
         return Ok(Step::No(Reason::Pair));
     }
-    walk.enter_pair(&mut limits, team, task)?;
-    let limits = limits.rest();
-    let tree = TreeDraft {
-        draft,
-        claimed,
-        limits,
-        walk,
-    };
+    held.walk.enter_pair(&mut limits, team, task)?;
+    draft.limits = limits.rest();
     Ok(Step::More(Due::Node { tree, reader }))
 }
 
 /// The line `leaf bare`.
-fn bare_line(tree: TreeDraft, reader: Option<Box<LeafReader>>) -> Step
-    requires node { IsInTree tree }
-    requires reader { IsReaderFor tree.draft.value.base.instance reader }
-    ensures { (fs : List Frame) → IsNode tree fs → Tells (after_bare (draft_of tree.draft.value) (counts_of tree.claimed) fs) result }
+fn bare_line(alloc: Global, tree: Box<TreeDraft>, reader: Option<Box<LeafReader>>) -> Step
+    requires node { IsInTree tree.value }
+    requires reader { IsReaderFor tree.value.draft.value.base.instance reader }
+    ensures { (fs : List Frame) → IsNode tree.value fs → Tells (after_bare (draft_of tree.value.draft.value) (counts_of tree.value.claimed) fs) result }
 {
     if !has_leaf_room(&tree, false) {
         return Step::No(Reason::Count);
@@ -168,7 +149,7 @@ fn bare_line(tree: TreeDraft, reader: Option<Box<LeafReader>>) -> Step
     if tree.draft.bound > 0 {
         return Step::No(Reason::Bound);
     }
-    Step::More(leave(tree, reader, false))
+    Step::More(leave(alloc, tree, reader, false))
 }
 
 /// The reader of a leaf that begins: the one that read the leaves before it, or a new one.
@@ -192,32 +173,21 @@ fn leaf_reader(
 /// The line `leaf open` or `leaf closed`.
 fn leaf_line(
     alloc: Global,
-    tree: TreeDraft,
+    mut tree: Box<TreeDraft>,
     reader: Option<Box<LeafReader>>,
     is_closed: bool,
 ) -> Result<Step, AllocError>
-    requires node { IsInTree tree }
-    requires reader { IsReaderFor tree.draft.value.base.instance reader }
-    ensures { IfOk result (λ step. (fs : List Frame) → IsNode tree fs → Tells (after_leaf (draft_of tree.draft.value) (counts_of tree.claimed) fs is_closed) step) }
+    requires node { IsInTree tree.value }
+    requires reader { IsReaderFor tree.value.draft.value.base.instance reader }
+    ensures { IfOk result (λ step. (fs : List Frame) → IsNode tree.value fs → Tells (after_leaf (draft_of tree.value.draft.value) (counts_of tree.value.claimed) fs is_closed) step) }
 {
     if !has_leaf_room(&tree, is_closed) {
         return Ok(Step::No(Reason::Count));
     }
-    let TreeDraft {
-        draft,
-        claimed,
-        limits,
-        walk,
-    } = tree;
-    let limits = Limits::wake(&draft.base.instance, limits);
+    let draft = &mut *tree.draft;
+    let limits = Limits::wake(&draft.base.instance, draft.limits.take(alloc));
     let reader = leaf_reader(alloc, &limits, reader)?;
-    let limits = limits.rest();
-    let tree = TreeDraft {
-        draft,
-        claimed,
-        limits,
-        walk,
-    };
+    draft.limits = limits.rest();
     Ok(Step::More(Due::Leaf {
         tree,
         reader,
@@ -228,7 +198,7 @@ fn leaf_line(
 /// A line of a node.
 pub fn node_line(
     alloc: Global,
-    tree: TreeDraft,
+    tree: Box<TreeDraft>,
     reader: Option<Box<LeafReader>>,
     words: LineWords<'_>,
 ) -> Result<Step, AllocError>
@@ -244,9 +214,9 @@ pub fn node_line(
         Err(fault) => return Ok(Step::No(fault.reason())),
     };
     match kind {
-        LineKind::Window { task, cut } => window_line(tree, reader, task, cut),
-        LineKind::Pair { team, task } => pair_line(tree, reader, team, task),
-        LineKind::LeafBare => Ok(bare_line(tree, reader)),
+        LineKind::Window { task, cut } => window_line(alloc, tree, reader, task, cut),
+        LineKind::Pair { team, task } => pair_line(alloc, tree, reader, team, task),
+        LineKind::LeafBare => Ok(bare_line(alloc, tree, reader)),
         LineKind::LeafOpen => leaf_line(alloc, tree, reader, false),
         LineKind::LeafClosed => leaf_line(alloc, tree, reader, true),
         _ => unreachable!(),

@@ -1,9 +1,8 @@
 // The lines of a plan: `plan`, and each `do`.
 ghost use Rattle.std.specs.Prelude.{IfOk};
-ghost use Rattle.crew_terms.specs.Verdict.{IsPlanOf};
 ghost use Rattle.dossier_terms.specs.Reading.{jobs_due};
 ghost use Rattle.dossier_terms.specs.Table.{after_job};
-ghost use Rattle.cert_checker.specs.Due.{Awaits, IsAwaited, IsStep, Tells, draft_of};
+ghost use Rattle.cert_checker.specs.Due.{Awaits, IsAwaited, IsBegun, IsStep, Tells, draft_of};
 
 use crate::due::{Draft, Due, Step};
 use cert_format::{Expect, LineKind, fault_is_refused, read_line};
@@ -16,7 +15,7 @@ use std::alloc::{AllocError, Global};
 
 /// What is due where so many jobs are to come, of tasks from `from` on.
 fn due_jobs(draft: Box<Draft>, more: u32, from: u32) -> Due
-    requires { IsPlanOf draft.value.base.instance draft.value.plan }
+    requires { IsBegun draft.value }
     ensures { Awaits result (jobs_due (draft_of draft.value) more from) }
 {
     if more > 0 {
@@ -51,7 +50,7 @@ pub fn plan_line(mut draft: Box<Draft>, words: LineWords<'_>) -> Step
 
 /// What is said after a job, where so many more are to come.
 fn judge_job(draft: Box<Draft>, more: u32, from: u32) -> Step
-    requires { IsPlanOf draft.value.base.instance draft.value.plan }
+    requires { IsBegun draft.value }
     ensures { Tells (after_job (draft_of draft.value) more from) result }
 {
     if more > 0 {

@@ -1,11 +1,10 @@
 // The lines of a pool: `pool`, and each `route`.
 ghost use Rattle.std.specs.Prelude.{◌≡◌, ◌<◌, ◌^◌, ℕ, pos, IfOk};
-ghost use Rattle.crew_terms.specs.Verdict.{IsPlanOf};
 ghost use Rattle.dossier_terms.specs.Reading.{routes_due};
 ghost use Rattle.dossier_terms.specs.Table.{draft};
 ghost use Rattle.dossier_terms.specs.Dossier.{Route as TeamRoute};
 ghost use Rattle.route_pool.specs.Verdict.{IsVerdict, pool_after};
-ghost use Rattle.cert_checker.specs.Due.{Awaits, IsAwaited, IsRoot, IsStep, draft_of};
+ghost use Rattle.cert_checker.specs.Due.{Awaits, IsAwaited, IsBegun, IsStep, draft_of};
 ghost use Rattle.cert_checker.specs.Rules.{TellsRoute};
 
 use crate::due::{Draft, Due, Step};
@@ -13,7 +12,7 @@ use cert_format::{Expect, LineKind, fault_is_refused, read_line};
 use dossier_terms::Reason;
 use field_table::LineWords;
 use head_check::Base;
-use node_limits::{Held, Limits};
+use node_limits::Limits;
 use plan_check::Plan;
 use route_pool::{Pool, PoolVerdict, Route};
 use std::alloc::{AllocError, Global};
@@ -27,15 +26,13 @@ fn natural(n: i64) -> u64
 }
 
 /// What is due where so many routes are to come.
-fn due_routes(draft: Box<Draft>, root: Held, more: u64) -> Due
-    requires root { IsRoot draft.value.base.instance root }
-    requires plan { IsPlanOf draft.value.base.instance draft.value.plan }
+fn due_routes(draft: Box<Draft>, more: u64) -> Due
+    requires { IsBegun draft.value }
     ensures { Awaits result (routes_due (draft_of draft.value) more) }
 {
     if more > 0 {
         Due::Route {
             draft,
-            root,
             more: more - 1,
         }
     } else {
@@ -48,17 +45,18 @@ fn begin_pool(alloc: Global, base: Base, kept: u64, columns: u64) -> Result<Due,
     ensures { IfOk result (λ due. Awaits due (routes_due (draft base.instance base.nodes kept) columns)) }
 {
     let limits = Limits::root(alloc, &base.instance)?;
-    let root = limits.rest();
+    let limits = limits.rest();
     let plan = Plan::empty(alloc, base.instance.tasks())?;
     let draft = Draft {
         base,
         kept,
+        limits,
         pool: Pool::new(alloc),
         plan,
         bound: 0,
     };
     let draft = Box::new(alloc, draft)?;
-    Ok(due_routes(draft, root, columns))
+    Ok(due_routes(draft, columns))
 }
 
 /// The line `pool`.
@@ -81,13 +79,12 @@ pub fn pool_line(alloc: Global, base: Base, words: LineWords<'_>) -> Result<Step
 }
 
 /// What is said behind a route, of which the pool says this, where so many more are to come.
-fn judge_route(draft: Box<Draft>, root: Held, more: u64, verdict: PoolVerdict) -> Step
-    requires root { IsRoot draft.value.base.instance root }
-    requires plan { IsPlanOf draft.value.base.instance draft.value.plan }
+fn judge_route(draft: Box<Draft>, more: u64, verdict: PoolVerdict) -> Step
+    requires { IsBegun draft.value }
     ensures { TellsRoute draft.value more verdict result }
 {
     match verdict {
-        PoolVerdict::Added => Step::More(due_routes(draft, root, more)),
+        PoolVerdict::Added => Step::More(due_routes(draft, more)),
         PoolVerdict::NotRoute | PoolVerdict::Repeated => Step::No(Reason::Pool),
     }
 }
@@ -96,12 +93,11 @@ fn judge_route(draft: Box<Draft>, root: Held, more: u64, verdict: PoolVerdict) -
 pub fn route_line(
     alloc: Global,
     mut draft: Box<Draft>,
-    root: Held,
     more: u64,
     words: LineWords<'_>,
 ) -> Result<Step, AllocError>
-    requires { IsAwaited (Due.Route draft root more) }
-    ensures { IfOk result (IsStep (Due.Route draft root more) words.entry) }
+    requires { IsAwaited (Due.Route draft more) }
+    ensures { IfOk result (IsStep (Due.Route draft more) words.entry) }
 {
     fault_is_refused();
     let held = &mut *draft;
@@ -115,8 +111,8 @@ pub fn route_line(
         unreachable!()
     };
     let route = Route::read(alloc, team, &visits)?;
-    let limits = Limits::wake(&held.base.instance, root);
+    let limits = Limits::wake(&held.base.instance, held.limits.take(alloc));
     let verdict = held.pool.add(&limits, route)?;
-    let root = limits.rest();
-    Ok(judge_route(draft, root, more, verdict))
+    held.limits = limits.rest();
+    Ok(judge_route(draft, more, verdict))
 }

@@ -2,14 +2,13 @@
 ghost use Rattle.std.specs.Prelude.{◌≡◌, [], IfOk};
 ghost use Rattle.dossier_terms.specs.Table.{IsCounts};
 ghost use Rattle.tree_walk.specs.Way.{counts_of};
-ghost use Rattle.cert_checker.specs.Due.{IsAwaited, IsNode, IsStep, draft_of};
+ghost use Rattle.cert_checker.specs.Due.{IsAwaited, IsNode, IsRoot, IsStep, draft_of};
 ghost use Rattle.cert_checker.specs.Rules.{IsTreeFault};
 
 use crate::due::{Draft, Due, Step, TreeDraft};
 use cert_format::{Expect, LineKind, fault_is_refused, read_line};
 use dossier_terms::Reason;
 use field_table::LineWords;
-use node_limits::Limits;
 use plan_check::unassigned;
 use std::alloc::{AllocError, Global};
 use tree_walk::{TreeCounts, Walk};
@@ -37,20 +36,20 @@ fn begin_tree(
     alloc: Global,
     draft: Box<Draft>,
     claimed: TreeCounts,
-) -> Result<TreeDraft, AllocError>
-    requires { IsCounts (counts_of claimed) }
-    ensures draft { IfOk result (λ tree. tree.draft ≡ draft) }
-    ensures claimed { IfOk result (λ tree. tree.claimed ≡ claimed) }
-    ensures node { IfOk result (λ tree. IsNode tree []) }
+) -> Result<Box<TreeDraft>, AllocError>
+    requires root { IsRoot draft.value.base.instance draft.value.limits }
+    requires counts { IsCounts (counts_of claimed) }
+    ensures draft { IfOk result (λ tree. tree.value.draft ≡ draft) }
+    ensures claimed { IfOk result (λ tree. tree.value.claimed ≡ claimed) }
+    ensures node { IfOk result (λ tree. IsNode tree.value []) }
 {
-    let limits = Limits::root(alloc, &draft.base.instance)?;
-    let limits = limits.rest();
-    Ok(TreeDraft {
+    let tree = TreeDraft {
         draft,
         claimed,
-        limits,
         walk: Walk::new(alloc),
-    })
+    };
+    let tree = Box::new(alloc, tree)?;
+    Ok(tree)
 }
 
 /// The line `tree`.

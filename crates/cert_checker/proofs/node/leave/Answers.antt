@@ -1,20 +1,30 @@
-use Rattle.std.proofs.Common.{◌≡◌, ◌∙◌, ap}
-use Rattle.node_limits.specs.Rest.{trail_over}
-use Rattle.cert_checker.specs.declared.due.Draft.{Draft}
-use Rattle.cert_checker.proofs.NodeRows.{left_at, ended_at}
+use Rattle.std.proofs.Common.{◌≡◌, ◌∙◌, ap, sym}
+use Rattle.std.specs.Box.{with_value}
+use Rattle.cert_checker.specs.Due.{draft_of}
+use Rattle.cert_checker.specs.declared.due.TreeDraft.{TreeDraft}
+use Rattle.cert_checker.proofs.NodeRows.{left_at, ended_at, moved, taken_woke, written_back}
 use Rattle.cert_checker.proofs.node.leave.Goals as goal
 
-pub returns-then-is_whole : goal.returns-then-is_whole
-returns-then-is_whole c =
-    let tree = c.args.tree in
-    let woke : c.wake-limits.result ≡ trail_over tree.draft.value.base.instance tree.limits = c.wake-limits.ensures ∙ ap (λ (d : Draft). trail_over d.base.instance tree.limits) c.deref.ensures in
-    ended_at tree c.wake-limits.result c.leave-is_whole.new.limits c.leave-is_whole.new.self c.seen-seen.result c.args.is_closed
-    woke c.if-is_whole.ensures.leaves c.seen-seen.ensures
+pub returns-then-not-is_whole : goal.returns-then-not-is_whole
+returns-then-not-is_whole c =
+    let tree = c.args.tree.value in
+    let held = c.deref_mut-held.result.now in
+    let draft = c.deref_mut-draft.result.now in
+    let woke = taken_woke tree held draft c.take.result c.wake-limits.result c.deref_mut-held.ensures.value c.deref_mut-draft.ensures.value c.take.ensures.taken c.wake-limits.ensures in
+    left_at tree c.wake-limits.result c.leave-is_whole.new.limits c.leave-is_whole.new.self c.rest.result
+    woke c.leave-is_whole.ensures.instance c.rest.ensures.same c.rest.ensures.over
+    (with_value c.args.tree (record held { draft = with_value held.draft (record draft { limits = c.rest.result }); walk = c.leave-is_whole.new.self }))
+    (written_back tree held draft c.rest.result c.leave-is_whole.new.self c.deref_mut-held.ensures.value c.deref_mut-draft.ensures.value)
+    c.args.reader c.args.is_closed c.if-not-is_whole.ensures.leaves c.requires.reader
 
 pub returns : goal.returns
 returns c =
-    let tree = c.args.tree in
-    let woke : c.wake-limits.result ≡ trail_over tree.draft.value.base.instance tree.limits = c.wake-limits.ensures ∙ ap (λ (d : Draft). trail_over d.base.instance tree.limits) c.deref.ensures in
-    left_at tree c.wake-limits.result c.leave-is_whole.new.limits c.leave-is_whole.new.self c.rest-limits.result
-    woke c.leave-is_whole.ensures.instance c.rest-limits.ensures.same c.rest-limits.ensures.over
-    c.args.reader c.args.is_closed c.if-is_whole.ensures.leaves c.requires.reader
+    let tree = c.args.tree.value in
+    let held = c.deref_mut-held.result.now in
+    let draft = c.deref_mut-draft.result.now in
+    let woke = taken_woke tree held draft c.take.result c.wake-limits.result c.deref_mut-held.ensures.value c.deref_mut-draft.ensures.value c.take.ensures.taken c.wake-limits.ensures in
+    let is : c.into_inner-draft.result ≡ moved tree c.rest.result c.leave-is_whole.new.self = c.into_inner-draft.ensures
+    ∙ written_back tree held draft c.rest.result c.leave-is_whole.new.self c.deref_mut-held.ensures.value c.deref_mut-draft.ensures.value in
+    ended_at tree c.wake-limits.result c.leave-is_whole.new.limits c.leave-is_whole.new.self c.into_inner-draft.result.draft c.into_inner-draft.result.claimed c.seen.result c.args.is_closed
+    woke c.if-not-is_whole.ensures.leaves (ap (λ (t : TreeDraft). draft_of t.draft.value) is) (ap (λ (t : TreeDraft). t.claimed) is)
+    (c.seen.ensures ∙ ap (λ (t : TreeDraft). t.walk.seen) is)

@@ -8,7 +8,7 @@ use Rattle.dossier_terms.specs.Rules.{Holds, Fails}
 use Rattle.dossier_terms.specs.Table.{Says, after_job, job_row}
 use Rattle.cert_format.specs.Lines.{IsJobLine}
 use Rattle.head_check.specs.Numbers.{AreBelow, naturals}
-use Rattle.cert_checker.specs.Due.{Tells, draft_of}
+use Rattle.cert_checker.specs.Due.{IsBegun, Tells, draft_of}
 use Rattle.cert_checker.specs.declared.due.Draft.{Draft}
 use Rattle.cert_checker.proofs.PlanRows.{told_by, below_from, naturals-pos, job_says, line_of_counts, plan_of_more}
 use Rattle.cert_checker.proofs.plan.job_line.Goals as goal
@@ -39,8 +39,11 @@ judge_job-requires c =
     let job : Job = record { start = c.in-Job.start; teams = h.0 } in
     let listed : c.deref.result.now ≡ h.0 = c.deref.ensures.value ∙ c.in_ok-teams.ensures ∙ ap naturals h.1 ∙ naturals-pos h.0 in
     let line = line_of_counts i c.teams-teams.result c.tasks-tasks.result (c.in-Job.task, job) c.teams-teams.ensures.count c.tasks-tasks.ensures.count h.2 in
-    subst (IsPlanOf i) (sym (c.in_ok-assign.ensures.ok ∙ ap (λ ks. slice_set b.plan c.in-Job.task (Some (record job { teams = ks }))) listed))
-    (plan_of_more i b.plan c.in-Job.task c.in-Job.start h.0 (subst (λ (d : Draft). IsPlanOf d.base.instance d.plan) (sym c.deref_mut-held.ensures.value) c.requires.1.0) line.task line.teams)
+    let begun = subst IsBegun (sym c.deref_mut-held.ensures.value) c.requires.1.0 in record {
+      plan = subst (IsPlanOf i) (sym (c.in_ok-assign.ensures.ok ∙ ap (λ ks. slice_set b.plan c.in-Job.task (Some (record job { teams = ks }))) listed))
+          (plan_of_more i b.plan c.in-Job.task c.in-Job.start h.0 begun.plan line.task line.teams);
+      root = begun.root;
+    }
 
 pub returns : goal.returns
 returns c = λ reading a.

@@ -11,7 +11,7 @@ returns-then-more-gt0 c = job_goes_on c.args.draft c.args.more c.args.from c.if-
 pub returns-in-Legal : goal.returns-in-Legal
 returns-in-Legal c =
     let none = c.if-more-gt0.false in
-    jobs_judged c.args.draft c.args.more c.args.from (omega arith) (subst (λ (d : Draft). IsLegal d.base.instance d.plan) c.deref-held.ensures ((c.check_plan.ensures.legal).0 c.in-Legal.is))
+    jobs_judged c.args.draft c.args.more c.args.from (omega arith) c.requires (subst (λ (d : Draft). IsLegal d.base.instance d.plan) c.deref-held.ensures ((c.check_plan.ensures.legal).0 c.in-Legal.is))
 
 pub returns-in_default : goal.returns-in_default
 returns-in_default c =

@@ -2,11 +2,16 @@ use Rattle.std.proofs.Common.{◌≡◌, ◌≤◌, ◌-◌, length, ap, sym, su
 use Rattle.cert_format.specs.Lines.{IsPlanLine}
 use Rattle.dossier_terms.specs.Reading.{Draft, Plans, jobs_due}
 use Rattle.dossier_terms.specs.Table.{Says}
-use Rattle.cert_checker.specs.Due.{Awaits, Tells, draft_of}
+use Rattle.cert_checker.specs.Due.{Awaits, IsBegun, Tells, draft_of}
 use Rattle.cert_checker.specs.declared.due.Draft.{Draft as Kept}
 use Rattle.cert_checker.specs.declared.due.Step.TheVariants.{More}
 use Rattle.cert_checker.proofs.PlanRows.{plan_more}
 use Rattle.cert_checker.proofs.plan.plan_line.Goals as goal
+
+pub due_jobs-requires : goal.due_jobs-requires
+due_jobs-requires c =
+    let begun = subst IsBegun (sym c.deref_mut-held.ensures.value) c.requires.1.0 in
+    record { plan = begun.plan; root = begun.root }
 
 pub returns : goal.returns
 returns c = λ reading a.

@@ -13,19 +13,19 @@ use Rattle.cert_checker.proofs.TreeRows.{tree_faulty, tree_begun}
 use Rattle.cert_checker.proofs.tree.tree_line.Goals as goal
 
 pub returns-in-Some : goal.returns-in-Some
-returns-in-Some c = λ reading e.
+returns-in-Some c = λ reading awaited.
     let h = subst (IsTreeLine c.args.words) c.in-Tree.is c.in-Ok.ensures in
     let claimed : TreeCounts = record { splits = c.in-Tree.splits; closed = c.in-Tree.closed; left_open = c.in-Tree.left_open; depth = c.in-Tree.depth } in
-    subst (λ r. Says r c.args.words (Refuses c.in-Some.reason)) (sym e)
+    subst (λ r. Says r c.args.words (Refuses c.in-Some.reason)) (sym awaited.1)
     (tree_faulty c.args.draft claimed c.args.words c.in-Some.reason h.0 h.1
     (subst (λ (d : Draft). IsTreeFault (draft_of d) (counts_of claimed) (Some c.in-Some.reason)) c.deref.ensures c.in-Some.ensures))
 
 pub returns : goal.returns
-returns c = λ reading e.
+returns c = λ reading awaited.
     let h = subst (IsTreeLine c.args.words) c.in-Tree.is c.in-Ok.ensures in
     let claimed : TreeCounts = record { splits = c.in-Tree.splits; closed = c.in-Tree.closed; left_open = c.in-Tree.left_open; depth = c.in-Tree.depth } in
     let tree = c.in_ok-tree.tree in
     let none : IsTreeFault (draft_of c.args.draft.value) (counts_of claimed) None =
     subst (λ (d : Draft). IsTreeFault (draft_of d) (counts_of claimed) None) c.deref.ensures c.in_default-fault_of_tree.ensures in
-    subst (λ r. Tells (Says r c.args.words) (More (Node tree None))) (sym e)
+    subst (λ r. Tells (Says r c.args.words) (More (Node tree None))) (sym awaited.1)
     (tree_begun c.args.draft claimed tree c.args.words h.0 h.1 none c.in_ok-tree.ensures.draft c.in_ok-tree.ensures.claimed c.in_ok-tree.ensures.node)
