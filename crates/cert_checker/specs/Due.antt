@@ -72,7 +72,7 @@ pub record IsInLeaf (tree : TreeDraft) (reader : LeafReader) (is_closed : Bool) 
 -- which no more is kept than the next lines need.
 abbrev pub Awaits : Due → Reading → Type 0
 Awaits (Head due) r = IsLineDue due × HoldsHead due × (r ≡ reading_of due)
-Awaits (Pool base) r = r ≡ Pools base.instance base.nodes
+Awaits (Pool base) r = r ≡ Pools base.value.instance base.value.nodes
 Awaits (Route b more) r = IsBegun b.value × (r ≡ Routes (draft_of b.value) more)
 Awaits (Plan b) r = IsBegun b.value × (r ≡ Plans (draft_of b.value))
 Awaits (Job b more from) r = IsBegun b.value × (r ≡ Jobs (draft_of b.value) more from)

@@ -42,7 +42,7 @@ pub struct Ended {
 pub enum Due {
     Head(HeadDue),
     Pool {
-        base: Base,
+        base: Box<Base>,
     },
     Route {
         draft: Box<Draft>,

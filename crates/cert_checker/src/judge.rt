@@ -19,9 +19,7 @@ fn due_after(due: HeadDue) -> Due
     ensures { Awaits result (reading_of due) }
 {
     match due {
-        HeadDue::Whole { base } => Due::Pool {
-            base: Box::into_inner(base),
-        },
+        HeadDue::Whole { base } => Due::Pool { base },
         due => Due::Head(due),
     }
 }

@@ -60,7 +60,7 @@ fn begin_pool(alloc: Global, base: Base, kept: u64, columns: u64) -> Result<Due,
 }
 
 /// The line `pool`.
-pub fn pool_line(alloc: Global, base: Base, words: LineWords<'_>) -> Result<Step, AllocError>
+pub fn pool_line(alloc: Global, base: Box<Base>, words: LineWords<'_>) -> Result<Step, AllocError>
     ensures { IfOk result (IsStep (Due.Pool base) words.entry) }
 {
     fault_is_refused();
@@ -74,7 +74,12 @@ pub fn pool_line(alloc: Global, base: Base, words: LineWords<'_>) -> Result<Step
     if kept > columns {
         return Ok(Step::No(Reason::Pool));
     }
-    let due = begin_pool(alloc, base, natural(kept), natural(columns))?;
+    let due = begin_pool(
+        alloc,
+        Box::into_inner(base),
+        natural(kept),
+        natural(columns),
+    )?;
     Ok(Step::More(due))
 }
 
