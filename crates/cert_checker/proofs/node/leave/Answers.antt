@@ -1,5 +1,6 @@
-use Rattle.std.proofs.Common.{◌≡◌, ◌∙◌, ap, sym}
+use Rattle.std.proofs.Common.{◌≡◌, ◌∙◌, ap, subst, sym, true, false}
 use Rattle.std.specs.Box.{with_value}
+use Rattle.tree_walk.specs.Way.{LeavesLeaf}
 use Rattle.cert_checker.specs.Due.{draft_of}
 use Rattle.cert_checker.specs.declared.due.TreeDraft.{TreeDraft}
 use Rattle.cert_checker.proofs.NodeRows.{left_at, ended_at, moved, taken_woke, written_back}
@@ -15,7 +16,9 @@ returns-then-not-is_whole c =
     woke c.leave-is_whole.ensures.instance c.rest.ensures.same c.rest.ensures.over
     (with_value c.args.tree (record held { draft = with_value held.draft (record draft { limits = c.rest.result }); walk = c.leave-is_whole.new.self }))
     (written_back tree held draft c.rest.result c.leave-is_whole.new.self c.deref_mut-held.ensures.value c.deref_mut-draft.ensures.value)
-    c.args.reader c.args.is_closed c.if-not-is_whole.ensures.leaves c.requires.reader
+    c.args.reader c.args.is_closed
+    (subst (λ (x : TreeDraft). LeavesLeaf c.args.is_closed c.wake-limits.result x.walk c.leave-is_whole.new.limits c.leave-is_whole.new.self false) c.deref_mut-held.ensures.value c.if-not-is_whole.ensures.leaves)
+    c.requires.reader
 
 pub returns : goal.returns
 returns c =
@@ -26,5 +29,6 @@ returns c =
     let is : c.into_inner-draft.result ≡ moved tree c.rest.result c.leave-is_whole.new.self = c.into_inner-draft.ensures
     ∙ written_back tree held draft c.rest.result c.leave-is_whole.new.self c.deref_mut-held.ensures.value c.deref_mut-draft.ensures.value in
     ended_at tree c.wake-limits.result c.leave-is_whole.new.limits c.leave-is_whole.new.self c.into_inner-draft.result.draft c.into_inner-draft.result.claimed c.seen.result c.args.is_closed
-    woke c.if-not-is_whole.ensures.leaves (ap (λ (t : TreeDraft). draft_of t.draft.value) is) (ap (λ (t : TreeDraft). t.claimed) is)
+    woke (subst (λ (x : TreeDraft). LeavesLeaf c.args.is_closed c.wake-limits.result x.walk c.leave-is_whole.new.limits c.leave-is_whole.new.self true) c.deref_mut-held.ensures.value c.if-not-is_whole.ensures.leaves)
+    (ap (λ (t : TreeDraft). draft_of t.draft.value) is) (ap (λ (t : TreeDraft). t.claimed) is)
     (c.seen.ensures ∙ ap (λ (t : TreeDraft). t.walk.seen) is)

@@ -3,8 +3,9 @@ use Rattle.std.proofs.lemmas.Bool.{both_ways}
 use Rattle.std.specs.Prelude.{◌∷◌}
 use Rattle.std.specs.Box.{with_value}
 use Rattle.dossier_terms.specs.Reading.{Without, Nodes}
-use Rattle.tree_walk.specs.Way.{counts_of}
+use Rattle.tree_walk.specs.Way.{Enters, counts_of}
 use Rattle.cert_checker.specs.Due.{HasSplitRoom, draft_of}
+use Rattle.cert_checker.specs.declared.due.TreeDraft.{TreeDraft}
 use Rattle.cert_checker.proofs.NodeRows.{entered_at, limits_at, taken_woke, written_back, room_above, room_at, pair_no_room, pair_not_free, pair_more}
 use Rattle.cert_checker.proofs.node.pair_line.Goals as goal
 
@@ -38,5 +39,6 @@ returns c = λ fs node.
           c.enter_pair.ensures.instance c.rest.ensures.same c.rest.ensures.over
           (with_value c.args.tree (record held { draft = with_value held.draft (record draft { limits = c.rest.result }); walk = c.enter_pair.new.self }))
           (written_back tree held draft c.rest.result c.enter_pair.new.self c.deref_mut-held.ensures.value c.deref_mut-draft.ensures.value)
-          c.args.reader (Without c.args.team c.args.task) c.in_ok-enter_pair.ensures.ok c.requires.reader fs node,
+          c.args.reader (Without c.args.team c.args.task)
+          (subst (λ (x : TreeDraft). Enters (Without c.args.team c.args.task) n x.walk c.enter_pair.new.limits c.enter_pair.new.self) c.deref_mut-held.ensures.value c.in_ok-enter_pair.ensures.ok) c.requires.reader fs node,
     )

@@ -3,8 +3,9 @@ use Rattle.std.proofs.lemmas.Bool.{both_ways}
 use Rattle.std.specs.Prelude.{◌∷◌}
 use Rattle.std.specs.Box.{with_value}
 use Rattle.dossier_terms.specs.Reading.{Lower, Nodes}
-use Rattle.tree_walk.specs.Way.{counts_of}
+use Rattle.tree_walk.specs.Way.{Enters, counts_of}
 use Rattle.cert_checker.specs.Due.{HasSplitRoom, draft_of}
+use Rattle.cert_checker.specs.declared.due.TreeDraft.{TreeDraft}
 use Rattle.cert_checker.proofs.NodeRows.{entered_at, limits_at, taken_woke, written_back, room_above, room_at, window_no_room, window_no_cut, window_more}
 use Rattle.cert_checker.proofs.node.window_line.Goals as goal
 
@@ -38,5 +39,6 @@ returns c = λ fs node.
           c.enter_window.ensures.instance c.rest.ensures.same c.rest.ensures.over
           (with_value c.args.tree (record held { draft = with_value held.draft (record draft { limits = c.rest.result }); walk = c.enter_window.new.self }))
           (written_back tree held draft c.rest.result c.enter_window.new.self c.deref_mut-held.ensures.value c.deref_mut-draft.ensures.value)
-          c.args.reader (Lower c.args.task c.args.cut) c.in_ok-enter_window.ensures.ok c.requires.reader fs node,
+          c.args.reader (Lower c.args.task c.args.cut)
+          (subst (λ (x : TreeDraft). Enters (Lower c.args.task c.args.cut) n x.walk c.enter_window.new.limits c.enter_window.new.self) c.deref_mut-held.ensures.value c.in_ok-enter_window.ensures.ok) c.requires.reader fs node,
     )
