@@ -1,17 +1,16 @@
 -- where a checker stands after it judged a line
-use Rattle.std.proofs.Common.{◌≡◌, ◌≤◌, ◌<◌, ◌+◌, ◌^◌, ℕ, Some, None, sym, ap, subst, ◌∙◌, refl}
+use Rattle.std.proofs.Common.{◌≡◌, ◌+◌, ℕ, refl}
 use Rattle.crew_terms.specs.Words.{Words}
 use Rattle.dossier_terms.specs.Dossier.{Dossier}
 use Rattle.dossier_terms.specs.Reading.{Reading, Form, Said as Answer, More as Goes, Whole as Ends, No as Refuses}
 use Rattle.dossier_terms.specs.Table.{Says}
-use Rattle.cert_checker.specs.Due.{Awaits, IsEndOf, IsStep, Tells}
-use Rattle.cert_checker.specs.Checked.{Checked, IsEnded, IsOpen, IsJudged, IsReached, IsTrueYes, IsWholeAt, said_of, StandsAfter}
-use Rattle.cert_checker.specs.Kept.{IsKeptFrom, IsSettled, state_in}
+use Rattle.cert_checker.specs.Due.{Tells}
+use Rattle.cert_checker.specs.Checked.{IsEnded, IsOpen, IsJudged, IsReached, IsTrueYes, said_of, StandsAfter}
+use Rattle.cert_checker.specs.Kept.{IsSettled, state_in}
 use Rattle.cert_checker.specs.Said.{IsSaidOf}
 use Rattle.cert_checker.specs.declared.checker.Said.{Said}
 use Rattle.cert_checker.specs.declared.checker.State.{State}
 use Rattle.cert_checker.specs.declared.checker.State.TheVariants as states
-use Rattle.cert_checker.specs.declared.due.Due.{Due as Held}
 use Rattle.cert_checker.specs.declared.due.Step.{Step}
 use Rattle.cert_checker.specs.declared.due.Step.TheVariants.{More, Whole, No}
 

@@ -1,5 +1,5 @@
 -- the lines of a leaf's numbers and the line `end`: what is kept behind them
-use Rattle.std.proofs.Common.{◌≡◌, ℕ, List, Bool, true, false, ap, subst, sym, refl, ◌∙◌, eqb, ◌&&◌}
+use Rattle.std.proofs.Common.{◌≡◌, List, Bool, true, false, ap, subst, sym, refl, ◌∙◌, eqb, ◌&&◌}
 use Rattle.std.specs.Prelude.{if◌then◌else◌}
 use Rattle.std.specs.Global.{Box}
 use Rattle.std.specs.Box.{with_value}
@@ -11,7 +11,7 @@ use Rattle.dossier_terms.specs.declared.Reason.{Reason}
 use Rattle.dossier_terms.specs.declared.Reason.TheVariants as reasons
 use Rattle.dossier_terms.specs.Dossier.{Written, Open, Closed, Leaf}
 use Rattle.dossier_terms.specs.Lines.{end_line}
-use Rattle.dossier_terms.specs.Reading.{Reading, Said, More as Goes, Whole as Ends, No as Refuses, Draft, Counts, Frame, Place, Ends as EndDue, leaf_done, limits_of, whole}
+use Rattle.dossier_terms.specs.Reading.{Reading, Said, More as Goes, Whole as Ends, No as Refuses, Counts, Frame, Place, leaf_done, whole}
 use Rattle.dossier_terms.specs.Rules.{Holds, Fails}
 use Rattle.dossier_terms.specs.Table.{Finish, IsCounted, Says, end_row}
 use Rattle.cert_format.specs.Lines.{IsEndLine}
@@ -25,11 +25,10 @@ use Rattle.leaf_check.specs.declared.reader.LeafReader.{LeafReader}
 use Rattle.leaf_check.specs.declared.reader.LeafStep.TheVariants as steps
 use Rattle.tree_walk.specs.Way.{IsAt, IsLeaf, counts_of, counts_of_tree}
 use Rattle.tree_walk.specs.declared.walk.TreeCounts.{TreeCounts}
-use Rattle.cert_checker.specs.Due.{HasLeafRoom, IsInLeaf, IsNode, IsStep, Tells, draft_of, place_of}
+use Rattle.cert_checker.specs.Due.{HasLeafRoom, IsInLeaf, IsNode, IsStep, draft_of, place_of}
 use Rattle.cert_checker.specs.declared.due.Draft.{Draft as Held}
 use Rattle.cert_checker.specs.declared.due.TreeDraft.{TreeDraft}
 use Rattle.cert_checker.specs.declared.due.Due.TheVariants.{End as EndLine}
-use Rattle.cert_checker.specs.declared.due.Step.{Step}
 use Rattle.cert_checker.specs.declared.due.Step.TheVariants.{More, Whole, No}
 use Rattle.cert_checker.proofs.NodeRows.{at_node, limits_at, moved, written_back}
 

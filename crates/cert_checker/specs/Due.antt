@@ -1,5 +1,5 @@
 -- what the checker keeps stands for what has been read of a dossier
-use Rattle.std.specs.Prelude.{◌≡◌, ◌<◌, ℕ, List, [], Bool, Option, IfSome, length}
+use Rattle.std.specs.Prelude.{◌≡◌, ◌<◌, List, [], Bool, Option, IfSome, length}
 use Rattle.std.specs.Global.{Box}
 use Rattle.crew_terms.specs.Words.{Words}
 use Rattle.crew_terms.specs.Instance.{Instance}

@@ -1,12 +1,12 @@
 -- the rules of a row of the table behind the words of its line
-use Rattle.std.specs.Prelude.{◌≡◌, ◌≤◌, ◌<◌, ◌+◌, ◌++◌, ℕ, Bool, true, false, List, [], ◌∷◌, Option, None, Some, if◌then◌else◌}
+use Rattle.std.specs.Prelude.{◌≡◌, ◌≤◌, ◌<◌, ◌+◌, ℕ, Bool, List, [], ◌∷◌, Option, None, Some, if◌then◌else◌}
 use Rattle.crew_terms.specs.Plan.{unassigned_count}
-use Rattle.crew_terms.specs.Limits.{Limits, root_limits, window_of, pair_of}
+use Rattle.crew_terms.specs.Limits.{root_limits, window_of, pair_of}
 use Rattle.crew_terms.specs.declared.Pair.TheVariants.{Free}
 use Rattle.dossier_terms.specs.declared.Reason.{Reason}
 use Rattle.dossier_terms.specs.declared.Reason.TheVariants.{Count, Cut, Pair as BadPair, Bound, Budget, Pool}
 use Rattle.dossier_terms.specs.Dossier.{Bare, closed, left_open}
-use Rattle.dossier_terms.specs.Reading.{Reading, Said, No as Refuses, Draft, Counts, Frame, Lower, Without, Nodes, Prices, limits_below, node_done, sum_in, routes_due}
+use Rattle.dossier_terms.specs.Reading.{Said, No as Refuses, Draft, Counts, Frame, Lower, Without, Nodes, Prices, limits_below, node_done, sum_in, routes_due}
 use Rattle.dossier_terms.specs.Rules.{Must, Goes}
 use Rattle.dossier_terms.specs.Table.{HasRoom}
 use Rattle.route_pool.specs.declared.pool.PoolVerdict.{PoolVerdict}
@@ -14,7 +14,7 @@ use Rattle.route_pool.specs.declared.pool.PoolVerdict.TheVariants.{Added, NotRou
 use Rattle.cert_checker.specs.Due.{Awaits, draft_of}
 use Rattle.cert_checker.specs.declared.due.Draft.{Draft as Held}
 use Rattle.cert_checker.specs.declared.due.Step.{Step}
-use Rattle.cert_checker.specs.declared.due.Step.TheVariants.{More, Whole, No}
+use Rattle.cert_checker.specs.declared.due.Step.TheVariants.{More, No}
 
 -- the step behind a route, of which the pool says this
 abbrev pub TellsRoute : Held → ℕ → PoolVerdict → Step → Type 0

@@ -62,6 +62,8 @@ fn is_in(words: &LineWords<'_>, n: usize, field: &Field) -> bool
 }
 
 /// Whether the words from a place on are the decimals of numbers in a field's range.
+// Most of an input is such numbers, so its loop is kept out of the readers of all kinds of lines.
+#[inline(never)]
 fn are_in(words: &LineWords<'_>, from: usize, field: &Field) -> bool
     requires { from ≤ length words.now }
     ensures { MatchBool result ((ns : List ℤ) × SpellIn field.now ns (drop from words.now)) ((ns : List ℤ) → SpellIn field.now ns (drop from words.now) → ⊥) }

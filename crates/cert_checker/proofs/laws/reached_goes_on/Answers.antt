@@ -1,4 +1,4 @@
-use Rattle.std.proofs.Common.{List, [], ◌∷◌, ◌++◌}
+use Rattle.std.proofs.Common.{[], ◌∷◌, ◌++◌}
 use Rattle.dossier_terms.specs.Reading.{Form}
 use Rattle.cert_checker.proofs.laws.reached_goes_on.Goals as goal
 

@@ -1,4 +1,4 @@
-use Rattle.std.proofs.Common.{◌≡◌, ◌∙◌, ap, subst, sym, true, false}
+use Rattle.std.proofs.Common.{◌≡◌, ◌∙◌, ap, subst, true, false}
 use Rattle.std.specs.Box.{with_value}
 use Rattle.tree_walk.specs.Way.{LeavesLeaf}
 use Rattle.cert_checker.specs.Due.{draft_of}
