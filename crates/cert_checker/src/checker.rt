@@ -128,6 +128,7 @@ fn state_after(step: Step, number: u64) -> State
 }
 
 /// Puts another state in the place of one, which is let go.
+#[inline(always)]
 fn put(state: &mut State, next: State)
     ensures { state.new ≡ next }
 {
@@ -168,6 +169,7 @@ impl Checker {
     }
 
     /// Judges the line that is due, which was taken out of the state.
+    #[inline(always)]
     fn judge_line(&mut self, due: Due, line: &[u8]) -> Result<Said, AllocError>
         requires taken { self.old.at ≡ State.Spent }
         requires kept { IsKeptFrom due }

@@ -38,6 +38,7 @@ fn head_line(alloc: Global, due: HeadDue, words: LineWords<'_>) -> Result<Step, 
 }
 
 /// Judges the line that is due. Its only error is want of memory.
+#[inline(always)]
 pub fn judge(alloc: Global, due: Due, words: LineWords<'_>) -> Result<Step, AllocError>
     requires { IsAwaited due }
     ensures { IfOk result (IsStep due words.entry) }

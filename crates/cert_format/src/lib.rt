@@ -26,6 +26,8 @@ pub use numbers::Rest;
 
 /// Reads a line of the expected kind from its words; it takes no memory. The fault is the first that the
 /// line has: of its shape, then of its name, then of its numbers.
+// A caller expects one kind; inlined, the others fall away.
+#[inline(always)]
 pub fn read_line<'a>(expect: Expect, words: LineWords<'a>) -> Result<LineKind<'a>, LineFault>
     ensures { ReadsLine expect words.entry result }
 {
