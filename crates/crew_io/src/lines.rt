@@ -13,10 +13,10 @@ use memchr::memchr;
 use std::alloc::{AllocError, Global};
 use std::marker::Model;
 
-/// The longest line, without its LF.
+/// How many bytes the longest line has, without its LF.
 const LONGEST_LINE: usize = 131_072;
 
-/// Room for two of the longest lines, so that what is held is seldom moved.
+/// How many bytes are held at most: two of the longest lines, so that what is held is seldom moved.
 const ROOM: usize = 262_144;
 
 /// What a reader answers. After any answer but `Line` it gives that answer again.
