@@ -1,5 +1,5 @@
 // The line of a day's refusal.
-ghost use Rattle.std.specs.Prelude.{◌≡◌, ◌≤◌, [], ◌∷◌, codes, OnOk, OnErr, IsErr};
+ghost use Rattle.std.specs.Prelude.{◌≤◌, [], ◌∷◌, codes, OnOk, OnErr, IsErr};
 ghost use Rattle.std.specs.Fmt.{decimal};
 ghost use Rattle.crew_io.specs.Io.{Rose, Appended, AppendedPart};
 ghost use Rattle.crew_terms.specs.Words.{line_text};

@@ -1,5 +1,5 @@
 // The lines of a source.
-ghost use Rattle.std.specs.Prelude.{◌≡◌, ◌≤◌, ◌<◌, ◌+◌, ◌-◌, ◌↔◌, ◌≢◌, ⊤, [], List, ℕ, Option, Some, None, Ok, length, slice_range, IfOk, OnErr, IsOk, IsErr, IsSome, IsTrue};
+ghost use Rattle.std.specs.Prelude.{◌≡◌, ◌≤◌, ◌<◌, ◌+◌, ◌-◌, ◌↔◌, ◌≢◌, ⊤, [], Option, Some, None, Ok, length, slice_range, IfOk, OnErr, IsOk, IsErr, IsSome, IsTrue};
 ghost use Rattle.std.specs.Borrow.{sem, follows_so};
 ghost use mathlib.Core.Option.{none};
 ghost use Rattle.crew_terms.specs.Words.{LONGEST};
