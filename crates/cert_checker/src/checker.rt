@@ -48,9 +48,9 @@ pub enum Said {
 pub enum Stop {
     /// The input has ended, after this many bytes without an LF.
     End { partial: usize },
-    /// The next line is longer than a line may be.
+    /// The next line is longer than the 131,072 bytes that a line may have.
     TooLong,
-    /// The input is longer than it may be.
+    /// The input is longer than the 2^62 bytes that it may have.
     TooMuch,
 }
 

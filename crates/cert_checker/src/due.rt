@@ -54,6 +54,7 @@ pub enum Due {
     Job {
         draft: Box<Draft>,
         more: u32,
+        /// The least task that the line may be of: the one after that of the line before.
         from: u32,
     },
     Tree {

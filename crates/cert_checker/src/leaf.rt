@@ -1,5 +1,4 @@
 // The lines of a leaf's numbers, and the line `end`.
-ghost use Rattle.std.specs.Prelude.{List};
 ghost use Rattle.cert_checker.specs.Due.{IsAwaited, IsStep};
 
 use crate::due::{Draft, Due, Ended, Step, TreeDraft};

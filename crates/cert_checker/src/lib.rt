@@ -1,4 +1,4 @@
-// The checker: the lines of dossiers in, one after another, and what it says of each out.
+// The checker: it is given the lines of dossiers, one after another, and says of each what the table of lines says.
 #![tactic(auto)]
 
 pub mod checker;

@@ -1,5 +1,5 @@
 // The lines of nodes: `window`, `pair` and `leaf`.
-ghost use Rattle.std.specs.Prelude.{◌≡◌, ◌≤◌, ◌<◌, ◌↔◌, List, length, IfOk, IsTrue};
+ghost use Rattle.std.specs.Prelude.{◌<◌, ◌↔◌, List, length, IfOk, IsTrue};
 ghost use Rattle.crew_terms.specs.Limits.{tasks_in, teams_in};
 ghost use Rattle.dossier_terms.specs.Dossier.{Written};
 ghost use Rattle.dossier_terms.specs.Reading.{Frame, Place, Prices, node_done};

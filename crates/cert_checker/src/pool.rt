@@ -1,9 +1,7 @@
 // The lines of a pool: `pool`, and each `route`.
-ghost use Rattle.std.specs.Prelude.{◌≡◌, ◌<◌, ◌^◌, ℕ, pos, IfOk};
+ghost use Rattle.std.specs.Prelude.{◌≡◌, ◌<◌, ℕ, pos, IfOk};
 ghost use Rattle.dossier_terms.specs.Reading.{routes_due};
 ghost use Rattle.dossier_terms.specs.Table.{draft};
-ghost use Rattle.dossier_terms.specs.Dossier.{Route as TeamRoute};
-ghost use Rattle.route_pool.specs.Verdict.{IsVerdict, pool_after};
 ghost use Rattle.cert_checker.specs.Due.{Awaits, IsAwaited, IsBegun, IsStep, draft_of};
 ghost use Rattle.cert_checker.specs.Rules.{TellsRoute};
 

@@ -1,6 +1,5 @@
 // A small dossier line by line, with a pool, a split and closed leaves, and the ways in which lines end.
 use crate::{Checker, Reason, Said, Stop, Verdict};
-use std::alloc::Global;
 use std::test::Fail;
 
 /// A good dossier: two teams do one task in two windows, split between them; its two leaves are closed.

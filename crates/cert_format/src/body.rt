@@ -7,6 +7,7 @@ use crate::ranges::MINUTE;
 use crate::shape::{has_pairs, has_shape, has_shape_from};
 use field_table::{LineWords, fields};
 
+/// Reads the line `pool`: how many routes are kept, and how many there are.
 pub(crate) fn read_pool<'a>(words: LineWords<'a>) -> Result<LineKind<'a>, LineFault>
     ensures { ReadsLine Expect.Pool words.entry result }
 {
@@ -20,6 +21,7 @@ pub(crate) fn read_pool<'a>(words: LineWords<'a>) -> Result<LineKind<'a>, LineFa
     Ok(LineKind::Pool { kept, columns })
 }
 
+/// Reads a line `route` of an instance with so many teams and tasks.
 pub(crate) fn read_route<'a>(
     words: LineWords<'a>,
     teams: u32,
@@ -39,6 +41,7 @@ pub(crate) fn read_route<'a>(
     })
 }
 
+/// Reads the line `plan` of an instance with so many tasks: how many are unassigned, and the bound.
 pub(crate) fn read_plan<'a>(words: LineWords<'a>, tasks: u32) -> Result<LineKind<'a>, LineFault>
     ensures { ReadsLine (Expect.Plan tasks) words.entry result }
 {
@@ -53,6 +56,7 @@ pub(crate) fn read_plan<'a>(words: LineWords<'a>, tasks: u32) -> Result<LineKind
     })
 }
 
+/// Reads a line `do` of an instance with so many teams and tasks.
 pub(crate) fn read_job<'a>(
     words: LineWords<'a>,
     teams: u32,
@@ -73,6 +77,7 @@ pub(crate) fn read_job<'a>(
     })
 }
 
+/// Reads the line `tree`: its splits, closed leaves, other leaves and greatest depth.
 pub(crate) fn read_tree<'a>(words: LineWords<'a>) -> Result<LineKind<'a>, LineFault>
     ensures { ReadsLine Expect.Tree words.entry result }
 {
@@ -91,6 +96,7 @@ pub(crate) fn read_tree<'a>(words: LineWords<'a>) -> Result<LineKind<'a>, LineFa
     })
 }
 
+/// Reads the line `end`.
 pub(crate) fn read_end<'a>(words: LineWords<'a>) -> Result<LineKind<'a>, LineFault>
     ensures { ReadsLine Expect.End words.entry result }
 {

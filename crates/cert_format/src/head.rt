@@ -7,6 +7,7 @@ use crate::ranges::{MINUTE, NAME, name_of, named};
 use crate::shape::{has_shape, has_shape_from, is_word};
 use field_table::{LineWords, fields};
 
+/// Reads the line `crew dossier 1`.
 pub(crate) fn read_form<'a>(words: LineWords<'a>) -> Result<LineKind<'a>, LineFault>
     ensures { ReadsLine Expect.Form words.entry result }
 {
@@ -19,6 +20,7 @@ pub(crate) fn read_form<'a>(words: LineWords<'a>) -> Result<LineKind<'a>, LineFa
     Ok(LineKind::Form)
 }
 
+/// Reads the line `size`: how many teams, tasks and places there are, and the node budget.
 pub(crate) fn read_size<'a>(words: LineWords<'a>) -> Result<LineKind<'a>, LineFault>
     ensures { ReadsLine Expect.Size words.entry result }
 {
@@ -37,6 +39,7 @@ pub(crate) fn read_size<'a>(words: LineWords<'a>) -> Result<LineKind<'a>, LineFa
     })
 }
 
+/// Reads a line `place`: a name.
 pub(crate) fn read_place<'a>(words: LineWords<'a>) -> Result<LineKind<'a>, LineFault>
     ensures { ReadsLine Expect.Place words.entry result }
 {
@@ -48,6 +51,7 @@ pub(crate) fn read_place<'a>(words: LineWords<'a>) -> Result<LineKind<'a>, LineF
     Ok(LineKind::Place { name })
 }
 
+/// Reads a line `travel` of an instance with so many places: the minutes to each of them.
 pub(crate) fn read_travel<'a>(words: LineWords<'a>, places: u32) -> Result<LineKind<'a>, LineFault>
     ensures { ReadsLine (Expect.Travel places) words.entry result }
 {
@@ -58,6 +62,7 @@ pub(crate) fn read_travel<'a>(words: LineWords<'a>, places: u32) -> Result<LineK
     Ok(LineKind::Travel { times })
 }
 
+/// Reads a line `team` of an instance with so many places.
 pub(crate) fn read_team<'a>(words: LineWords<'a>, places: u32) -> Result<LineKind<'a>, LineFault>
     ensures { ReadsLine (Expect.Team places) words.entry result }
 {
@@ -80,6 +85,7 @@ pub(crate) fn read_team<'a>(words: LineWords<'a>, places: u32) -> Result<LineKin
     })
 }
 
+/// Reads a line `task` of an instance with so many places.
 pub(crate) fn read_task<'a>(words: LineWords<'a>, places: u32) -> Result<LineKind<'a>, LineFault>
     ensures { ReadsLine (Expect.Task places) words.entry result }
 {

@@ -64,6 +64,7 @@ pub enum LineKind<'a> {
         teams: u32,
         skills: Rest<'a>,
     },
+    /// How many routes come from the round before, and how many routes there are.
     Pool {
         kept: i64,
         columns: i64,
@@ -77,6 +78,7 @@ pub enum LineKind<'a> {
         unassigned: u32,
         bound: u32,
     },
+    /// A line `do`: the teams begin the task at the minute `start`.
     Job {
         task: u32,
         start: u32,
@@ -88,10 +90,12 @@ pub enum LineKind<'a> {
         left_open: u32,
         depth: u32,
     },
+    /// A split of a task's window after the minute `cut`.
     Window {
         task: u32,
         cut: u32,
     },
+    /// A split by whether the team does the task.
     Pair {
         team: u32,
         task: u32,

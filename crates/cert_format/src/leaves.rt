@@ -7,6 +7,7 @@ use crate::ranges::{POTENTIAL, PRICE};
 use crate::shape::{has_row, has_shape};
 use field_table::{LineWords, fields};
 
+/// Reads the line `price`: a price of each of so many tasks, in 1/840,000,000 of a task.
 pub(crate) fn read_price<'a>(words: LineWords<'a>, tasks: u32) -> Result<LineKind<'a>, LineFault>
     ensures { ReadsLine (Expect.Price tasks) words.entry result }
 {
@@ -17,6 +18,7 @@ pub(crate) fn read_price<'a>(words: LineWords<'a>, tasks: u32) -> Result<LineKin
     Ok(LineKind::Price { prices })
 }
 
+/// Reads the line `extra` of this task, with so many prices of its required pairs.
 pub(crate) fn read_extra<'a>(
     words: LineWords<'a>,
     task: u32,
@@ -31,6 +33,7 @@ pub(crate) fn read_extra<'a>(
     Ok(LineKind::Extra { task, prices })
 }
 
+/// Reads a line `worth`.
 pub(crate) fn read_worth<'a>(words: LineWords<'a>) -> Result<LineKind<'a>, LineFault>
     ensures { ReadsLine Expect.Worth words.entry result }
 {
@@ -41,6 +44,7 @@ pub(crate) fn read_worth<'a>(words: LineWords<'a>) -> Result<LineKind<'a>, LineF
     Ok(LineKind::Worth { sigma })
 }
 
+/// Reads the line `phi` of this task, with so many potentials, one for each permitted minute.
 pub(crate) fn read_phi<'a>(
     words: LineWords<'a>,
     task: u32,

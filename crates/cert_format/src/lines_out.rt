@@ -1,4 +1,4 @@
-// Lines out.
+// A line of words, written to a sink.
 ghost use Rattle.std.specs.Prelude.{◌≡◌, ◌≤◌, ◌++◌, [], map, OnOk, OnErr, IsErr};
 ghost use Rattle.crew_io.specs.Io.{Rose, Appended, AppendedPart};
 ghost use Rattle.crew_terms.specs.Words.{line_text};
@@ -15,10 +15,12 @@ type ShortLine = ArrayVec<u8, 128>;
 #[derive(Clone, Copy)]
 struct Longer;
 
-/// A word of a line that is written: its bytes, or the number whose decimal it is.
+/// A word of a line that is written.
 #[derive(Clone, Copy, Debug)]
 pub enum Part<'a> {
+    /// The word is these bytes.
     Word(&'a [u8]),
+    /// The word is the decimal of this number.
     Number(u64),
 }
 

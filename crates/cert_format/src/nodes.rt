@@ -69,6 +69,7 @@ fn read_leaf<'a>(words: LineWords<'a>) -> Result<LineKind<'a>, LineFault>
     }
 }
 
+/// Reads a line of a node, `window`, `pair` or `leaf`, of an instance with so many teams and tasks.
 pub(crate) fn read_node<'a>(
     words: LineWords<'a>,
     teams: u32,

@@ -1,4 +1,4 @@
-// The top call: the words of the command line, a source and a sink in, a status out.
+// The top call, `run`: it takes the words of the command line, a source and a sink, and answers a status.
 #![tactic(auto)]
 
 pub mod apply;

@@ -1,5 +1,5 @@
 // The line of a day's refusal.
-ghost use Rattle.std.specs.Prelude.{◌≡◌, ◌≤◌, [], ◌∷◌, codes, OnOk, OnErr, IsErr};
+ghost use Rattle.std.specs.Prelude.{◌≤◌, [], ◌∷◌, codes, OnOk, OnErr, IsErr};
 ghost use Rattle.std.specs.Fmt.{decimal};
 ghost use Rattle.crew_io.specs.Io.{Rose, Appended, AppendedPart};
 ghost use Rattle.crew_terms.specs.Words.{line_text};
@@ -22,6 +22,7 @@ pub enum DayFault {
     Change(ChangeFault),
 }
 
+/// Writes the line of a record with another number of fields than its kind has, or with a bad field.
 fn put_field<K: Sink>(out: &mut K, number: u64, fault: FieldFault) -> Result<(), WriteFault>
     ensures all { OnOk result (Appended (K.got out.old) (K.got out.new) (refused_line number (DayFault.InItself (DayCause.Field fault)))) }
     ensures part { OnErr result (AppendedPart (K.got out.old) (K.got out.new) (refused_line number (DayFault.InItself (DayCause.Field fault)))) }
@@ -57,6 +58,7 @@ fn put_word<K: Sink>(out: &mut K, number: u64, cause: &[u8]) -> Result<(), Write
     )
 }
 
+/// Writes the line of a record that the state refuses.
 fn put_change<K: Sink>(out: &mut K, number: u64, fault: ChangeFault) -> Result<(), WriteFault>
     ensures all { OnOk result (Appended (K.got out.old) (K.got out.new) (refused_line number (DayFault.Change fault))) }
     ensures part { OnErr result (AppendedPart (K.got out.old) (K.got out.new) (refused_line number (DayFault.Change fault))) }

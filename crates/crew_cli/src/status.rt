@@ -1,4 +1,4 @@
-// How a call ended.
+// The statuses of the top call.
 ghost use Rattle.std.specs.Prelude.{◌≡◌};
 ghost use Rattle.crew_cli.specs.Status.{number_of};
 

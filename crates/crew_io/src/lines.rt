@@ -1,5 +1,5 @@
 // The lines of a source.
-ghost use Rattle.std.specs.Prelude.{◌≡◌, ◌≤◌, ◌<◌, ◌+◌, ◌-◌, ◌↔◌, ◌≢◌, ⊤, [], List, ℕ, Option, Some, None, Ok, length, slice_range, IfOk, OnErr, IsOk, IsErr, IsSome, IsTrue};
+ghost use Rattle.std.specs.Prelude.{◌≡◌, ◌≤◌, ◌<◌, ◌+◌, ◌-◌, ◌↔◌, ◌≢◌, ⊤, [], Option, Some, None, Ok, length, slice_range, IfOk, OnErr, IsOk, IsErr, IsSome, IsTrue};
 ghost use Rattle.std.specs.Borrow.{sem, follows_so};
 ghost use mathlib.Core.Option.{none};
 ghost use Rattle.crew_terms.specs.Words.{LONGEST};
@@ -13,10 +13,10 @@ use memchr::memchr;
 use std::alloc::{AllocError, Global};
 use std::marker::Model;
 
-/// The longest line, without its LF.
+/// How many bytes the longest line has, without its LF.
 const LONGEST_LINE: usize = 131_072;
 
-/// Room for two of the longest lines, so that what is held is seldom moved.
+/// How many bytes are held at most: two of the longest lines, so that what is held is seldom moved.
 const ROOM: usize = 262_144;
 
 /// What a reader answers. After any answer but `Line` it gives that answer again.

@@ -181,7 +181,7 @@ impl Sink for MemSink {
 pub struct SteadySink;
 
 impl SteadySink {
-    /// Such a sink.
+    /// A sink of this kind; each is like every other.
     pub fn new() -> SteadySink
         ensures got { ⟦<SteadySink as Sink>⟧.got result ≡ None }
         ensures faults { ⟦<SteadySink as Sink>⟧.faults result ≡ 0 }

@@ -69,7 +69,7 @@ impl Model for MemSource {
 }
 
 impl MemSource {
-    /// A source of these bytes, with no calls so far.
+    /// A source of these bytes, with no calls so far. It gives at most `piece` of them in a read.
     pub fn new(bytes: Vec<u8>, piece: usize, fails: Vec<u64>) -> MemSource
         requires { 1 ≤ piece }
         ensures value { result ≡ record { left = bytes.items; piece = piece; fails = fails.items; calls = 0; faults = 0 } }
@@ -138,7 +138,7 @@ impl Model for SteadySource {
 }
 
 impl SteadySource {
-    /// A source of these bytes.
+    /// A source of these bytes, which gives at most `piece` of them in a read.
     pub fn new(bytes: Vec<u8>, piece: usize) -> SteadySource
         requires { 1 ≤ piece }
         ensures value { result ≡ record { left = bytes.items; piece = piece } }

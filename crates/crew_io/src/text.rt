@@ -1,5 +1,5 @@
 // All the bytes of a source, up to a limit.
-ghost use Rattle.std.specs.Prelude.{◌≡◌, ◌≢◌, ◌≤◌, ◌<◌, ◌+◌, [], Ok, length, take, vec_len, IfOk, OnOk, OnErr, IsOk, IsErr};
+ghost use Rattle.std.specs.Prelude.{◌≡◌, ◌≢◌, ◌≤◌, ◌<◌, ◌+◌, Ok, length, take, vec_len, IfOk, OnOk, OnErr, IsOk, IsErr};
 ghost use Rattle.crew_io.specs.Io.{Rose, HasEnded};
 ghost use Rattle.crew_io.specs.Lines.{with_left};
 ghost use Rattle.crew_io.specs.Text.{HasAtMost, TookAtMost, ReadsText};

@@ -1,5 +1,5 @@
 // The fifteen kinds of records: their rows of fields, and the entries that they stand for.
-ghost use Rattle.std.specs.Prelude.{◌≡◌, ◌≤◌, ◌<◌, ◌+◌, length};
+ghost use Rattle.std.specs.Prelude.{◌≡◌, ◌<◌, ◌+◌, length};
 ghost use Rattle.crew_terms.specs.Name.{IsName};
 ghost use Rattle.day_terms.specs.Records.{field_of};
 ghost use Rattle.day_terms.specs.Forms.{place_form, travel_form, route_time_form, default_travel_form, team_form, task_form, cancel_form, move_form, longer_form, needs_form, sick_form, shift_form, skill_form, unskill_form, plan_form};

@@ -1,5 +1,5 @@
 // Which entries are refused.
-ghost use Rattle.std.specs.Prelude.{◌≡◌, ℕ, nat_le};
+ghost use Rattle.std.specs.Prelude.{◌≡◌, ℕ};
 ghost use Rattle.day_terms.specs.Refusal.{refusal_of, is_bad_count, is_bad_window};
 ghost use Rattle.day_terms.specs.State.{has_place, has_task, has_team};
 ghost use Rattle.flight_changes.specs.Faults.{answer_of};

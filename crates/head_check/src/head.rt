@@ -1,8 +1,6 @@
 // The lines of an instance: `size`, `place`, `travel`, `team` and `task`.
-ghost use Rattle.std.specs.Prelude.{◌≡◌, ◌<◌, ◌≤◌, ◌+◌, ◌-◌, ℕ, List, pos, suc, map, length, All, IfOk, OnOk, IsTrue};
-ghost use Rattle.crew_terms.specs.Name.{IsName};
-ghost use Rattle.crew_terms.specs.Words.{Words};
-ghost use Rattle.dossier_terms.specs.Table.{IsTravel, IsTeamLine, IsTaskLine};
+ghost use Rattle.std.specs.Prelude.{◌≡◌, ◌<◌, ◌≤◌, ◌+◌, ◌-◌, ℕ, List, pos, map, length, IfOk, OnOk, IsTrue};
+ghost use Rattle.dossier_terms.specs.Table.{IsTravel};
 ghost use Rattle.crew_instance.specs.Draft.{with_row};
 ghost use Rattle.head_check.specs.Numbers.{AreBelow, naturals};
 ghost use Rattle.head_check.specs.Rows.{after_place, after_travel, after_team, after_task, IsTaskRange};

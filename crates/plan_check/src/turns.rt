@@ -12,7 +12,7 @@ use arrayvec::ArrayVec;
 use crew_instance::Instance;
 use crew_terms::PlanVerdict;
 
-// A task that a team begins, at a minute of the day.
+/// A task that a team begins, at a minute of the day.
 #[derive(Clone, Copy, Default)]
 pub(crate) struct Turn {
     pub(crate) start: u32,
@@ -51,7 +51,7 @@ fn turn_at(plan: &Plan, k: u32, task: u32) -> Option<Turn>
     }
 }
 
-// The tasks of team `k`, in order.
+/// The tasks of team `k`, by start and then by number.
 pub(crate) fn turns_of(plan: &Plan, k: u32) -> ArrayVec<Turn, 400>
     ensures { AreTurns plan.now k (length plan.now) result.items }
 {

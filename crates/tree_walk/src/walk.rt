@@ -1,6 +1,5 @@
 // The way from the root of a tree to the node that is due.
 ghost use Rattle.std.specs.Prelude.{◌≡◌, ◌≤◌, ◌<◌, ◌+◌, ◌^◌, [], ◌∷◌, drop, length, OnErr, OnOk};
-ghost use Rattle.crew_terms.specs.Limits.{Limits as Bounds};
 ghost use Rattle.dossier_terms.specs.Reading.{Lower, Without};
 ghost use Rattle.node_limits.specs.Trail.{Trail};
 ghost use Rattle.tree_walk.specs.Splits.{IsCut, IsFreePair, IsSplitOf};
