@@ -12,7 +12,7 @@ use Rattle.dossier_terms.specs.Dossier.{Written, Bare, closed, left_open}
 use Rattle.dossier_terms.specs.Lines.{window_line, pair_line, bare_line, open_line, closed_line}
 use Rattle.dossier_terms.specs.Reading.{Reading, Said, More as Goes, No as Refuses, Draft, Counts, Frame, Lower, Upper, Without, With, Nodes, Ends, Prices, limits_below, node_done, sum_in}
 use Rattle.dossier_terms.specs.Rules.{Holds, Fails, Spelled, Then, Else, On, Begins}
-use Rattle.dossier_terms.specs.Table.{IsCounts, HasRoom, Says, node_row}
+use Rattle.dossier_terms.specs.Table.{IsCounts, HasRoom, Says, node_row, after_bare, after_leaf, after_pair, after_window}
 use Rattle.node_limits.specs.Trail.{Trail}
 use Rattle.node_limits.specs.Rest.{Rest, IsRestOver, trail_over}
 use Rattle.tree_walk.specs.Splits.{IsCut, IsFreePair}
@@ -24,7 +24,6 @@ use Rattle.cert_format.specs.declared.kinds.Expect.TheVariants as expected
 use Rattle.cert_format.specs.declared.kinds.LineFault.{LineFault}
 use Rattle.leaf_check.specs.declared.reader.LeafReader.{LeafReader}
 use Rattle.cert_checker.specs.Due.{Awaits, HasLeafRoom, HasSplitRoom, IsNode, IsReaderFor, IsStep, Tells, draft_of}
-use Rattle.cert_checker.specs.Rules.{after_bare, after_leaf, after_pair, after_window}
 use Rattle.cert_checker.specs.declared.due.Draft.{Draft as Held}
 use Rattle.cert_checker.specs.declared.due.TreeDraft.{TreeDraft}
 use Rattle.cert_checker.specs.declared.due.Due.TheVariants.{Node as NodeDue, End as EndDue}

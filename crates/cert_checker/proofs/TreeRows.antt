@@ -8,20 +8,20 @@ use Rattle.dossier_terms.specs.declared.Reason.{Reason}
 use Rattle.dossier_terms.specs.Lines.{tree_line}
 use Rattle.dossier_terms.specs.Reading.{Said, More as Goes, No as Refuses, Draft, Counts, Nodes}
 use Rattle.dossier_terms.specs.Rules.{Holds, Spelled, On}
-use Rattle.dossier_terms.specs.Table.{IsCounts, tree_row}
+use Rattle.dossier_terms.specs.Table.{IsCounts, tree_row, after_counts}
 use Rattle.node_limits.specs.Rest.{Rest, limits_over, trail_over}
 use Rattle.node_limits.specs.Trail.{Trail}
 use Rattle.tree_walk.specs.Way.{Walked, IsAt, counts_of}
 use Rattle.tree_walk.specs.declared.walk.TreeCounts.{TreeCounts}
 use Rattle.cert_checker.specs.Due.{IsNode, IsRoot, Tells, draft_of}
-use Rattle.cert_checker.specs.Rules.{IsTreeFault, tree_rules}
+use Rattle.cert_checker.specs.Rules.{IsTreeFault}
 use Rattle.cert_checker.specs.declared.due.Draft.{Draft as Held}
 use Rattle.cert_checker.specs.declared.due.TreeDraft.{TreeDraft}
 use Rattle.cert_checker.specs.declared.due.Due.TheVariants.{Node}
 use Rattle.cert_checker.specs.declared.due.Step.TheVariants.{More, No}
 
 tree_says : (b : Draft) (c : Counts) (ws : Words) (said : Said) → IsCounts c → ws ≡ tree_line c.splits c.closed c.left_open c.depth
-    → tree_rules b c said → tree_row b ws said
+    → after_counts b c said → tree_row b ws said
 tree_says b c ws said fits is rest = Holds (_, is, refl) (Spelled c fits is rest)
 
 pub tree_faulty : (b : Box Held) (claimed : TreeCounts) (ws : Words) (reason : Reason) → IsCounts (counts_of claimed)

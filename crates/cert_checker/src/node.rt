@@ -7,7 +7,7 @@ ghost use Rattle.leaf_check.specs.Reader.{IsReady, StandsFor};
 ghost use Rattle.tree_walk.specs.Splits.{IsFreePair};
 ghost use Rattle.tree_walk.specs.Way.{IsLeaf, counts_of};
 ghost use Rattle.cert_checker.specs.Due.{Awaits, HasLeafRoom, HasSplitRoom, IsAwaited, IsInTree, IsNode, IsReaderFor, IsStep, Tells, draft_of};
-ghost use Rattle.cert_checker.specs.Rules.{after_bare, after_leaf, after_pair, after_window};
+ghost use Rattle.dossier_terms.specs.Table.{after_bare, after_leaf, after_pair, after_window};
 
 use crate::due::{Due, Step, TreeDraft};
 use cert_format::{Expect, LineKind, fault_is_refused, read_line};

@@ -21,10 +21,9 @@ use Rattle.dossier_terms.specs.Dossier.{mask_of}
 use Rattle.dossier_terms.specs.Lines.{size_line, place_line, travel_line, team_words, task_words}
 use Rattle.dossier_terms.specs.Reading.{Said, More as Goes, nothing, places_due, teams_due, tasks_due}
 use Rattle.dossier_terms.specs.Rules.{Must, Holds, Fails, Spelled, Goes as GoesTo, On, IsShape}
-use Rattle.dossier_terms.specs.Table.{IsSize, IsTravel, IsTeamLine, IsTaskLine, IsNewTeam, IsNewTask, size_row, place_row, travel_row, team_row, task_row}
+use Rattle.dossier_terms.specs.Table.{IsSize, IsTravel, IsTeamLine, IsTaskLine, IsNewTeam, IsNewTask, size_row, place_row, travel_row, team_row, task_row, after_place, after_travel, after_team, after_task}
 use Rattle.head_check.specs.Head.{parts_of}
 use Rattle.head_check.proofs.GivenRow.{time_in_row, time_elsewhere}
-use Rattle.head_check.specs.Rows.{after_place, after_travel, after_team, after_task}
 
 -- ---- rows of travel times
 

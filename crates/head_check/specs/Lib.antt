@@ -1,3 +1,3 @@
 pub mod Numbers
 pub mod Head
-pub mod Rows
+pub mod Ranges

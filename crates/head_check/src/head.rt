@@ -1,9 +1,9 @@
 // The lines of an instance: `size`, `place`, `travel`, `team` and `task`.
 ghost use Rattle.std.specs.Prelude.{◌≡◌, ◌<◌, ◌≤◌, ◌+◌, ◌-◌, ℕ, List, pos, map, length, IfOk, OnOk, IsTrue};
-ghost use Rattle.dossier_terms.specs.Table.{IsTravel};
+ghost use Rattle.dossier_terms.specs.Table.{IsTravel, after_place, after_travel, after_team, after_task};
 ghost use Rattle.crew_instance.specs.Draft.{with_row};
 ghost use Rattle.head_check.specs.Numbers.{AreBelow, naturals};
-ghost use Rattle.head_check.specs.Rows.{after_place, after_travel, after_team, after_task, IsTaskRange};
+ghost use Rattle.head_check.specs.Ranges.{IsTaskRange};
 ghost use Rattle.dossier_terms.specs.Reading.{places_due, travels_due, teams_due, tasks_due};
 ghost use Rattle.head_check.specs.Head.{Holds, IsHead, IsStep, IsDue, Tells, parts_of, rows_read};
 

@@ -2,10 +2,9 @@ use Rattle.std.proofs.Common.{◌≡◌, ap, sym, subst, ◌∙◌, length, ◌<
 use Rattle.std.specs.Prelude.{false, true, List}
 use Rattle.cert_format.specs.Lines.{IsNodeLine}
 use Rattle.dossier_terms.specs.Reading.{Frame, Nodes, No as Refuses}
-use Rattle.dossier_terms.specs.Table.{node_row}
+use Rattle.dossier_terms.specs.Table.{node_row, after_bare, after_leaf, after_pair, after_window}
 use Rattle.tree_walk.specs.Way.{counts_of}
 use Rattle.cert_checker.specs.Due.{IsNode, IsStep, Tells, draft_of}
-use Rattle.cert_checker.specs.Rules.{after_bare, after_leaf, after_pair, after_window}
 use Rattle.cert_checker.specs.declared.due.Draft.{Draft}
 use Rattle.cert_checker.specs.declared.due.TreeDraft.{TreeDraft}
 use Rattle.cert_checker.specs.declared.due.Due.TheVariants.{Node as NodeDue}

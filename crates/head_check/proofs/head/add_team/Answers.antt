@@ -3,7 +3,7 @@ use Rattle.std.specs.Prelude.{IsTrue}
 use Rattle.head_check.specs.declared.due.Head.{Head}
 use Rattle.head_check.specs.declared.due.HeadStep.TheVariants.{More}
 use Rattle.head_check.specs.Head.{IsHead, Tells, parts_of}
-use Rattle.head_check.specs.Rows.{after_team}
+use Rattle.dossier_terms.specs.Table.{after_team}
 use Rattle.head_check.proofs.HeadSteps.{team_more}
 use Rattle.head_check.proofs.head.add_team.Goals as goal
 

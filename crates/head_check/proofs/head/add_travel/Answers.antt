@@ -4,11 +4,10 @@ use Rattle.std.proofs.lemmas.List.{length-map}
 use Rattle.crew_instance.specs.Draft.{with_row}
 use Rattle.dossier_terms.specs.Reading.{More as Goes, travels_due}
 use Rattle.dossier_terms.specs.Rules.{On}
-use Rattle.dossier_terms.specs.Table.{IsTravel}
+use Rattle.dossier_terms.specs.Table.{IsTravel, after_travel}
 use Rattle.head_check.specs.declared.due.Head.{Head}
 use Rattle.head_check.specs.declared.due.HeadStep.TheVariants.{More}
 use Rattle.head_check.specs.Numbers.{AreBelow, naturals}
-use Rattle.head_check.specs.Rows.{after_travel}
 use Rattle.head_check.specs.Head.{IsHead, Tells, parts_of, rows_read}
 use Rattle.head_check.proofs.Steps.{plainly}
 use Rattle.head_check.proofs.Listed.{naturals-pos}

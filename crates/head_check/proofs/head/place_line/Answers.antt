@@ -1,6 +1,6 @@
 use Rattle.std.proofs.Common.{sym, subst}
 use Rattle.cert_format.specs.Lines.{IsPlaceLine}
-use Rattle.head_check.specs.Rows.{after_place}
+use Rattle.dossier_terms.specs.Table.{after_place}
 use Rattle.head_check.specs.Head.{reading_of, IsStep, Tells, parts_of}
 use Rattle.head_check.specs.declared.due.HeadDue.TheVariants.{Place}
 use Rattle.head_check.specs.declared.due.HeadStep.TheVariants.{No}
