@@ -100,3 +100,8 @@ front_spelled bytes count n l digits value small some plain =
 pub no_digit_space : (word : List ℕ) → all_ascii_digits word ≡ true → All (λ b. b ≢ 32) word
 no_digit_space word h = All-from_get_or (λ b. b ≢ 32) word 0
     (λ i l e. both_ways (is_ascii_digit (get_or word i 0)) (ap is_ascii_digit e) (digit_at word i h l))
+
+-- bytes that begin with a digit have one before their first space
+pub some_digits : (bytes : List ℕ) (count : ℕ) → 0 < length bytes → is_ascii_digit (get_or bytes 0 0) ≡ true → (count < length bytes → get_or bytes count 0 ≡ 32) → 0 < count
+some_digits bytes zero some first ended = absurd (both_ways (is_ascii_digit (get_or bytes 0 0)) (ap is_ascii_digit (ended some)) first)
+some_digits bytes (suc i) some first ended = omega arith

@@ -1,10 +1,10 @@
 -- words with a sign
-use Rattle.std.proofs.Common.{◌≡◌, ◌≢◌, ◌<◌, ◌^◌, [], ◌∷◌, ℕ, suc, List, length, drop, get_or, ap, sym, ◌∙◌, arith, ℤ, pos, negsuc, Option, None, Some}
+use Rattle.std.proofs.Common.{◌≡◌, ◌≢◌, ◌<◌, ◌^◌, [], ◌∷◌, ℕ, suc, false, List, length, drop, get_or, ap, sym, ◌∙◌, arith, ℤ, pos, negsuc, Option, None, Some}
 use Rattle.std.specs.Prelude.{FitsSigned, MatchOption, IfSome}
 use Rattle.std.specs.Int.{w64}
 use Rattle.std.specs.Fmt.{decimal, signed_decimal}
 use Rattle.std.proofs.lemmas.Fmt.{decimal_nonempty, digits_decimal, signed_decimal_injective}
-use Rattle.field_table.proofs.Digits.{own, digit_at}
+use Rattle.field_table.proofs.Digits.{own, digit_at, not_digit}
 use Rattle.std.specs.Char.{is_ascii_digit}
 use Rattle.std.proofs.lemmas.Bool.{both_ways}
 
@@ -29,6 +29,15 @@ minus_spells bytes None some sign h = no
     no : (z : ℤ) → FitsSigned w64 z → bytes ≢ signed_decimal z
     no (pos n) f g = let s = f.sfits in no_minus n (omega arith) (ap (λ bs. get_or bs 0 0) (sym g) ∙ sign)
     no (negsuc n) f g = let s = f.sfits in h n (omega arith) (ap (drop 1) g)
+
+-- bytes that begin with no digit and no minus are no decimal
+pub spells_none : (bytes : List ℕ) → get_or bytes 0 0 ≢ 45 → is_ascii_digit (get_or bytes 0 0) ≡ false → (z : ℤ) → FitsSigned w64 z → bytes ≢ signed_decimal z
+spells_none bytes sign first (pos n) f h =
+    let s = f.sfits in
+    let a = decimal_nonempty n (omega arith) in
+    let b = ap length h in
+    not_digit bytes 0 n (omega arith) first (omega arith) h
+spells_none bytes sign first (negsuc n) f h = sign (ap (λ bs. get_or bs 0 0) h)
 
 -- the number that the bytes spell, if there is one, is the only one
 pub read_back : (bytes : List ℕ) (r : Option ℤ) → IfSome r (FitsSigned w64)

@@ -1,12 +1,11 @@
 // The words of a line.
-ghost use Rattle.std.specs.Prelude.{◌≡◌, ◌≢◌, ◌≤◌, ◌<◌, ◌+◌, ◌++◌, [], ◌∷◌, List, ℕ, ℤ, FitsSigned, Some, length, take, slice_get, slice_index, slice_index_or, vec_capacity, vec_len, All, IfSome, MatchOption};
+ghost use Rattle.std.specs.Prelude.{◌≡◌, ◌≢◌, ◌≤◌, ◌<◌, ◌+◌, ◌++◌, [], ◌∷◌, List, ℕ, ℤ, FitsSigned, Some, length, take, slice_get, slice_index, slice_index_or, vec_capacity, vec_len, All, MatchOption};
 ghost use Rattle.std.specs.Int.{w64};
 ghost use Rattle.std.specs.Fmt.{signed_decimal};
 ghost use Rattle.crew_terms.specs.Words.{words_of};
-ghost use Rattle.field_table.specs.Digits.{IsFrontNumber};
-ghost use Rattle.field_table.specs.Pieces.{piece_of, pieces_of, IsCutOf};
+ghost use Rattle.field_table.specs.Pieces.{piece_of, pieces_of, IsCutOf, IsNumberOf};
 
-use crate::numbers::{Digits, front_digits, read_number};
+use crate::numbers::{read_number, short_number};
 use std::alloc::{AllocError, Global};
 use std::marker::Model;
 
@@ -145,21 +144,37 @@ fn count_to_space(bytes: &[u8]) -> usize
     bytes.len()
 }
 
-/// The number of at most 18 digits at the front, and how many these are, where a space or the end follows its decimal.
-fn short_number(rest: &[u8]) -> Option<Digits>
-    ensures { IfSome result (λ front. IsFrontNumber rest.now front) }
+/// The number that a word spells, if any. One that begins with no digit and no `-` is not read.
+fn word_number(word: &[u8]) -> Option<i64>
+    ensures { IsNumberOf result word.now }
 {
-    let front = front_digits(rest);
-    if front.count == 0 || front.count > 1 && rest[0] == b'0' {
+    if word.is_empty() {
         return None;
     }
-    if front.count < rest.len() && rest[front.count] != b' ' {
-        return None;
+    if word[0] == b'-' || word[0].is_ascii_digit() {
+        return read_number(word);
     }
-    Some(front)
+    None
 }
 
-/// The word that begins at this place.
+/// The word that begins at this place, whatever it is.
+fn any_cut_at(line: &[u8], from: usize) -> Cut
+    requires from { from ≤ length line.now }
+    ensures from { result.from ≡ from }
+    ensures cut { IsCutOf line.now result }
+    ensures whole { All (λ b. b ≢ 32) (piece_of line.now result) }
+    ensures end { result.until < length line.now → slice_index line.now result.until ≡ 32 }
+{
+    let rest = &line[from..];
+    let word = &rest[..count_to_space(rest)];
+    Cut {
+        from,
+        until: from + word.len(),
+        number: word_number(word),
+    }
+}
+
+/// The word that begins at this place; a short number is read in the same pass.
 fn cut_at(line: &[u8], from: usize) -> Cut
     requires from { from ≤ length line.now }
     ensures from { result.from ≡ from }
@@ -175,12 +190,7 @@ fn cut_at(line: &[u8], from: usize) -> Cut
             number: Some(digits.value as i64),
         };
     }
-    let word = &rest[..count_to_space(rest)];
-    Cut {
-        from,
-        until: from + word.len(),
-        number: read_number(word),
-    }
+    any_cut_at(line, from)
 }
 
 /// Cuts a line at each space, and gives how many words it has.
@@ -194,13 +204,11 @@ fn cut_line(cuts: &mut Vec<Cut>, line: &[u8]) -> usize
 {
     let mut from = 0;
     let mut count = 0;
-    loop {
+    while from <= line.len() {
         let cut = cut_at(line, from);
         put(cuts, count, cut);
         count += 1;
-        if cut.until == line.len() {
-            return count;
-        }
         from = cut.until + 1;
     }
+    count
 }

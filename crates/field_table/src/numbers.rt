@@ -1,8 +1,8 @@
 // Numbers and their canonical decimals.
-ghost use Rattle.std.specs.Prelude.{suc, negsuc, ◌≡◌, ◌≢◌, ◌≤◌, ◌<◌, ◌^◌, ℕ, ℤ, FitsSigned, Some, length, take, drop, slice_index, MatchOption};
+ghost use Rattle.std.specs.Prelude.{suc, negsuc, ◌≡◌, ◌≢◌, ◌≤◌, ◌<◌, ◌^◌, ℕ, ℤ, FitsSigned, Some, length, take, drop, slice_index, IfSome, MatchOption};
 ghost use Rattle.std.specs.Int.{w64};
 ghost use Rattle.std.specs.Fmt.{decimal, signed_decimal};
-ghost use Rattle.field_table.specs.Digits.{AreFrontDigits};
+ghost use Rattle.field_table.specs.Digits.{IsFrontNumber};
 
 use itoa::Buffer;
 
@@ -16,29 +16,29 @@ pub(crate) struct Digits {
     pub(crate) value: u64,
 }
 
-/// The digits at the front of at most 18 bytes, up to the first byte that is none.
-fn short_digits(bytes: &[u8]) -> Digits
-    requires { length bytes.now ≤ 18 }
-    ensures { AreFrontDigits bytes.now (length bytes.now) result }
+/// The number of at most 18 digits at the front, and how many these are, where a space or the end follows its decimal.
+// Each word of a line begins here: the loop is of a known length, which the compiler unrolls, and stands in its caller.
+#[inline(always)]
+pub(crate) fn short_number(bytes: &[u8]) -> Option<Digits>
+    ensures { IfSome result (λ front. IsFrontNumber bytes.now front) }
 {
+    if bytes.is_empty() || !bytes[0].is_ascii_digit() {
+        return None;
+    }
     let mut value = 0u64;
-    for (count, b) in bytes.iter().enumerate() {
-        if !b.is_ascii_digit() {
-            return Digits { count, value };
+    for count in 0..SHORT + 1 {
+        if count == bytes.len() || bytes[count] == b' ' {
+            if count > 1 && bytes[0] == b'0' {
+                return None;
+            }
+            return Some(Digits { count, value });
         }
-        value = 10 * value + (*b - b'0') as u64;
+        if !bytes[count].is_ascii_digit() {
+            return None;
+        }
+        value = 10 * value + (bytes[count] - b'0') as u64;
     }
-    Digits {
-        count: bytes.len(),
-        value,
-    }
-}
-
-/// The digits at the front, 18 of them at most.
-pub(crate) fn front_digits(bytes: &[u8]) -> Digits
-    ensures { AreFrontDigits bytes.now 18 result }
-{
-    short_digits(&bytes[..bytes.len().min(SHORT)])
+    None
 }
 
 /// The number up to `most` whose decimal the digits are, which don't begin with 0 unless they are one.
@@ -74,12 +74,10 @@ fn read_digits(bytes: &[u8], most: u64) -> Option<u64>
     if bytes[0] == b'0' && bytes.len() > 1 {
         return None;
     }
-    let front = front_digits(bytes);
-    if front.count == bytes.len() {
+    if let Some(front) = short_number(bytes)
+        && front.count == bytes.len()
+    {
         return Some(front.value);
-    }
-    if front.count < SHORT {
-        return None;
     }
     read_long(bytes, most)
 }

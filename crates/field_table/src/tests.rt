@@ -42,6 +42,60 @@ fn reads_each_words_number(rt: HostRuntime) -> Result<(), Fail> {
 }
 
 #[test]
+fn reads_the_number_of_each_form_of_word(rt: HostRuntime) -> Result<(), Fail> {
+    let mut cuts = Cuts::new(rt.alloc())?;
+    for (word, number) in [
+        (b"".as_slice(), None),
+        (b"7", Some(7)),
+        (b"10", Some(10)),
+        (b"1440", Some(1440)),
+        (b"00", None),
+        (b"07", None),
+        (b"-", None),
+        (b"-0", None),
+        (b"-1", Some(-1)),
+        (b"12x", None),
+        (b"x12", None),
+        (b"1-2", None),
+        (b"+1", None),
+        (b"12345678901234567", Some(12_345_678_901_234_567)),
+        (b"123456789012345678", Some(123_456_789_012_345_678)),
+        (b"012345678901234567", None),
+        (b"12345678901234567x", None),
+        (b"123456789012345678x", None),
+        (b"1234567890123456789", Some(1_234_567_890_123_456_789)),
+        (b"9999999999999999999", None),
+        (b"-9223372036854775808", Some(i64::MIN)),
+    ] {
+        assert!(rt; word.len() <= 20);
+        let words = cuts.split(word);
+        assert_eq!(rt; words.count(), 1);
+        assert_eq!(rt; words.number(0), number);
+    }
+    Ok(())
+}
+
+#[test]
+fn reads_numbers_before_a_space_as_at_the_end(rt: HostRuntime) -> Result<(), Fail> {
+    let mut cuts = Cuts::new(rt.alloc())?;
+    let words = cuts.split(b" 123456789012345678 1234567890123456789 10 0 00 2x 3 ");
+    assert_eq!(rt; words.count(), 9);
+    assert_eq!(rt; words.number(0), None);
+    assert_eq!(rt; words.number(1), Some(123_456_789_012_345_678));
+    assert_eq!(rt; words.number(2), Some(1_234_567_890_123_456_789));
+    assert_eq!(rt; words.number(3), Some(10));
+    assert_eq!(rt; words.number(4), Some(0));
+    assert_eq!(rt; words.number(5), None);
+    assert_eq!(rt; words.number(6), None);
+    assert_eq!(rt; words.number(7), Some(3));
+    assert_eq!(rt; words.number(8), None);
+    assert!(rt; words.word(2) == b"1234567890123456789".as_slice());
+    assert!(rt; words.word(6) == b"2x".as_slice());
+    assert!(rt; words.word(8).is_empty());
+    Ok(())
+}
+
+#[test]
 fn reads_numbers(rt: HostRuntime) {
     assert_eq!(rt; read_number(b"0"), Some(0));
     assert_eq!(rt; read_number(b"-1"), Some(-1));
