@@ -6,3 +6,4 @@ pub mod Ranges
 pub mod State
 pub mod Rounds
 pub mod Refusal
+pub mod Laws

@@ -1,8 +1,16 @@
-// What a day's records are: the entries that they stand for, and why a record is refused.
+// What a day's records are: the entries that they stand for, and why a record is refused; and the laws of
+// a day.
 #![tactic(auto)]
+
+mod laws;
 
 use crew_terms::Name;
 use field_table::FieldFault;
+pub use laws::{
+    entries_are_said_by_place, first_bad_is_first, first_condition_counts,
+    good_fields_make_an_entry, minutes_are_by_name, missing_is_first, numbers_are_spelled_by_place,
+    rounds_are_of_plans, rounds_go_on, state_goes_on, time_is_given, travel_is_both_ways,
+};
 
 /// What one record of a day says. Times are minutes of the day, 0 to 2880, as are travel times;
 /// durations are 1 to 2880 minutes; skills are a bit for each of the numbers 0 to 63.
