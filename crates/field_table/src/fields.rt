@@ -58,6 +58,7 @@ pub struct Schema {
 }
 
 /// What the word at a place spells as a field of this kind.
+#[inline(always)]
 fn read_as<W: Words>(kind: Kind, words: &W, place: usize) -> Option<i64>
     requires { place < length (W.words words.now) }
     ensures { MatchOption result ((z : ℤ) → Spells kind (slice_index_or (W.words words.now) place []) z → ⊥) (λ z. Spells kind (slice_index_or (W.words words.now) place []) z) }
@@ -74,6 +75,7 @@ fn read_as<W: Words>(kind: Kind, words: &W, place: usize) -> Option<i64>
 
 impl Field {
     /// The number that the field accepts the word at a place as, or why it refuses it.
+    #[inline(always)]
     fn read<W: Words>(&self, words: &W, place: usize) -> Result<i64, Cause>
         requires { place < length (W.words words.now) }
         ensures { MatchResult result (λ z. Accepts self.now (slice_index_or (W.words words.now) place []) z) (λ cause. Refuses self.now (slice_index_or (W.words words.now) place []) cause) }
@@ -90,6 +92,7 @@ impl Field {
 
 /// The number of the word at a place. Spelling exactly where the word spells nothing of the field's kind; Range
 /// exactly where it spells a number that is out of the field's range.
+#[inline(always)]
 pub fn read_at<W: Words>(words: &W, place: usize, field: &Field) -> Result<i64, FieldFault>
     requires { place < length (W.words words.now) }
     ensures exact { ReadsWord field.now (slice_index_or (W.words words.now) place []) place result }
@@ -105,6 +108,8 @@ impl<const N: usize> Row<N> {
     /// The numbers of the words after the first, one for each field; further words are not looked at. Count, with
     /// the number of words, exactly where there are fewer than N + 1 words; else Spelling or Range exactly as the
     /// first of these words has it that its field refuses. It takes no memory.
+    // A row is a constant where it is read; inlined, its ranges are too.
+    #[inline(always)]
     pub fn read<W: Words>(&self, words: &W) -> Result<[i64; N], FieldFault>
         ensures exact { ReadsRow self.now.fields (W.words words.now) result }
         ensures back { (values : List ℤ) → AreValues self.now.fields (W.words words.now) values → result ≡ Ok values }
