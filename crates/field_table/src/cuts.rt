@@ -40,6 +40,13 @@ struct Cut {
     number: Option<i64>,
 }
 
+/// A cut that no line has made yet.
+const NO_WORD: Cut = Cut {
+    from: 0,
+    until: 0,
+    number: None,
+};
+
 /// The words of one line, which borrow the line and the room for its cuts.
 #[derive(Drop)]
 pub struct LineWords<'a> {
@@ -99,6 +106,7 @@ impl Cuts {
         ensures words { pieces_of line.now (take result self.new.cuts.items) ≡ words_of line.now }
         ensures cuts { All (IsCutOf line.now) (take result self.new.cuts.items) }
     {
+        make_room(&mut self.cuts, line.len());
         cut_line(&mut self.cuts, line)
     }
 
@@ -115,18 +123,15 @@ impl Cuts {
     }
 }
 
-/// Puts the cut at this place, which is one of the cuts' or the first after them.
-fn put(cuts: &mut Vec<Cut>, place: usize, cut: Cut)
+/// Makes cuts that can be written over, until there is one for each word that a line of this length can have.
+fn make_room(cuts: &mut Vec<Cut>, length: usize)
     requires room { 131073 ≤ vec_capacity cuts.old }
-    requires place { place ≤ vec_len cuts.old }
-    requires short { place < 131073 }
-    ensures items { take (place + 1) cuts.new.items ≡ take place cuts.old.items ++ cut ∷ [] }
-    ensures count { place < vec_len cuts.new }
+    requires short { length ≤ 131072 }
+    ensures count { length < vec_len cuts.new }
     ensures room { 131073 ≤ vec_capacity cuts.new }
 {
-    match cuts.get_mut(place) {
-        Some(own) => *own = cut,
-        None => cuts.push(cut).unwrap(),
+    while cuts.len() <= length {
+        cuts.push(NO_WORD).unwrap();
     }
 }
 
@@ -194,19 +199,18 @@ fn cut_at(line: &[u8], from: usize) -> Cut
 }
 
 /// Cuts a line at each space, and gives how many words it has.
-fn cut_line(cuts: &mut Vec<Cut>, line: &[u8]) -> usize
-    requires room { 131073 ≤ vec_capacity cuts.old }
+fn cut_line(cuts: &mut [Cut], line: &[u8]) -> usize
+    requires room { length line.now < length cuts.old }
     requires short { length line.now ≤ 131072 }
-    ensures count { result ≤ vec_len cuts.new }
-    ensures words { pieces_of line.now (take result cuts.new.items) ≡ words_of line.now }
-    ensures cuts { All (IsCutOf line.now) (take result cuts.new.items) }
-    ensures room { 131073 ≤ vec_capacity cuts.new }
+    ensures count { result ≤ length cuts.new }
+    ensures words { pieces_of line.now (take result cuts.new) ≡ words_of line.now }
+    ensures cuts { All (IsCutOf line.now) (take result cuts.new) }
 {
     let mut from = 0;
     let mut count = 0;
     while from <= line.len() {
         let cut = cut_at(line, from);
-        put(cuts, count, cut);
+        cuts[count] = cut;
         count += 1;
         from = cut.until + 1;
     }
