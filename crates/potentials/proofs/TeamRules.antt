@@ -98,9 +98,6 @@ module _ (n : Limits) (k : ℕ) (phi : ℕ → ℕ → ℤ) where
     idle = is.idle;
   }
 
-  pub potential_of : (p : Prices) (worth : ℤ) → HoldsLocally n k p phi worth → (j : ℕ) → HoldsPotential n p k phi j
-  potential_of p worth is j = record { alone = is.alone j; step = is.step j }
-
   pub worth_of : (p : Prices) (worth : ℤ) → HoldsLocally n k p phi worth → HoldsWorth n k phi worth
   worth_of p worth is = record { most = is.most; idle = is.idle }
 
