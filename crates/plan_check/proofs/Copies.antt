@@ -1,6 +1,6 @@
 -- a plan that is copied from the first task on
 use Rattle.std.proofs.Common.{◌≡◌, ◌<◌, ◌+◌, ◌-◌, ◌++◌, ◌∷◌, ℕ, suc, List, [], length, take, replicate, set, get_or, Option, None, Some, arith, refl, sym, ap, ◌∙◌, append_assoc}
-use Rattle.std.proofs.lemmas.List.{take_more, set-append_right, length-take-le, take_all, append-nil}
+use Rattle.std.proofs.lemmas.List.{take_more, set-append_right, length-take-le}
 use Rattle.std.specs.Option.{option_map}
 use Rattle.crew_terms.specs.Plan.{Plan, Job, job_of}
 use Rattle.plan_check.specs.Teams.{teams_in}
@@ -34,14 +34,6 @@ module _ (p : Plan) (i : ℕ) (l : i < length p) where
       ∙ set-append_right (take i p) (None ∷ replicate (length p - (i + 1)) None) i i o long (omega arith)
       ∙ ap (λ n. take i p ++ set (None ∷ replicate (length p - (i + 1)) None) n o) at
       ∙ with_next o e
-
-pub copied_first : (p : Plan) → replicate (length p) None ≡ copied p 0
-copied_first p = let e : length p ≡ length p - 0 = omega arith in ap (λ n. replicate n None) e
-
-pub copied_all : (p : Plan) (i : ℕ) → i ≡ length p → copied p i ≡ p
-copied_all p i e =
-    let n : length p - i ≡ 0 = omega arith in
-    ap (λ m. take i p ++ replicate m None) n ∙ append-nil (take i p) ∙ take_all i p (omega arith)
 
 -- what is read of a task is its job
 pub job_again : (o : Option Job) (start : ℕ) (teams : List ℕ) → option_map (λ (job : Job). job.start) o ≡ Some start → teams ≡ teams_in o → o ≡ Some (record { start = start; teams = teams })

@@ -1,5 +1,5 @@
 -- the turns of a team: how they are gathered, and that its next task is the neighbouring one
-use Rattle.std.proofs.Common.{◌≡◌, ◌≤◌, ◌<◌, ◌+◌, ◌-◌, ◌⊎◌, inl, inr, ℕ, zero, suc, List, [], ◌∷◌, length, get_or, arith, refl, sym, subst, ap, ◌∙◌}
+use Rattle.std.proofs.Common.{◌≡◌, ◌≤◌, ◌<◌, ◌+◌, ◌-◌, ◌⊎◌, inl, inr, ℕ, zero, suc, List, ◌∷◌, length, get_or, arith, refl, sym, subst, ap, ◌∙◌}
 use Rattle.std.specs.Prelude.{Contains}
 use Rattle.std.specs.List.{All}
 use Rattle.std.specs.List.Sorted.{IsPermutation}
@@ -46,14 +46,6 @@ rest_in : (v w : Turn) (vs : List Turn) → Contains vs w → Contains (v ∷ vs
 rest_in v w vs (k, l, e) = (suc k, omega arith, e)
 
 module _ (p : Plan) (k : ℕ) where
-  pub no_turns : AreTurns p k 0 []
-  no_turns = record {
-    few = omega arith;
-    order = λ a b d l m. absurd (omega arith);
-    done = λ v (i, l, e). absurd (omega arith);
-    all = λ j t l d. absurd (omega arith);
-  }
-
   module _ (n : ℕ) (vs : List Turn) (are : AreTurns p k n vs) where
     pub tasks_below : (j : ℕ) → j ≡ n → All (λ (v : Turn). v.task < j) vs
     tasks_below j e i d l = let m = (are.done (get_or vs i d) (Contains-get_or vs i d l)).1 in omega arith
