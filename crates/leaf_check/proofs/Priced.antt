@@ -57,27 +57,6 @@ pub record Cleared (n : Limits) (old new : Prices) (j k : ℕ) : Type 0 where
   pub others : SamePairsBut j old new
   pub cleared : (g : ℕ) → g < k → rho_of new g j ≡ pos 0
 
-pub cleared_none : (n : Limits) (old : Prices) (j : ℕ) → ArePricesIn n old → Cleared n old old j 0
-cleared_none n old j are = record {
-  prices = are;
-  others = record { tasks = refl; others = λ k h differ. refl };
-  cleared = λ g l. absurd (omega arith);
-}
-
-pub cleared_more : (n : Limits) (old new : Prices) (j k : ℕ) → k < teams_in n → j < tasks_in n → Cleared n old new j k → Cleared n old (with_rho new k j (pos 0)) j (k + 1)
-cleared_more n old new j k team task so = record {
-  prices = still_prices n new k j (pos 0) so.prices team task;
-  others = record {
-    tasks = so.others.tasks;
-    others = λ g h differ. rho_other_task n new k j (pos 0) so.prices team task g h differ ∙ so.others.others g h differ;
-  };
-  cleared = λ g l. by g l (cases_eq g k);
-}
-  where
-    by : (g : ℕ) → g < k + 1 → (g ≡ k) ⊎ (g ≡ k → ⊥) → rho_of (with_rho new k j (pos 0)) g j ≡ pos 0
-    by g l (inl e) = ap (λ a. rho_of (with_rho new k j (pos 0)) a j) e ∙ rho_set n new k j (pos 0) so.prices team task
-    by g l (inr ne) = rho_other_team n new k j (pos 0) so.prices team task g j ne ∙ so.cleared g (omega arith)
-
 -- ---- the required pairs of a task that are set to the given numbers, team by team
 
 abbrev pub required_below : Limits → ℕ → ℕ → List ℕ
@@ -88,14 +67,6 @@ pub record Given (n : Limits) (old new : Prices) (j k : ℕ) (given : List ℤ) 
   pub others : SamePairsBut j old new
   pub set : (g : ℕ) → g < teams_in n → rho_of new g j ≡ beside (required_below n j k) given g (rho_of old g j)
   pub count : read ≡ length (required_below n j k)
-
-pub given_none : (n : Limits) (old : Prices) (j : ℕ) (given : List ℤ) → ArePricesIn n old → Given n old old j 0 given 0
-given_none n old j given are = record {
-  prices = are;
-  others = record { tasks = refl; others = λ k h differ. refl };
-  set = λ g l. refl;
-  count = refl;
-}
 
 -- there are no more numbers than teams
 pub given_few : (n : Limits) (j k : ℕ) → length (required_below n j k) ≤ k
@@ -205,9 +176,6 @@ pub record TasksGiven (n : Limits) (new : Prices) (j : ℕ) (given : List ℤ) :
   pub tasks : take j new.pi ≡ take j given
   pub pairs : (g h : ℕ) → g < teams_in n → h < j → rho_of new g h ≡ pos 0
 
-pub tasks_none : (n : Limits) (old : Prices) (given : List ℤ) → ArePricesIn n old → TasksGiven n old 0 given
-tasks_none n old given are = record { prices = are; tasks = refl; pairs = λ g h a b. absurd (omega arith) }
-
 pub tasks_more : (n : Limits) (old cleared new : Prices) (j : ℕ) (given : List ℤ) → j < tasks_in n → length given ≡ tasks_in n
     → TasksGiven n old j given → ArePricesIn n cleared → SamePairsBut j old cleared → ((g : ℕ) → g < teams_in n → rho_of cleared g j ≡ pos 0)
     → new ≡ record cleared { pi = set cleared.pi j (get_or given j (pos 0)) } → TasksGiven n new (j + 1) given
@@ -226,10 +194,6 @@ tasks_more n old cleared new j given task count so are but zeros e = subst (λ p
     by : (g h : ℕ) → g < teams_in n → h < j + 1 → (h ≡ j) ⊎ (h ≡ j → ⊥) → rho_of cleared g h ≡ pos 0
     by g h a b (inl f) = ap (rho_of cleared g) f ∙ zeros g a
     by g h a b (inr ne) = but.others g h ne ∙ so.pairs g h a (omega arith)
-
-pub tasks_all : (n : Limits) (new : Prices) (given : List ℤ) → length given ≡ tasks_in n → TasksGiven n new (tasks_in n) given → new.pi ≡ given
-tasks_all n new given count so =
-    sym (take-length new.pi) ∙ ap (λ m. take m new.pi) so.prices.prices.tasks ∙ so.tasks ∙ ap (λ m. take m given) (sym count) ∙ take-length given
 
 -- ---- the prices that a leaf writes
 
