@@ -113,9 +113,6 @@ task_says z k i ws p said fits is rest = Holds (_, is, omega arith)
 pub none_of : {A : Type 0} (P : A → Type 0) (xs : List A) → (Any P xs → ⊥) → All (λ x. P x → ⊥) xs
 none_of P xs h = λ k d l p. h (k, get_or xs k d, l, get_or_default xs k (get_or xs k d) d l, p)
 
-pub some_of : {A : Type 0} (P : A → Type 0) (xs : List A) → Any P xs → All (λ x. P x → ⊥) xs → ⊥
-some_of P xs h all = all h.0 h.1 h.2 (subst P (sym h.3) h.4)
-
 -- the rules of a team, told by its value and whether its skills rise
 pub team_rules : (z : Size) (k : ℕ) (i : Instance) (name : List ℕ) (home from until skills : ℕ) (ss : List ℕ) (Rises : Type 0) (said : Said)
     → (Rises → IsStrictlyIncreasing ss × (skills ≡ mask_of ss)) → ((Rises → ⊥) → IsStrictlyIncreasing ss → ⊥)

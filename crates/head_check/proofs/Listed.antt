@@ -1,5 +1,5 @@
 -- the numbers at the end of a line, read one after another
-use Rattle.std.proofs.Common.{◌≡◌, ◌≤◌, ◌<◌, ◌+◌, ◌^◌, ◌++◌, ℕ, zero, suc, List, [], ◌∷◌, length, map, take, get_or, ap, subst, sym, refl, ◌∙◌, arith, ◌⊎◌, inl, inr, lit<}
+use Rattle.std.proofs.Common.{◌≡◌, ◌≤◌, ◌<◌, ◌+◌, ◌^◌, ◌++◌, ℕ, zero, suc, List, [], ◌∷◌, length, map, take, get_or, ap, subst, sym, refl, ◌∙◌, arith, ◌⊎◌, inl, inr}
 use Rattle.std.specs.Prelude.{ℤ, pos, slice_index_or, All}
 use Rattle.std.specs.List.{AllByRecursion}
 use Rattle.std.specs.List.Sorted.{IsStrictlyIncreasing}
@@ -30,10 +30,6 @@ take_more [] n l = absurd (omega arith)
 take_more (x ∷ xs) zero l = refl
 take_more (x ∷ xs) (suc n) l = ap (λ ys. x ∷ ys) (take_more xs n (omega arith))
 
-take_whole : (xs : List ℕ) → take (length xs) xs ≡ xs
-take_whole [] = refl
-take_whole (x ∷ xs) = ap (λ ys. x ∷ ys) (take_whole xs)
-
 mask_more : (xs : List ℕ) (s : ℕ) → mask_of (xs ++ s ∷ []) ≡ mask_of xs + 2 ^ s
 mask_more [] s = omega arith
 mask_more (x ∷ xs) s = let e = mask_more xs s in omega arith
@@ -46,16 +42,6 @@ pub record SkillsSoFar (ss : List ℕ) (n set least : ℕ) : Type 0 where
   pub most : least ≤ 64
   pub none : n ≡ 0 → least ≡ 0
   pub last : (k : ℕ) → k + 1 ≡ n → least ≡ get_or ss k 0 + 1
-
-pub skills_none : (ss : List ℕ) → SkillsSoFar ss 0 0 0
-skills_none ss = record {
-  rising = λ k l. absurd (omega arith);
-  is = refl;
-  small = lit< tt;
-  most = omega arith;
-  none = λ e. refl;
-  last = λ k e. absurd (omega arith);
-}
 
 -- a sum with a power that is above it
 power_more : (set least skill : ℕ) → set < 2 ^ least → least ≤ skill → set + 2 ^ skill < 2 ^ (skill + 1)
@@ -101,12 +87,6 @@ skills_fall ss (suc n) set least h l low rise =
     let f : n + 1 ≡ suc n = omega arith in
     let s : get_or ss n 0 < get_or ss (suc n) 0 = subst (λ m. get_or ss n 0 < get_or ss m 0) f r in
     omega arith
-
-pub skills_rise : (ss : List ℕ) (n set least : ℕ) → SkillsSoFar ss n set least → n ≡ length ss → IsStrictlyIncreasing ss
-skills_rise ss n set least h e = λ k l. h.rising k (omega arith)
-
-pub skills_set : (ss : List ℕ) (n set least : ℕ) → SkillsSoFar ss n set least → n ≡ length ss → set ≡ mask_of ss
-skills_set ss n set least h e = h.is ∙ ap (λ m. mask_of (take m ss)) e ∙ ap mask_of (take_whole ss)
 
 -- a number that is told is the natural one there
 pub told_at : (zs : List ℤ) (n t : ℕ) → n < length zs → slice_index_or zs n (pos 0) ≡ pos t → t ≡ get_or (naturals zs) n 0
