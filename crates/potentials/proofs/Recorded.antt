@@ -3,7 +3,7 @@ use Rattle.std.proofs.Common.{◌≡◌, ◌≤◌, ◌<◌, ◌+◌, ◌++◌, 
 use Rattle.std.specs.List.{All, Contains}
 use Rattle.std.proofs.lemmas.Int.{ints}
 use Rattle.std.proofs.lemmas.Bool.{cases_lt}
-use Rattle.std.proofs.lemmas.List.Elements.{All-nil, All-push, Contains-push, Contains-append_left}
+use Rattle.std.proofs.lemmas.List.Elements.{All-push, Contains-push, Contains-append_left}
 use Rattle.potentials.specs.Followers.{potential_at}
 use Rattle.potentials.specs.Records.{AreRecords, IsRecord, IsRecordOf}
 use Rattle.potentials.proofs.Most.{IsMost}
@@ -19,12 +19,6 @@ pub record RecordsFrom (potentials : List ℤ) (opens from : ℕ) (records : Lis
   pub all : (b : ℕ) → from ≤ b → b < length potentials → pos 0 <ℤ potential_at potentials b → IsReached potentials opens records b
 
 module _ (potentials : List ℤ) (opens : ℕ) where
-  pub none_past : (from : ℕ) → length potentials ≤ from → RecordsFrom potentials opens from []
-  none_past from past = record {
-    each = All-nil (IsRecordOf potentials opens);
-    all = λ b l h p. absurd (omega arith);
-  }
-
   pub whole : (records : List Record) (from : ℕ) → from ≡ 0 → RecordsFrom potentials opens from records → AreRecords potentials opens records
   whole records from z are = record {
     each = are.each;
