@@ -9,7 +9,7 @@ use Rattle.tree_walk.specs.Splits.{IsSplitOf, limits_in, second_of}
 use Rattle.tree_walk.specs.Way.{Walked, IsWay, IsAt, IsSomewhere, IsLeaf, LeavesLeaf, counts_in, counts_of, innermost, split_of, with_leaf}
 use Rattle.tree_walk.specs.declared.split.Split.{Split}
 use Rattle.tree_walk.proofs.Numbers.{leaf_counted}
-use Rattle.tree_walk.proofs.Ways.{IsPast, up, turned, risen, ended, innermost_is, none_above, instance_below}
+use Rattle.tree_walk.proofs.Ways.{IsPast, up, turned, risen, innermost_is, none_above, instance_below}
 
 -- from each node where the walk may have stood, past a leaf of this kind, it came to a node whose tree is whole
 abbrev pub ComesPast : Bool → Trail → Walked → Trail → Walked → Type 0
@@ -80,12 +80,6 @@ module _ (is_closed : Bool) (old t : Trail) (from w : Walked) (past : ComesPast 
       let leaf = some_leaf is_closed in
       let p = past at.0 at.1 leaf.0 at.2 leaf.1 in
       ap (λ (n : Limits). n.instance) p.3.way.limits ∙ instance_below at.0 p.0
-
-  pub ends : innermost w.above ≡ None → LeavesLeaf is_closed old from t w true
-  ends none = λ root fs leaf b c at is.
-      let p = past root fs leaf at is in
-      let q = ended root t w p.0 p.1 b c p.3 none in
-      (q.0, p.2 b c ∙ q.1, q.2)
 
   pub turns : (u new : Trail) (to : Walked) (s next : Split) → innermost w.above ≡ Some s → t.past ≡ u.limits ∷ u.past → second_of s ≡ Some next
       → new ≡ changed u (limits_in u.limits next) → to ≡ record w { above = next ∷ drop 1 w.above } → LeavesLeaf is_closed old from new to false

@@ -1,9 +1,9 @@
 -- the numbers of a walk while it goes up from a node whose tree is whole
-use Rattle.std.proofs.Common.{◌≡◌, ◌+◌, ℕ, suc, Bool, List, [], ◌∷◌, length, arith, ap, refl}
+use Rattle.std.proofs.Common.{◌≡◌, ◌+◌, ℕ, suc, Bool, List, ◌∷◌, length, arith, ap, refl}
 use Rattle.std.proofs.lemmas.Bool.Decides.{nat_tests}
 use Rattle.dossier_terms.specs.Dossier.{Written, Bare, Open, Closed, Window, Pairs, splits, closed, left_open, depth, greater}
 use Rattle.dossier_terms.specs.Reading.{Counts, Frame, Lower, Upper, Without, With, sum_in}
-use Rattle.tree_walk.specs.Way.{IsLeaf, counts_of, counts_in, counts_of_tree, deepest, with_leaf}
+use Rattle.tree_walk.specs.Way.{IsLeaf, counts_of, counts_in, deepest, with_leaf}
 
 -- the numbers of the splits above a node, of their first children that are whole, and of the node's tree, which is whole
 abbrev pub counts_past : List Frame → Written → Counts
@@ -39,6 +39,3 @@ upper_counted fs j cut low t = same_counts _ _ _ _ _ _ _ _ (omega arith) (omega 
 
 pub with_counted : (fs : List Frame) (k j : ℕ) (without t : Written) → counts_past (With k j without ∷ fs) t ≡ counts_past fs (Pairs k j without t)
 with_counted fs k j without t = same_counts _ _ _ _ _ _ _ _ (omega arith) (omega arith) (omega arith) (deeper (deepest fs) (length fs) (depth without) (depth t))
-
-pub whole_counted : (t : Written) → counts_past [] t ≡ counts_of_tree t
-whole_counted t = same_counts _ _ _ _ _ _ _ _ (omega arith) (omega arith) (omega arith) (grind (arith, nat_tests))

@@ -1,8 +1,8 @@
 -- a walk that stands at a node of some tree
 use Rattle.std.proofs.Common.{◌≡◌, Bool, false, []}
-use Rattle.dossier_terms.specs.Reading.{Counts, Draft, Frame, nothing}
+use Rattle.dossier_terms.specs.Reading.{Counts, Draft, nothing}
 use Rattle.node_limits.specs.Trail.{Trail}
-use Rattle.tree_walk.specs.Way.{Walked, IsAt, IsSomewhere, Enters, LeavesLeaf}
+use Rattle.tree_walk.specs.Way.{Walked, IsAt, IsSomewhere, LeavesLeaf}
 use Rattle.tree_walk.proofs.Leaves.{some_leaf}
 
 some_draft : Draft
@@ -13,10 +13,6 @@ some_counts = record { splits = 0; closed = 0; left_open = 0; depth = 0 }
 
 pub at_root : (t : Trail) (w : Walked) → ((u : Trail) → u.past ≡ [] → IsAt u.limits u w []) → t.past ≡ [] → IsSomewhere t w
 at_root t w at fresh = (t.limits, [], at t fresh)
-
--- in the first child of a split
-pub entered : (f : Frame) (old new : Trail) (from to : Walked) → Enters f old from new to → IsSomewhere old from → IsSomewhere new to
-entered f old new from to enters (root, fs, at) = (root, _, enters root fs at)
 
 -- past a leaf, where the tree is not whole
 pub went_on : (is_closed : Bool) (old new : Trail) (from to : Walked) → LeavesLeaf is_closed old from new to false → IsSomewhere old from → IsSomewhere new to

@@ -2,13 +2,13 @@
 use Rattle.std.proofs.Common.{◌≡◌, List, [], ◌∷◌, drop, None, Some, ap, sym, subst, ◌∙◌, refl}
 use Rattle.crew_terms.specs.Limits.{Limits}
 use Rattle.dossier_terms.specs.Dossier.{Written, Window, Pairs}
-use Rattle.dossier_terms.specs.Reading.{Counts, Draft, Frame, Lower, Upper, Without, With, Nodes, Ends, limits_below, narrowed, node_done}
+use Rattle.dossier_terms.specs.Reading.{Counts, Draft, Frame, Lower, Upper, Without, With, Nodes, limits_below, narrowed, node_done}
 use Rattle.node_limits.specs.Trail.{Trail, changed}
 use Rattle.tree_walk.specs.Splits.{IsSplitOf, limits_in, second_of}
-use Rattle.tree_walk.specs.Way.{Walked, IsWay, IsAt, IsAtEnd, counts_of, counts_in, innermost, split_of}
+use Rattle.tree_walk.specs.Way.{Walked, IsWay, IsAt, counts_of, counts_in, innermost, split_of}
 use Rattle.tree_walk.specs.declared.split.Split.{Split}
 use Rattle.tree_walk.specs.declared.split.Split.TheVariants as splits_of
-use Rattle.tree_walk.proofs.Numbers.{counts_past, lower_counted, without_counted, upper_counted, with_counted, whole_counted}
+use Rattle.tree_walk.proofs.Numbers.{counts_past, lower_counted, without_counted, upper_counted, with_counted}
 
 -- the walk stands at a node whose tree is whole and counted
 pub record IsPast (root : Limits) (t : Trail) (w : Walked) (fs : List Frame) (tree : Written) : Type 0 where
@@ -111,12 +111,6 @@ risen root t u w to (With k j without) fs tree past undone second rises =
     )
 risen root t u w to (Lower j cut) fs tree past undone second rises = absurd (cc)
 risen root t u w to (Without k j) fs tree past undone second rises = absurd (cc)
-
--- no split is above, and the tree is whole
-pub ended : (root : Limits) (t : Trail) (w : Walked) (gs : List Frame) (tree : Written) (b : Draft) (c : Counts) → IsPast root t w gs tree → innermost w.above ≡ None
-    → (whole : Written) × (node_done b c gs tree ≡ Ends b c whole) × IsAtEnd root t w whole
-ended root t w [] tree b c past none = (tree, refl, record { limits = past.way.limits; past = past.way.past; above = past.way.above; seen = past.seen ∙ whole_counted tree })
-ended root t w (f ∷ fs) tree b c past none = absurd (let e : innermost w.above ≡ Some (split_of f) = ap innermost past.way.above in cc (e, none))
 
 -- the innermost split above is that of the innermost frame
 pub innermost_is : (root : Limits) (t : Trail) (w : Walked) (f : Frame) (fs : List Frame) (tree : Written) (s : Split) → IsPast root t w (f ∷ fs) tree → innermost w.above ≡ Some s → split_of f ≡ s
