@@ -1,7 +1,7 @@
 -- what is read of a head is its lines, and good
 use Rattle.std.proofs.Common.{◌≡◌, ◌≤◌, ◌+◌, ℕ, zero, suc, List, [], ◌∷◌, ◌++◌, length, ap, sym, refl, ◌∙◌, subst, arith, length-append}
 use Rattle.std.specs.Prelude.{◌≢◌, map, All, slice_index_or}
-use Rattle.std.proofs.lemmas.List.{map-append}
+use Rattle.std.proofs.lemmas.List.{map-append, nil_from_length}
 use Rattle.std.proofs.lemmas.List.Elements.{All-push}
 use Rattle.std.proofs.lemmas.List.Quantifiers.{all_pairs_push}
 use Rattle.crew_terms.specs.Name.{IsName}
@@ -9,21 +9,15 @@ use Rattle.crew_terms.specs.Instance.{Instance, IsTeam, IsTask}
 use Rattle.crew_terms.specs.declared.Team.{Team}
 use Rattle.crew_terms.specs.declared.Task.{Task}
 use Rattle.dossier_terms.specs.declared.Size.{Size}
-use Rattle.dossier_terms.specs.declared.Reason.{Reason}
 use Rattle.dossier_terms.specs.Dossier.{skills_of, mask_of}
 use Rattle.crew_terms.specs.Words.{Words}
 use Rattle.dossier_terms.specs.Lines.{form_line, size_line, place_line, travel_line, team_line, task_line, size_of, team_words, task_words}
-use Rattle.dossier_terms.specs.Reading.{Reading, Said, No, nothing, Form, Sizes, Places, Travels, Teams, Tasks, places_due, travels_due, teams_due, tasks_due}
+use Rattle.dossier_terms.specs.Reading.{Reading, Said, nothing, Form, Sizes, Places, Travels, Teams, Tasks, places_due, travels_due, teams_due, tasks_due}
 use Rattle.dossier_terms.specs.Table.{IsSize, form_row, size_row, place_row, travel_row, team_row, task_row}
-use Rattle.dossier_laws.proofs.SoFar.{head_so_far, IsPart, HasRead, ArePlaces, AreTravels, AreTeams, AreTasks, IsHead, IsReading, spelled, Follows}
+use Rattle.dossier_laws.proofs.SoFar.{head_so_far, IsPart, HasRead, ArePlaces, AreTravels, AreTeams, AreTasks, IsHead, IsReading, spelled, Follows, refused}
 use Rattle.dossier_laws.proofs.Skills.{skills_again, mask_small}
 use Rattle.dossier_laws.proofs.Lists.{put_1, put_2, put_3, at_end}
 use Rattle.dossier_laws.proofs.Rules.{must_then, spells_then, goes_then}
-
--- a list that is empty
-none_left : {A : Type 0} (xs : List A) → length xs ≡ 0 → xs ≡ []
-none_left [] h = refl
-none_left (x ∷ xs) h = absurd (omega arith)
 
 -- ---- the states that are due
 
@@ -68,9 +62,6 @@ due_places z zero i h = due_travels z z.places i (0, omega arith, h.2, record { 
 due_places z (suc k) i h = (refl, h)
 
 -- ---- the rows
-
-refused : (s : Reading) (ws : Words) (q : Reason) → Follows s ws (No q)
-refused s ws q = tt
 
 pub form_follows : (ws : Words) (said : Said) → form_row ws said → Follows Form ws said
 form_follows ws said h = must_then (Follows Form ws) (refused Form ws) said (λ e g.
@@ -142,7 +133,7 @@ place_follows z k i ws said r h = must_then F (refused s ws) said (λ shape g.
     } in
     let due = due_places z k j (r.0 + 1, omega arith, part, record { places = one_more i.places name r.0 r.3.places; travel = r.3.travel; teams = r.3.teams; tasks = r.3.tasks }) in
     goes_then F said (
-      due.0 ∙ place_text z i name (none_left i.travel r.3.travel) (none_left i.teams r.3.teams) (none_left i.tasks r.3.tasks)
+      due.0 ∙ place_text z i name (nil_from_length i.travel r.3.travel) (nil_from_length i.teams r.3.teams) (nil_from_length i.tasks r.3.tasks)
           ∙ ap (λ w. head_so_far z i ++ w ∷ []) (sym e),
       due.1,
     ) g) g) g) h
@@ -170,7 +161,7 @@ travel_follows z k i ws said r h = must_then F (refused s ws) said (λ shape g.
     } in
     let due = due_travels z k j (r.0 + 1, omega arith, part, record { places = r.3.places; travel = one_more i.travel row r.0 r.3.travel; teams = r.3.teams; tasks = r.3.tasks }) in
     goes_then F said (
-      due.0 ∙ travel_text z i row (none_left i.teams r.3.teams) (none_left i.tasks r.3.tasks)
+      due.0 ∙ travel_text z i row (nil_from_length i.teams r.3.teams) (nil_from_length i.tasks r.3.tasks)
           ∙ ap (λ w. head_so_far z i ++ w ∷ []) (sym e),
       due.1,
     ) g) g) h
@@ -203,7 +194,7 @@ team_follows z k i ws said r h = must_then F (refused s ws) said (λ shape g.
     let due = due_teams z k j (r.0 + 1, omega arith, part, record { places = r.3.places; travel = r.3.travel; teams = one_more i.teams t r.0 r.3.teams; tasks = r.3.tasks }) in
     let line : ws ≡ team_line t = e ∙ sym (ap (λ ss. team_words (record p.0 { skills = 0 }, ss)) (skills_again p.1 fits.1 is.skills)) ∙ ap (λ n. team_words (record p.0 { skills = n }, skills_of (mask_of p.1))) (sym is.none) in
     goes_then F said (
-      due.0 ∙ team_text z i t (none_left i.tasks r.3.tasks)
+      due.0 ∙ team_text z i t (nil_from_length i.tasks r.3.tasks)
           ∙ ap (λ w. head_so_far z i ++ w ∷ []) (sym line),
       due.1,
     ) g) g) g) g) g) h

@@ -6,19 +6,15 @@ use Rattle.std.proofs.lemmas.List.{get_or-map}
 use Rattle.crew_terms.specs.Limits.{Limits, tasks_in, teams_in}
 use Rattle.crew_terms.specs.Plan.{unassigned_count}
 use Rattle.crew_terms.specs.Leaf.{Prices as TaskPrices, HoldsLocally, IsValidLeaf, Proves, bound_of, IsPrice}
-use Rattle.dossier_terms.specs.declared.Reason.{Reason}
 use Rattle.dossier_terms.specs.Dossier.{Open, Closed, Leaf, Potentials, no_potentials, Rows, Tables, IsTable, IsWritten, IsWorthNumber, IsSigned, priced, open_tasks, required_teams, minute_count, prices_of, worths_of, phi_in, phi_of}
 use Rattle.crew_terms.specs.Words.{Words}
 use Rattle.dossier_terms.specs.Lines.{open_line, closed_line, price_line, extra_line, worth_line, phi_line, rows_lines, table_lines, node_lines}
-use Rattle.dossier_terms.specs.Reading.{Reading, Said, No, Place, limits_of, Prices, Extras, Worths, Phis}
+use Rattle.dossier_terms.specs.Reading.{Reading, Said, Place, limits_of, Prices, Extras, Worths, Phis}
 use Rattle.dossier_terms.specs.Table.{HoldsPotential, HoldsWorth, after_table, after_phi, after_extra, price_row, extra_row, worth_row, phi_row}
-use Rattle.dossier_laws.proofs.SoFar.{IsPlace, NodeHolds, RowsSoFar, AreLeafPrices, TablesHold, IsLeafPart, leaf_so_far, IsReading, spelled, Follows, nodes_so_far, leaf_line, place_so_far, prices_so_far, tables_so_far}
+use Rattle.dossier_laws.proofs.SoFar.{IsPlace, NodeHolds, RowsSoFar, AreLeafPrices, TablesHold, IsLeafPart, leaf_so_far, IsReading, spelled, Follows, refused, nodes_so_far, leaf_line, place_so_far, prices_so_far, tables_so_far}
 use Rattle.dossier_laws.proofs.Rules.{must_then, each_then, spells_then, goes_then}
 use Rattle.dossier_laws.proofs.NodeReads.{done_reads}
 use Rattle.dossier_laws.proofs.LeafPrices.{on_required, in_range}
-
-refused : (s : Reading) (ws : Words) (q : Reason) → Follows s ws (No q)
-refused s ws q = tt
 
 -- ---- rows
 

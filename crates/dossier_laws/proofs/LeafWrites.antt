@@ -2,7 +2,7 @@
 use Rattle.std.proofs.Common.{◌≡◌, ◌<◌, ◌+◌, ℕ, zero, suc, ℤ, List, [], ◌∷◌, ◌++◌, length, ap, sym, refl, ◌∙◌, subst, arith, append_assoc, append-nil, length-append, true}
 use Rattle.std.specs.Prelude.{slice_index_or, pos}
 use Rattle.std.specs.Fmt.{signed_decimal}
-use Rattle.std.proofs.lemmas.List.{get_or-map, length-map}
+use Rattle.std.proofs.lemmas.List.{get_or-map, length-map, nil_from_length}
 use Rattle.crew_terms.specs.Limits.{Limits, teams_in}
 use Rattle.crew_terms.specs.Plan.{unassigned_count}
 use Rattle.crew_terms.specs.Leaf.{Prices as TaskPrices, HoldsLocally, IsValidLeaf, Proves, bound_of, IsPrice}
@@ -51,9 +51,6 @@ no_rows In wants keys [] h e = refl
 no_rows In wants [] (r ∷ rows) h e = absurd h
 no_rows In wants (k ∷ keys) (r ∷ rows) h e = absurd (cc)
 
-table_is : (worth : ℤ) → List (List ℤ) → Potentials
-table_is worth rows = record { worth = worth; phi = rows }
-
 phis_reached : (a : Place) (prices : List ℤ) (extras : List (List ℤ)) (tables : List Potentials) (left : ℕ) (t : Potentials)
     → HoldsLocally (limits_of a) (length tables) (prices_of (limits_of a) (leaf_so_far prices extras tables)) (phi_in (limits_of a) (length tables) t) t.worth
     → (left ≡ 0 → Bounds a (leaf_so_far prices extras (tables ++ t ∷ [])))
@@ -79,10 +76,6 @@ abbrev Good : Limits → TaskPrices → ℕ → List Potentials → Type 0
 Good n p k [] = Unit {0}
 Good n p k (t ∷ ts) = (IsTable n k t × HoldsLocally n k p (phi_in n k t) t.worth) × Good n p (suc k) ts
 
-none_left : {A : Type 0} (xs : List A) → length xs ≡ 0 → xs ≡ []
-none_left [] h = refl
-none_left (x ∷ xs) h = absurd (omega arith)
-
 tables_reached : (a : Place) (prices : List ℤ) (extras : List (List ℤ)) (all : List Potentials) → Bounds a (leaf_so_far prices extras all)
     → (done ts : List Potentials) → all ≡ done ++ ts → (k : ℕ) → length done ≡ k → Good (limits_of a) (prices_of (limits_of a) (leaf_so_far prices extras [])) k ts
     → Reaches (tables_next a (leaf_so_far prices extras done) (length ts)) (table_lines (limits_of a) k ts) (leaf_done a (leaf_so_far prices extras all))
@@ -93,7 +86,7 @@ tables_reached a prices extras all b done (t ∷ ts) e k q h =
     let whole : all ≡ (done ++ t ∷ []) ++ ts = e ∙ sym (append_assoc done (t ∷ []) ts) in
     let valid : HoldsLocally n (length done) p (phi_in n (length done) t) t.worth = subst (λ k. HoldsLocally n k p (phi_in n k t) t.worth) (sym q) h.0.1 in
     let bounds : length ts ≡ 0 → Bounds a (leaf_so_far prices extras (done ++ t ∷ [])) = λ (z : length ts ≡ 0).
-    subst (λ ts. Bounds a (leaf_so_far prices extras ts)) (whole ∙ ap (λ w. (done ++ t ∷ []) ++ w) (none_left ts z) ∙ append-nil (done ++ t ∷ [])) b in
+    subst (λ ts. Bounds a (leaf_so_far prices extras ts)) (whole ∙ ap (λ w. (done ++ t ∷ []) ++ w) (nil_from_length ts z) ∙ append-nil (done ++ t ∷ [])) b in
     let table : IsTable n (length done) t = subst (λ k. IsTable n k t) (sym q) h.0.0 in
     let rest = tables_reached a prices extras all b (done ++ t ∷ []) ts whole (suc k) (omega (arith, length-append done (t ∷ []))) h.1 in
     let rows = phis_reached a prices extras done (length ts) t valid bounds [] (open_tasks n (length done)) t.phi refl table.rows in (
@@ -156,7 +149,7 @@ leaf_reached a leaf w v b =
     let e : 0 + j ≡ j = omega arith in
     subst (λ q. HoldsLocally n q (prices_of n leaf) (phi_in n q (slice_index_or leaf.tables j no_potentials)) (slice_index_or leaf.tables j no_potentials).worth) (sym e)
     (subst (λ x. HoldsLocally n j (prices_of n leaf) (phi_of n leaf j) x) (get_or-map (λ (t : Potentials). t.worth) leaf.tables j no_potentials (pos 0) l) (v.valid j (omega arith)))) in
-    let none : teams_in n ≡ 0 → Bounds a (leaf_so_far leaf.prices leaf.extras []) = λ (z : teams_in n ≡ 0). subst (λ ts. Bounds a (leaf_so_far leaf.prices leaf.extras ts)) (none_left leaf.tables (omega arith)) b in (
+    let none : teams_in n ≡ 0 → Bounds a (leaf_so_far leaf.prices leaf.extras []) = λ (z : teams_in n ≡ 0). subst (λ ts. Bounds a (leaf_so_far leaf.prices leaf.extras ts)) (nil_from_length leaf.tables (omega arith)) b in (
       extras_next a leaf.prices [] (priced n),
       Holds (_, refl, length-map leaf.prices signed_decimal ∙ w.prices) (Spelled leaf.prices (record { count = w.prices; each = w.price_range }) refl
           (after_extra_holds a leaf.prices [] (priced n) (λ z y.

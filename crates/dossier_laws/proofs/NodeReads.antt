@@ -3,17 +3,13 @@ use Rattle.std.proofs.Common.{◌≡◌, ◌+◌, List, [], ◌∷◌, ◌++◌,
 use Rattle.crew_terms.specs.Limits.{window_of, root_limits}
 use Rattle.crew_terms.specs.Tree.{with_window, with_pair}
 use Rattle.crew_terms.specs.declared.Pair.TheVariants.{Forbidden, Required}
-use Rattle.dossier_terms.specs.declared.Reason.{Reason}
 use Rattle.dossier_terms.specs.Dossier.{Written, Bare, Window, Pairs, splits, closed, left_open, depth, IsGood}
 use Rattle.crew_terms.specs.Words.{Words}
 use Rattle.dossier_terms.specs.Lines.{window_line, pair_line, tree_line, end_line, node_lines}
-use Rattle.dossier_terms.specs.Reading.{Reading, Said, No, Draft, Counts, Frame, Lower, Upper, Without, With, limits_below, node_done, whole, Trees, Nodes, Ends}
+use Rattle.dossier_terms.specs.Reading.{Reading, Said, Draft, Counts, Frame, Lower, Upper, Without, With, limits_below, node_done, whole, Trees, Nodes, Ends}
 use Rattle.dossier_terms.specs.Table.{tree_row, node_row, window_row, pair_row, leaf_row, end_row}
-use Rattle.dossier_laws.proofs.SoFar.{IsPlanned, IsTreePart, NodeHolds, FramesHold, IsReading, spelled, Follows, draft_lines, counts_line, nodes_so_far, frames_lines}
+use Rattle.dossier_laws.proofs.SoFar.{IsPlanned, IsTreePart, NodeHolds, FramesHold, IsReading, spelled, Follows, refused, draft_lines, counts_line, nodes_so_far, frames_lines}
 use Rattle.dossier_laws.proofs.Rules.{must_then, when_then, spells_then, goes_then, finish_then}
-
-refused : (s : Reading) (ws : Words) (q : Reason) → Follows s ws (No q)
-refused s ws q = tt
 
 -- ---- a whole node
 

@@ -7,19 +7,15 @@ use Rattle.std.proofs.lemmas.List.{map-append, get_or-set_other, length-set}
 use Rattle.std.proofs.lemmas.List.Elements.{Contains-get_or}
 use Rattle.crew_terms.specs.Instance.{Instance, IsInstance, no_task}
 use Rattle.crew_terms.specs.Plan.{Plan, Job, IsLegal, job_of, unassigned_count, Does}
-use Rattle.dossier_terms.specs.declared.Reason.{Reason}
 use Rattle.crew_terms.specs.Limits.{copies}
 use Rattle.crew_terms.specs.Words.{Words}
 use Rattle.dossier_terms.specs.Lines.{plan_line, do_line, jobs_from, plan_lines}
-use Rattle.dossier_terms.specs.Reading.{Reading, Said, More, No, Draft, Plans, Jobs, Trees, jobs_due}
+use Rattle.dossier_terms.specs.Reading.{Reading, Said, More, Draft, Plans, Jobs, Trees, jobs_due}
 use Rattle.dossier_terms.specs.Rules.{Holds, HoldsBy, Spelled, On}
 use Rattle.dossier_terms.specs.Table.{Reaches, IsDoLine, plan_row, job_row, after_job}
-use Rattle.dossier_laws.proofs.SoFar.{IsPoolPart, AreRoutes, IsPlanPart, AreJobs, IsReading, spelled, Follows, routes_lines, jobs_lines}
+use Rattle.dossier_laws.proofs.SoFar.{IsPoolPart, AreRoutes, IsPlanPart, AreJobs, IsReading, spelled, Follows, refused, routes_lines, jobs_lines}
 use Rattle.dossier_laws.proofs.Lists.{at_end, by_recursion}
 use Rattle.dossier_laws.proofs.Rules.{must_then, by_then, spells_then, goes_then}
-
-refused : (s : Reading) (ws : Words) (q : Reason) → Follows s ws (No q)
-refused s ws q = tt
 
 -- ---- jobs of plans
 

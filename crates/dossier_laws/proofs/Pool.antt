@@ -9,19 +9,15 @@ use Rattle.crew_terms.specs.Instance.{Instance, IsInstance, task_of, no_task}
 use Rattle.crew_terms.specs.Limits.{IsRoute, GoesOn, IsPermittedVisit, window_of, root_limits}
 use Rattle.crew_terms.specs.declared.Visit.{Visit}
 use Rattle.crew_terms.specs.declared.Task.{Task}
-use Rattle.dossier_terms.specs.declared.Reason.{Reason}
 use Rattle.dossier_terms.specs.Dossier.{Route, IsPooled}
 use Rattle.crew_terms.specs.Words.{Words}
 use Rattle.dossier_terms.specs.Lines.{pool_line, route_line, visit_words, head_lines, pool_lines}
-use Rattle.dossier_terms.specs.Reading.{Reading, Said, More, No, Draft, Pools, Routes, Plans, routes_due}
+use Rattle.dossier_terms.specs.Reading.{Reading, Said, More, Draft, Pools, Routes, Plans, routes_due}
 use Rattle.dossier_terms.specs.Rules.{Holds, Spelled, On}
 use Rattle.dossier_terms.specs.Table.{Says, Reaches, draft, IsPairs, pool_row, route_row}
-use Rattle.dossier_laws.proofs.SoFar.{IsHead, IsPoolPart, AreRoutes, IsReading, spelled, Follows, routes_lines}
+use Rattle.dossier_laws.proofs.SoFar.{IsHead, IsPoolPart, AreRoutes, IsReading, spelled, Follows, refused, routes_lines}
 use Rattle.dossier_laws.proofs.Lists.{All-at, AllPairs-at, at_end}
 use Rattle.dossier_laws.proofs.Rules.{must_then, spells_then, goes_then, reaches_all}
-
-refused : (s : Reading) (ws : Words) (q : Reason) → Follows s ws (No q)
-refused s ws q = tt
 
 -- ---- what is read
 

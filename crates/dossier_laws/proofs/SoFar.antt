@@ -7,6 +7,7 @@ use Rattle.crew_terms.specs.Plan.{IsLegal, job_of, unassigned_count}
 use Rattle.crew_terms.specs.declared.Team.{Team}
 use Rattle.crew_terms.specs.declared.Task.{Task}
 use Rattle.dossier_terms.specs.declared.Size.{Size}
+use Rattle.dossier_terms.specs.declared.Reason.{Reason}
 use Rattle.std.specs.List.{AllByRecursion}
 use Rattle.crew_terms.specs.Limits.{Limits, root_limits, copies, tasks_in, teams_in, window_of, pair_of}
 use Rattle.crew_terms.specs.Leaf.{Prices as TaskPrices, IsPrice, HoldsLocally}
@@ -221,3 +222,7 @@ abbrev pub Follows : Reading → Words → Said → Type 0
 Follows s ws (More next) = (spelled next ≡ spelled s ++ ws ∷ []) × IsReading next
 Follows s ws (Whole d) = (lines_of d ≡ spelled s ++ ws ∷ []) × IsGood d
 Follows s ws (No r) = Unit {0}
+
+-- nothing is asked where the line is refused
+pub refused : (s : Reading) (ws : Words) (q : Reason) → Follows s ws (No q)
+refused s ws q = tt
