@@ -1,5 +1,5 @@
 -- sets of skills, word by word
-use Rattle.std.proofs.Common.{◌≡◌, ◌<◌, ◌+◌, ◌*◌, ◌%◌, ◌^◌, ◌⊎◌, ◌++◌, ◌↔◌, inl, inr, ℕ, zero, suc, ℤ, pos, negsuc, ◌≤ℤ◌, Bool, true, false, List, [], ◌∷◌, length, take, get_or, refl, sym, subst, ap, ◌∙◌, arith, FitsSigned, to_z, of_z, lit<}
+use Rattle.std.proofs.Common.{◌≡◌, ◌<◌, ◌+◌, ◌*◌, ◌%◌, ◌^◌, ◌⊎◌, ◌++◌, ◌↔◌, inl, inr, ℕ, zero, suc, ℤ, pos, negsuc, ◌≤ℤ◌, Bool, true, false, List, [], ◌∷◌, length, take, get_or, refl, sym, subst, ap, ◌∙◌, arith, FitsSigned, to_z, of_z}
 use Rattle.std.specs.Prelude.{Contains, bit_or, ◌==◌}
 use Rattle.std.specs.List.{AllByRecursion}
 use Rattle.std.specs.Int.{bit_at, w64}
@@ -7,7 +7,7 @@ use Rattle.std.proofs.lemmas.Bool.{cases_eq}
 use Rattle.std.proofs.lemmas.Int.{to_z-of_z, ints}
 use Rattle.std.proofs.lemmas.List.{take_more, take_all}
 use Rattle.std.proofs.lemmas.List.Elements.{Contains-append_left, Contains-push, Contains-push_cases}
-use Rattle.std.proofs.lemmas.Nat.Bits.{bit_at-zero, bit_at_set_same, bit_at_set_other}
+use Rattle.std.proofs.lemmas.Nat.Bits.{bit_at_set_same, bit_at_set_other}
 use Rattle.crew_terms.specs.Words.{Words, words_of}
 use Rattle.field_table.specs.Fields.{Spells}
 use Rattle.field_table.specs.declared.fields.Kind.TheVariants.{Number}
@@ -35,17 +35,6 @@ pub record Tally (words : Words) (k : ℕ) (known : Bool) (set : ℕ) : Type 0 w
   pub spelled : SpellAll (take k words) numbers
   pub good : known ≡ true → AllByRecursion IsSkill numbers × IsSetOf numbers set
   pub bad : known ≡ false → AllByRecursion IsSkill numbers → ⊥
-
-pub tally_none : (words : Words) → Tally words 0 true 0
-tally_none words = record {
-  numbers = [];
-  spelled = tt;
-  good = λ _. (tt, record { small = lit< tt; members = λ n. ((λ h. absurd (let e = bit_at-zero n in cc)), (λ h. absurd (none n h))) });
-  bad = λ e. cc;
-}
-  where
-    none : (n : ℕ) → Contains [] (pos n) → ⊥
-    none n (k, h, e) = omega arith
 
 spell_push : (words : Words) (numbers : List ℤ) (w : List ℕ) (z : ℤ) → SpellAll words numbers → Spells Number w z → SpellAll (words ++ w ∷ []) (numbers ++ z ∷ [])
 spell_push [] [] w z all here = (here, tt)
