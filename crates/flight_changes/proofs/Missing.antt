@@ -15,9 +15,6 @@ module _ {A B : Type 0} (p : B → Bool) (xs : List A) (i : ℕ) (x : A) (below 
     pub passed_over : p (f x) ≡ false → find p (map f xs) ≡ find p (map f (drop (i + 1) xs))
     passed_over fails = rest ∙ ap (λ ys. find p (map f ys)) from_here ∙ rw fails refl
 
-    pub stopped_at : p (f x) ≡ true → find p (map f xs) ≡ Some (f x)
-    stopped_at holds = rest ∙ ap (λ ys. find p (map f ys)) from_here ∙ rw holds refl
-
   module _ (g : A → List B) (rest : find p (flat_map g xs) ≡ find p (flat_map g (drop i xs))) where
     pub row_passed : find p (g x) ≡ None → find p (flat_map g xs) ≡ find p (flat_map g (drop (i + 1) xs))
     row_passed none =
