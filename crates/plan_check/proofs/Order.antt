@@ -25,9 +25,6 @@ starts_rise vs order i j d l m = at (cases_lt i j)
 module _ (vs : List Turn) (at : ℕ) (v : Turn) (order : IsInOrder vs) (last : All (λ (w : Turn). w.task < v.task) vs) (within : at ≤ length vs)
     (below : (k : ℕ) (d : Turn) → k < at → (get_or vs k d).start ≤ v.start)
     (above : (k : ℕ) (d : Turn) → at ≤ k → k < length vs → v.start < (get_or vs k d).start) where
-  new : List Turn
-  new = insert vs at v
-
   before_it : (k : ℕ) (d : Turn) → k < at → Precedes (get_or vs k d) v
   before_it k d l = elim (cases_lt (get_or vs k d).start v.start) [ inl m ↦ inl m | inr m ↦ inr (let b = below k d l in omega arith, last k d (omega arith)) ]
 

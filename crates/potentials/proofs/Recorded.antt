@@ -5,7 +5,7 @@ use Rattle.std.proofs.lemmas.Int.{ints}
 use Rattle.std.proofs.lemmas.Bool.{cases_lt}
 use Rattle.std.proofs.lemmas.List.Elements.{All-push, Contains-push, Contains-append_left}
 use Rattle.potentials.specs.Followers.{potential_at}
-use Rattle.potentials.specs.Records.{AreRecords, IsRecord, IsRecordOf}
+use Rattle.potentials.specs.Records.{IsRecord, IsRecordOf}
 use Rattle.potentials.proofs.Most.{IsMost}
 use Rattle.potentials.specs.declared.records.Record.{Record}
 
@@ -19,12 +19,6 @@ pub record RecordsFrom (potentials : List ℤ) (opens from : ℕ) (records : Lis
   pub all : (b : ℕ) → from ≤ b → b < length potentials → pos 0 <ℤ potential_at potentials b → IsReached potentials opens records b
 
 module _ (potentials : List ℤ) (opens : ℕ) where
-  pub whole : (records : List Record) (from : ℕ) → from ≡ 0 → RecordsFrom potentials opens from records → AreRecords potentials opens records
-  whole records from z are = record {
-    each = are.each;
-    all = λ b h p. are.all b (omega arith) h p;
-  }
-
   pub no_record : (after from : ℕ) (most : ℤ) (records : List Record) → after ≡ from + 1 → IsMost potentials after most → potential_at potentials from ≤ℤ most
       → RecordsFrom potentials opens after records → RecordsFrom potentials opens from records
   no_record after from most records one is low are = record { each = are.each; all = all }
