@@ -22,7 +22,7 @@ impl Model for Name {
 
     ghost Value = { List ℕ };
 
-    ghost use Rattle.std.specs.Prelude.{take, drop, length, replicate, ◌-◌, ◌++◌};
+    ghost use Rattle.std.specs.Prelude.{take, length, replicate, ◌-◌, ◌++◌};
     ghost use Rattle.crew_terms.specs.Name.{IsStored};
     ghost use Rattle.crew_terms.specs.NameBack.{stored_again};
 

@@ -6,7 +6,7 @@ use Rattle.std.specs.List.Sorted.{IsStrictlyIncreasing}
 use Rattle.std.proofs.Math.Nat.{pow-succ'}
 use Rattle.std.proofs.Math.Pow.{pow_mono}
 use Rattle.std.proofs.lemmas.Bool.{cases_lt}
-use Rattle.std.proofs.lemmas.List.{length-map}
+use Rattle.std.proofs.lemmas.List.{length-map, take_more}
 use Rattle.dossier_terms.specs.Dossier.{mask_of}
 use Rattle.head_check.specs.Numbers.{natural, naturals, AreBelow}
 
@@ -24,11 +24,6 @@ pub natural_at : (zs : List ℤ) (n : ℕ) → n < length zs → natural (slice_
 natural_at [] n l = absurd (omega arith)
 natural_at (z ∷ zs) zero l = refl
 natural_at (z ∷ zs) (suc n) l = natural_at zs n (omega arith)
-
-take_more : (xs : List ℕ) (n : ℕ) → n < length xs → take (suc n) xs ≡ take n xs ++ get_or xs n 0 ∷ []
-take_more [] n l = absurd (omega arith)
-take_more (x ∷ xs) zero l = refl
-take_more (x ∷ xs) (suc n) l = ap (λ ys. x ∷ ys) (take_more xs n (omega arith))
 
 mask_more : (xs : List ℕ) (s : ℕ) → mask_of (xs ++ s ∷ []) ≡ mask_of xs + 2 ^ s
 mask_more [] s = omega arith
@@ -62,16 +57,13 @@ pub skills_step : (ss : List ℕ) (n set least skill : ℕ) → SkillsSoFar ss n
 skills_step ss n set least skill h e l rise small = record {
   rising = λ k b. rises k b (cases_lt (k + 1) n);
   is = ap (λ x. x + 2 ^ skill) h.is ∙ ap (λ s. mask_of (take n ss) + 2 ^ s) e ∙ sym (mask_more (take n ss) (get_or ss n 0))
-      ∙ ap mask_of (sym (take_more ss n l)) ∙ ap (λ m. mask_of (take m ss)) next;
+      ∙ ap mask_of (sym (take_more ss n 0 l));
   small = power_more set least skill h.small rise;
   most = omega arith;
   none = λ f. absurd (omega arith);
   last = λ k f. let g : k ≡ n = omega arith in ap (λ x. x + 1) (e ∙ ap (λ m. get_or ss m 0) (sym g));
 }
   where
-    next : suc n ≡ n + 1
-    next = omega arith
-
     rises : (k : ℕ) → k + 1 < n + 1 → (k + 1 < n) ⊎ (n ≤ k + 1) → get_or ss k 0 < get_or ss (k + 1) 0
     rises k b (inl c) = h.rising k c
     rises k b (inr c) =
@@ -103,10 +95,7 @@ below_more a b zs le h = λ k d l. let x = h k d l in (x.0, x.1, (let y = x.2 in
 pub pushed : (zs : List ℤ) (n t : ℕ) (copied : List ℕ) → n < length zs → t ≡ get_or (naturals zs) n 0 → copied ≡ take n (naturals zs) → copied ++ t ∷ [] ≡ take (n + 1) (naturals zs)
 pushed zs n t copied l e so_far =
     let b : n < length (naturals zs) = (let m = length-map zs natural in omega arith) in
-    ap (λ x. x ++ t ∷ []) so_far ∙ ap (λ x. take n (naturals zs) ++ x ∷ []) e ∙ sym (take_more (naturals zs) n b) ∙ ap (λ m. take m (naturals zs)) next
-  where
-    next : suc n ≡ n + 1
-    next = omega arith
+    ap (λ x. x ++ t ∷ []) so_far ∙ ap (λ x. take n (naturals zs) ++ x ∷ []) e ∙ sym (take_more (naturals zs) n 0 b)
 
 pub naturals_below : (most : ℕ) (zs : List ℤ) → AreBelow (most + 1) zs → All (λ n. n ≤ most) (naturals zs)
 naturals_below most [] h k d l = absurd (omega arith)

@@ -1,5 +1,5 @@
 // Whether a task's potentials cover what can follow, by the records of the next task and the least potentials of this one.
-ghost use Rattle.std.specs.Prelude.{◌≡◌, ◌+ℤ◌, ◌≤ℤ◌, ◌↔◌, All, IsTrue};
+ghost use Rattle.std.specs.Prelude.{◌+ℤ◌, ◌≤ℤ◌, ◌↔◌, All, IsTrue};
 ghost use Rattle.potentials.specs.Followers.{Allows, IsFalling};
 
 use crate::records::Record;

@@ -1,5 +1,5 @@
 // Prices of tasks, and of pairs of a team and a task.
-ghost use Rattle.std.specs.Prelude.{◌≡◌, ◌<◌, length, map, pos, replicate, slice_set, IfOk};
+ghost use Rattle.std.specs.Prelude.{◌≡◌, ◌<◌, length, pos, replicate, slice_set, IfOk};
 ghost use Rattle.crew_terms.specs.Leaf.{IsPrice, pi_of, rho_of};
 ghost use Rattle.potentials.specs.Prices.{ArePrices, ArePricesOf, rows_of, with_rho, zero_prices};
 
