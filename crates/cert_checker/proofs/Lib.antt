@@ -1,4 +1,5 @@
 pub mod Judged
+pub mod Steps
 pub mod PoolRows
 pub mod PlanRows
 pub mod TreeRows

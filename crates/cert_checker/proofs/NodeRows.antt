@@ -1,6 +1,6 @@
 -- where a walk stands behind a line of a node, and the rows of the table for these lines
 use Rattle.std.proofs.Common.{◌≡◌, ◌≤◌, ◌<◌, ℕ, List, [], ◌∷◌, length, Bool, true, false, ap, subst, sym, refl, ◌∙◌, arith}
-use Rattle.std.specs.Prelude.{if◌then◌else◌, codes, Option, Result, IfOk, Ok, Err}
+use Rattle.std.specs.Prelude.{if◌then◌else◌, codes, Option}
 use Rattle.std.specs.Global.{Box}
 use Rattle.std.specs.Box.{with_value}
 use Rattle.std.proofs.lemmas.List.{length-map}
@@ -28,19 +28,7 @@ use Rattle.cert_checker.specs.declared.due.Draft.{Draft as Held}
 use Rattle.cert_checker.specs.declared.due.TreeDraft.{TreeDraft}
 use Rattle.cert_checker.specs.declared.due.Due.TheVariants.{Node as NodeDue, End as EndDue}
 use Rattle.cert_checker.specs.declared.due.Step.{Step}
-use Rattle.cert_checker.specs.declared.due.Step.TheVariants.{More, Whole, No}
-
--- ---- steps and rules
-
--- what some rules tell, a row of the table tells that they are the rest of
-pub tells_row : (Rules Row : Said → Type 0) (step : Step) → ((said : Said) → Rules said → Row said) → Tells Rules step → Tells Row step
-tells_row Rules Row (More due) row t = (t.0, row (Goes t.0) t.1, t.2)
-tells_row Rules Row (Whole ended) row t = (t.0, row _ t.1, t.2)
-tells_row Rules Row (No reason) row t = row (Refuses reason) t
-
-pub if_ok : {E : Type 0} (r : Result Step E) (P Q : Step → Type 0) → ((step : Step) → P step → Q step) → IfOk r P → IfOk r Q
-if_ok (Ok step) P Q f h = f step h
-if_ok (Err e) P Q f h = h
+use Rattle.cert_checker.proofs.Steps.{tells_row}
 
 -- ---- where a walk stands
 

@@ -12,7 +12,7 @@ use Rattle.crew_terms.specs.Verdict.{IsVerdict, IsPlanOf}
 use Rattle.crew_terms.specs.declared.PlanVerdict.{PlanVerdict}
 use Rattle.dossier_terms.specs.declared.Reason.TheVariants as reasons
 use Rattle.dossier_terms.specs.Lines.{plan_line, do_line}
-use Rattle.dossier_terms.specs.Reading.{Said, More as Goes, Whole as Ends, No as Refuses, Draft, Jobs, Trees, jobs_due}
+use Rattle.dossier_terms.specs.Reading.{Said, More as Goes, Draft, Jobs, Trees, jobs_due}
 use Rattle.dossier_terms.specs.Rules.{Must, Holds, HoldsBy, FailsBy, Spelled, On}
 use Rattle.dossier_terms.specs.Table.{IsDoLine, plan_row, job_row, after_job}
 use Rattle.cert_format.specs.Lines.{IsJobOf}
@@ -20,23 +20,9 @@ use Rattle.head_check.specs.Numbers.{naturals, AreBelow}
 use Rattle.cert_checker.specs.Due.{IsBegun, Tells, draft_of}
 use Rattle.cert_checker.specs.declared.due.Draft.{Draft as Held}
 use Rattle.cert_checker.specs.declared.due.Due.TheVariants.{Job as JobDue, Tree as TreeDue}
-use Rattle.cert_checker.specs.declared.due.Step.{Step}
-use Rattle.cert_checker.specs.declared.due.Step.TheVariants.{More, Whole, No}
-
--- what is told by the rules of a row is told by the row, where the row is these rules after a line's words
-pub told_by : (Rules Row : Said → Type 0) (step : Step) → ((said : Said) → Rules said → Row said) → Tells Rules step → Tells Row step
-told_by Rules Row (More due) row told = (told.0, row (Goes told.0) told.1, told.2)
-told_by Rules Row (Whole ended) row told = (told.0, row (Ends told.0) told.1, told.2)
-told_by Rules Row (No reason) row told = row (Refuses reason) told
+use Rattle.cert_checker.specs.declared.due.Step.TheVariants.{More, No}
 
 -- ---- the line `plan`
-
-pub jobs_left : (b : Draft) (more from : ℕ) → 0 < more → jobs_due b more from ≡ Jobs b (more - 1) from
-jobs_left b zero from l = absurd (omega arith)
-jobs_left b (suc k) from l = let e : k ≡ suc k - 1 = omega arith in ap (λ n. Jobs b n from) e
-
-pub jobs_none : (b : Draft) (more from : ℕ) → more ≡ 0 → jobs_due b more from ≡ Trees b
-jobs_none b more from e = ap (λ n. jobs_due b n from) e
 
 pub plan_more : (b : Draft) (u l : ℕ) (ws : Words) → u ≤ length b.instance.tasks → l ≤ length b.instance.tasks → ws ≡ plan_line u l
     → plan_row b ws (Goes (jobs_due (record b { bound = l }) (length b.instance.tasks - u) 0))

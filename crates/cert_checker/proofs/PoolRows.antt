@@ -14,7 +14,7 @@ use Rattle.crew_terms.specs.declared.Visit.{Visit}
 use Rattle.dossier_terms.specs.declared.Reason.TheVariants as reasons
 use Rattle.dossier_terms.specs.Dossier.{Route}
 use Rattle.dossier_terms.specs.Lines.{pool_line, route_line, visit_words}
-use Rattle.dossier_terms.specs.Reading.{More as Goes, No as Refuses, Draft, Routes, Plans, routes_due}
+use Rattle.dossier_terms.specs.Reading.{More as Goes, No as Refuses, Draft, routes_due}
 use Rattle.dossier_terms.specs.Rules.{Holds, Fails, Spelled, On, Begins}
 use Rattle.dossier_terms.specs.Table.{IsRouteLine, IsPairs, draft, pool_row, route_row}
 use Rattle.node_limits.specs.Rest.{State, Rest, IsRestOver, limits_over, trail_over}
@@ -31,14 +31,7 @@ use Rattle.cert_checker.specs.declared.due.Draft.{Draft as Held}
 use Rattle.cert_checker.specs.declared.due.Step.{Step}
 use Rattle.cert_checker.specs.declared.due.Step.TheVariants.{More, Whole, No}
 
--- ---- what is due
-
-pub routes_left : (b : Draft) (more : ℕ) → 0 < more → routes_due b more ≡ Routes b (more - 1)
-routes_left b zero l = absurd (omega arith)
-routes_left b (suc k) l = let e : k ≡ suc k - 1 = omega arith in ap (Routes b) e
-
-pub routes_none : (b : Draft) (more : ℕ) → more ≡ 0 → routes_due b more ≡ Plans b
-routes_none b more e = ap (routes_due b) e
+-- ---- the limits of the root
 
 none_left : (f : State → Limits) (past : List State) → map f past ≡ [] → past ≡ []
 none_left f [] e = refl

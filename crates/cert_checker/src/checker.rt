@@ -176,14 +176,14 @@ impl Checker {
         requires plain { IsLine line.now }
         requires few { self.old.lines < 2 ^ 62 }
         ensures judged { (reading : Reading) → IsReached reading → Awaits due reading → IfOk result (λ said. IsJudged self.old.lines reading (words_of line.now) said self.new) }
-        ensures memory { OnErr result (self.new.at ≡ State.Spent) }
+        ensures memory { OnErr result (self.new ≡ record self.old { at = State.Spent }) }
     {
         one_answer();
         reached_goes_on();
         whole_is_true();
-        self.lines += 1;
         let words = self.cuts.split(line);
         let step = judge(self.alloc, due, words)?;
+        self.lines += 1;
         let said = said_after(&step, self.lines);
         put(&mut self.state, state_after(step, self.lines));
         Ok(said)
@@ -200,7 +200,7 @@ impl Checker {
 
         ensures refused { (number : ℕ) (reason : Reason) → self.old.at ≡ State.Refused number reason → (result ≡ Ok (Said.No number reason)) × (self.new ≡ self.old) }
         ensures spent { self.old.at ≡ State.Spent → IsErr result }
-        ensures memory { OnErr result (self.new.at ≡ State.Spent) }
+        ensures memory { OnErr result (self.new ≡ record self.old { at = State.Spent }) }
     {
         match mem::replace(&mut self.state, State::Spent) {
             State::Due(due) => self.judge_line(due, line),
@@ -218,7 +218,9 @@ impl Checker {
 
     /// Whether a dossier is whole, and no line was read after it.
     pub fn is_between(&self) -> bool
-        ensures { IsTrue result ↔ IsEnded self.now.at }
+        ensures ended { IsTrue result ↔ IsEnded self.now.at }
+        // The dossier that is whole is then what it says.
+        ensures true_yes { IsTrue result → (d : Dossier) × IsWholeAt self.now.at d × IsTrueYes d }
     {
         matches!(self.state, State::Whole(_))
     }
@@ -255,7 +257,6 @@ impl Checker {
     pub fn plan(&self) -> &Plan
         requires { IsEnded self.now.at }
         ensures plan { (d : Dossier) → IsWholeAt self.now.at d → result.now ≡ d.plan }
-        ensures true_yes { (d : Dossier) × IsWholeAt self.now.at d × IsTrueYes d }
     {
         match &self.state {
             State::Whole(ended) => &ended.draft.plan,

@@ -9,7 +9,8 @@ use Rattle.cert_checker.specs.declared.due.Draft.{Draft}
 use Rattle.cert_checker.specs.declared.due.TreeDraft.{TreeDraft}
 use Rattle.cert_checker.specs.declared.due.Due.TheVariants.{Node as NodeDue}
 use Rattle.cert_checker.specs.declared.due.Step.TheVariants.{No}
-use Rattle.cert_checker.proofs.NodeRows.{if_ok, node_step, node_rest, node_fault, window_says, pair_says, bare_says, open_says, closed_says}
+use Rattle.cert_checker.proofs.Steps.{if_ok}
+use Rattle.cert_checker.proofs.NodeRows.{node_step, node_rest, node_fault, window_says, pair_says, bare_says, open_says, closed_says}
 use Rattle.cert_checker.proofs.node.node_line.Goals as goal
 
 pub returns-in-Err : goal.returns-in-Err

@@ -10,7 +10,8 @@ use Rattle.cert_format.specs.Lines.{IsJobLine}
 use Rattle.head_check.specs.Numbers.{AreBelow, naturals}
 use Rattle.cert_checker.specs.Due.{IsBegun, Tells, draft_of}
 use Rattle.cert_checker.specs.declared.due.Draft.{Draft}
-use Rattle.cert_checker.proofs.PlanRows.{told_by, below_from, naturals-pos, job_says, line_of_counts, plan_of_more}
+use Rattle.cert_checker.proofs.Steps.{tells_row}
+use Rattle.cert_checker.proofs.PlanRows.{below_from, naturals-pos, job_says, line_of_counts, plan_of_more}
 use Rattle.cert_checker.proofs.plan.job_line.Goals as goal
 
 pub returns-then-task-from : goal.returns-then-task-from
@@ -57,7 +58,7 @@ returns c = λ reading a.
     let next : c.in-Job.task + 1 ≡ suc c.in-Job.task = omega arith in
     let rules = after_job (record (draft_of b) { plan = c.assign.new.self }) c.args.more (c.in-Job.task + 1) in
     subst (λ r. Tells (Says r c.args.words) c.judge_job.result) (sym (a.1 ∙ ap (λ (d : Draft). Jobs (draft_of d) c.args.more c.args.from) (sym c.deref_mut-held.ensures.value)))
-    (told_by rules (job_row (draft_of b) c.args.more c.args.from c.args.words) c.judge_job.result
+    (tells_row rules (job_row (draft_of b) c.args.more c.args.from c.args.words) c.judge_job.result
     (λ said rest. job_says (draft_of b) c.args.more c.args.from c.args.words (c.in-Job.task, job) said line h.3
     (Holds c.if-task-from.false
     (subst (λ n. after_job (record (draft_of b) { plan = slice_set b.plan c.in-Job.task (Some job) }) c.args.more n said) next
