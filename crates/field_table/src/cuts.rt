@@ -100,6 +100,7 @@ impl Cuts {
         })
     }
 
+    /// Cuts a line into the room that was taken, and gives how many words it has.
     fn fill(&mut self, line: &[u8]) -> usize
         requires { length line.now ≤ 131072 }
         ensures count { result ≤ vec_len self.new.cuts }
