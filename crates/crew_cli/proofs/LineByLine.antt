@@ -133,13 +133,6 @@ opens old new left later count more o a is = record {
   few = (let h = a.handed in let f = o.few in let n = length-append new.line (10 ∷ []) in omega arith);
 }
 
--- fewer lines were judged than a checker may judge
-pub few_lines : (first : Reader) (left0 : Option (List ℕ)) (start : Checked) (old new : Reader) (left later : Option (List ℕ)) (checker : Checked) → IsSoFar first left0 start old left checker
-    → Advances old left progress.Line new later → checker.lines < 2 ^ 62
-few_lines first left0 start old new left later checker s a =
-    let g = opens old new left later checker.lines (checker.lines + 1) s.going a refl in
-    let w = g.within in let f = g.few in omega arith
-
 -- what the table says where the checker says this
 
 goes : (lines : ℕ) (said : Said) (at : State) (due : Reading) (ws : Words) (answer : Answer) → Says due ws answer → said ≡ said_of (lines + 1) answer

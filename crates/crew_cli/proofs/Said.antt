@@ -1,6 +1,5 @@
 -- what is written for the dossiers of an input, one after another
 use Rattle.std.proofs.Common.{◌≡◌, ◌^◌, ◌++◌, ℕ, List, [], ◌∷◌, length, take, Option, None, Some, Result, Ok, Err, ap, subst, sym, refl, ◌∙◌, arith, append_assoc, append-nil}
-use Rattle.std.proofs.Math.Seq.{take-length}
 use Rattle.std.specs.Prelude.{All, IfSome, OnErr, OnOk}
 use Rattle.std.specs.List.{flat_map}
 use Rattle.std.proofs.lemmas.List.Concat.{flat_map-append}
@@ -121,20 +120,6 @@ on_ok_goes (Err e) f p = tt
 pub on_err_goes : {X E P Q : Type 0} (r : Result X E) → (P → Q) → OnErr r P → OnErr r Q
 on_err_goes (Ok x) f p = tt
 on_err_goes (Err e) f p = f p
-
--- all of a piece is a front of it
-pub all_is_part : (got added : Option (List ℕ)) (piece : List ℕ) → Appended got added piece → AppendedPart got added piece
-all_is_part None added piece wrote = wrote
-all_is_part (Some bytes) added piece wrote = (length piece, omega arith, wrote ∙ ap (λ x. Some (bytes ++ x)) (sym (take-length piece)))
-
--- nothing was read or written yet
-pub front_none : (left got : Option (List ℕ)) → OfBytes left got got SaysFront
-front_none None got = tt
-front_none (Some input) got = (
-  [],
-  appended_none got,
-  record { dossiers = []; rest = input; text = refl; each = All-nil IsTrueYes; part = []; lines = refl; next = Nothing refl },
-)
 
 pub yes_lines_none : (left got : Option (List ℕ)) → OfBytes left got got SaysYesLines
 yes_lines_none None got = tt

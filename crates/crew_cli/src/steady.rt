@@ -1,9 +1,12 @@
-// The top call over sources and sinks that do not fail.
-ghost use Rattle.std.specs.Prelude.{◌≡◌, ◌≢◌, [], length};
+// The top call over sources and sinks in memory, and over such as do not fail.
+ghost use Rattle.std.specs.Prelude.{◌≡◌, ◌≢◌, ◌↔◌, ◌⊎◌, ◌++◌, ℕ, List, Some, [], length, map, string_bytes};
+ghost use Rattle.crew_cli.specs.Run.{AskFor, Says, IsFine};
+ghost use Rattle.crew_cli.specs.declared.run.Command.{Command};
 
 use crate::run::{Status, run};
 use crew_io::sink::{MemSink, SteadySink};
 use crew_io::source::{MemSource, SteadySource};
+use day_records::one_reading;
 use std::alloc::Global;
 
 /// The top call over a source and a sink that never fail: it answers no fault.
@@ -13,6 +16,16 @@ pub fn run_steady(
     src: &mut SteadySource,
     out: &mut SteadySink,
 ) -> Status
+    // Each status tells what the input is.
+    ensures says { (command : Command) → AskFor command (map (λ w. string_bytes w) words.now)
+        → (written : List ℕ) × Says command result (Some src.new.left) src.old.left written }
+
+    // Each input that is fine is done, or memory was wanting.
+    ensures complete { (command : Command) → AskFor command (map (λ w. string_bytes w) words.now)
+        → IsFine command src.old.left → (result ≡ Status.Done) ⊎ (result ≡ Status.Memory) }
+
+    ensures words { (result ≡ Status.Words) ↔ ((command : Command) → AskFor command (map (λ w. string_bytes w) words.now) → ⊥) }
+    ensures untouched { result ≡ Status.Words → src.new ≡ src.old }
     ensures reads { result ≢ Status.ReadFault }
     ensures writes { result ≢ Status.WriteFault }
 {
@@ -27,8 +40,22 @@ pub fn run_in_memory(
     src: &mut MemSource,
     out: &mut MemSink,
 ) -> Status
+    // Each status tells what the input is and what was written, also at a fault.
+    ensures says { (command : Command) → AskFor command (map (λ w. string_bytes w) words.now)
+        → (written : List ℕ) × (out.new.got ≡ out.old.got ++ written) × Says command result (Some src.new.left) src.old.left written }
+
+    ensures words { (result ≡ Status.Words) ↔ ((command : Command) → AskFor command (map (λ w. string_bytes w) words.now) → ⊥) }
+    ensures untouched { result ≡ Status.Words → (src.new ≡ src.old) × (out.new ≡ out.old) }
+
+    // No fault is told where no call is due to fail, of the sink while room is left.
     ensures reads { src.old.fails ≡ [] → result ≢ Status.ReadFault }
     ensures writes { out.old.fails ≡ [] → result ≡ Status.WriteFault → length out.new.got ≡ out.new.room }
+
+    // Then each input that is fine is done, if memory and room last.
+    ensures complete { (command : Command) → AskFor command (map (λ w. string_bytes w) words.now) → IsFine command src.old.left
+        → src.old.fails ≡ [] → out.old.fails ≡ []
+        → (result ≡ Status.Done) ⊎ (result ≡ Status.Memory) ⊎ ((result ≡ Status.WriteFault) × (length out.new.got ≡ out.new.room)) }
 {
+    one_reading();
     run(alloc, words, src, out)
 }

@@ -61,6 +61,7 @@ returns-in_default g c =
       outcome = stops c.args.reader.now (g.S.Source.left c.args.src.now) c.args.checker.now c.lines.reader c.advance-progress.new.self (g.S.Source.left c.lines.src) (g.S.Source.left c.advance-progress.new.src)
           c.lines.checker c.outcome_at_stop-outcome.new.checker c.advance-progress.result c.outcome_at_stop-outcome.result c.first_line_is_first.ensures s a c.in_default.not-Line c.outcome_at_stop-outcome.ensures;
       next = stop_opens c.args.reader.now c.advance-progress.new.self c.lines.checker c.outcome_at_stop-outcome.new.checker c.advance-progress.result c.outcome_at_stop-outcome.result c.outcome_at_stop-outcome.ensures;
+      memory = tt;
       fault = λ is.
           let e = stop_is_fault c.lines.checker c.advance-progress.result c.outcome_at_stop-outcome.result c.in_default.not-Line c.outcome_at_stop-outcome.ensures is in
           rose_from _ _ _ c.lines.invariant.later (c.advance-progress.ensures.fault s.going.going e);
