@@ -1,8 +1,6 @@
 -- numbers and names that a row of fields accepts
-use Rattle.std.proofs.Common.{◌≡◌, ◌≢◌, ◌≤◌, ◌<◌, ◌+◌, ◌^◌, ◌++◌, ◌⊎◌, inl, inr, [], ◌∷◌, ℕ, zero, suc, ℤ, pos, negsuc, ◌≤ℤ◌, ◌+ℤ◌, ◌-ℤ◌, List, Ok, Err, length, map, take, drop, drop-cons, get_or, ap, sym, refl, ◌∙◌, subst, arith, to_z, of_z, w64, w32, Fits, nat_abs, T}
-use Rattle.std.specs.Prelude.{FitsSigned}
-use Rattle.std.specs.Int.Signed.{non_neg}
-use Rattle.std.proofs.lemmas.Int.{ints, to_z_pos, to_z-of_z}
+use Rattle.std.proofs.Common.{◌≡◌, ◌≢◌, ◌≤◌, ◌<◌, ◌+◌, ◌^◌, ◌++◌, ◌⊎◌, inl, inr, [], ◌∷◌, ℕ, zero, suc, ℤ, pos, negsuc, ◌≤ℤ◌, ◌+ℤ◌, ◌-ℤ◌, List, Ok, Err, length, map, take, drop, drop-cons, get_or, ap, sym, refl, ◌∙◌, subst, arith, to_z, of_z, w64, nat_abs}
+use Rattle.std.proofs.lemmas.Int.{ints, to_z_pos}
 use Rattle.std.proofs.lemmas.List.{drop_all}
 use Rattle.std.specs.Fmt.{decimal}
 use Rattle.crew_terms.specs.Words.{Words}
@@ -135,13 +133,6 @@ named_row_of fs ws zs n a =
     let l = one_each (name_field ∷ fs) (take (suc (length fs)) (drop 1 ws)) zs a.accepted in
     let e : drop 1 zs ≡ firsts (length fs) 1 zs = firsts_from (length fs) 1 zs (omega arith) in
     subst (λ (xs : List ℤ). IsName (get_or ws 1 []) × AreIn fs (map cast xs) × (take (length fs) (drop 2 ws) ≡ map decimal (map cast xs))) e (named fs ws zs n a.accepted)
-
--- a cast value is a number that fits
-pub cast_fits : (z : ℤ) (n : ℕ) → FitsSigned w64 z → pos 0 ≤ℤ z → z ≤ℤ pos n → n < 2 ^ 32 → T (non_neg (to_z w64 (of_z w64 z))) × Fits w32 (cast z)
-cast_fits (pos m) n fit low high small =
-    let s = fit.sfits in
-    rw to_z-of_z (tt, record { fits = omega (arith, ints) })
-cast_fits (negsuc m) n fit low high small = absurd (omega (arith, ints))
 
 -- a line of one word, a name, these numbers and more
 pub named_read : (fs : List Field) (w name : List ℕ) (ns : List ℕ) (rest : Words) → IsName name → AreIn fs ns

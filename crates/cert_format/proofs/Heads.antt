@@ -1,11 +1,11 @@
 -- lines that are written one after another
-use Rattle.std.proofs.Common.{◌≡◌, ◌≢◌, ◌≤◌, ◌<◌, ◌+◌, ◌++◌, ◌∷◌, [], ℕ, suc, Bool, true, false, List, Option, None, Some, length, take, drop, map, get_or, cond, ap, sym, ◌∙◌, refl, arith, subst, append_assoc, append-nil}
+use Rattle.std.proofs.Common.{◌≡◌, ◌≢◌, ◌<◌, ◌+◌, ◌++◌, ◌∷◌, [], ℕ, suc, Bool, true, false, List, Option, None, Some, length, take, drop, map, get_or, cond, ap, sym, ◌∙◌, refl, arith, subst, append_assoc, append-nil}
 use Rattle.std.specs.Prelude.{◌==◌, codes, slice_index_or}
 use Rattle.std.specs.List.{filter, flat_map}
 use Rattle.std.specs.Fmt.{decimal}
 use Rattle.std.specs.Int.{bit_at}
 use Rattle.std.proofs.lemmas.Bool.{eqb-true}
-use Rattle.std.proofs.lemmas.List.{take_more, take_all, map-append, take-append-drop}
+use Rattle.std.proofs.lemmas.List.{take_more, map-append, take-append-drop}
 use Rattle.std.proofs.lemmas.List.Elements.{filter-append, All-get_or}
 use Rattle.std.proofs.lemmas.List.Concat.{flat_map-append}
 use Rattle.crew_io.specs.Io.{Appended, AppendedPart}
@@ -54,10 +54,6 @@ module _ {A : Type 0} (line : A → Words) (items : List A) (i : ℕ) (d : A) (w
       → AppendedPart old new (text_of_lines line items)
   line_part old mid new words is a b =
       part_after old mid new (text_of_lines line (take i items)) (line_text (line (get_or items i d))) (text_of_lines line items) a (subst (λ ws. AppendedPart mid new (line_text ws)) is b) lines_front
-
--- all lines were written
-pub lines_written : {A : Type 0} (line : A → Words) (items : List A) (i : ℕ) (old new : Option (List ℕ)) → length items ≤ i → Appended old new (text_of_lines line (take i items)) → Appended old new (text_of_lines line items)
-lines_written line items i old new h a = subst (λ ts. Appended old new (text_of_lines line ts)) (take_all i items h) a
 
 -- ---- skills of a set, one after another
 

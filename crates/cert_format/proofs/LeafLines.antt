@@ -146,10 +146,6 @@ route_line_of teams tasks team ws vs (x ∷ rest, is) pairs known first s =
       is ∙ ap (λ w. codes "route" ∷ w ∷ rest) word ∙ ap (λ xs. codes "route" ∷ decimal team ∷ xs) visits,
     )
 
-pub no_visits : (teams tasks : ℕ) (ws : Words) → ((vs : List Visit) → SpellVisits tasks vs (drop 2 ws) → ⊥) → (kind : LineKind) → IsRouteLine teams tasks ws kind → ⊥
-no_visits teams tasks ws none (kinds.Route team visits) (vs, e, route, is) = none vs (record { known = route.tasks; starts = route.starts; spelled = ap (drop 2) is })
-no_visits teams tasks ws none _ h = absurd h
-
 pub team_wrong : (teams tasks : ℕ) (ws : Words) (last : ℤ) → last +ℤ pos 1 ≡ pos teams → teams < 2 ^ 32 → NoneRead (number_field 0 last ∷ []) ws
     → (kind : LineKind) → IsRouteLine teams tasks ws kind → ⊥
 team_wrong teams tasks ws last e few none (kinds.Route team visits) (vs, f, route, is) =

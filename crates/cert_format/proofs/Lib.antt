@@ -1,4 +1,3 @@
-pub mod Numerals
 pub mod Fields
 pub mod Fronts
 pub mod Rests

@@ -30,6 +30,7 @@ fn put_size<K: Sink>(out: &mut K, instance: &Instance, nodes: u32) -> Result<(),
     ensures part { OnErr result (AppendedPart (K.got out.old) (K.got out.new) (line_text (size_line (size_of instance.now nodes)))) }
     ensures later { K.faults out.old ≤ K.faults out.new }
     ensures cause { IsErr result → Rose (K.faults out.old) (K.faults out.new) }
+    ensures told { OnOk result (K.faults out.new ≡ K.faults out.old) }
     ensures steady { K.steady out.old → K.steady out.new × (IsErr result → K.full out.new) }
 {
     let teams = number(instance.teams() as u32);
@@ -46,6 +47,7 @@ fn put_places<K: Sink>(out: &mut K, instance: &Instance) -> Result<(), WriteFaul
     ensures part { OnErr result (AppendedPart (K.got out.old) (K.got out.new) (flat_map line_text (map place_line instance.now.places))) }
     ensures later { K.faults out.old ≤ K.faults out.new }
     ensures cause { IsErr result → Rose (K.faults out.old) (K.faults out.new) }
+    ensures told { OnOk result (K.faults out.new ≡ K.faults out.old) }
     ensures steady { K.steady out.old → K.steady out.new × (IsErr result → K.full out.new) }
 {
     for p in 0..instance.places() as u32 {
@@ -62,6 +64,7 @@ fn put_travel<K: Sink>(out: &mut K, instance: &Instance, a: u32) -> Result<(), W
     ensures part { OnErr result (AppendedPart (K.got out.old) (K.got out.new) (line_text (travel_line (slice_index_or instance.now.travel a [])))) }
     ensures later { K.faults out.old ≤ K.faults out.new }
     ensures cause { IsErr result → Rose (K.faults out.old) (K.faults out.new) }
+    ensures told { OnOk result (K.faults out.new ≡ K.faults out.old) }
     ensures steady { K.steady out.old → K.steady out.new × (IsErr result → K.full out.new) }
 {
     let mut line = Line::new();
@@ -77,6 +80,7 @@ fn put_travels<K: Sink>(out: &mut K, instance: &Instance) -> Result<(), WriteFau
     ensures part { OnErr result (AppendedPart (K.got out.old) (K.got out.new) (flat_map line_text (map travel_line instance.now.travel))) }
     ensures later { K.faults out.old ≤ K.faults out.new }
     ensures cause { IsErr result → Rose (K.faults out.old) (K.faults out.new) }
+    ensures told { OnOk result (K.faults out.new ≡ K.faults out.old) }
     ensures steady { K.steady out.old → K.steady out.new × (IsErr result → K.full out.new) }
 {
     for a in 0..instance.places() as u32 {
@@ -102,6 +106,7 @@ fn put_team<K: Sink>(out: &mut K, team: &Team) -> Result<(), WriteFault>
     ensures part { OnErr result (AppendedPart (K.got out.old) (K.got out.new) (line_text (team_line team.now))) }
     ensures later { K.faults out.old ≤ K.faults out.new }
     ensures cause { IsErr result → Rose (K.faults out.old) (K.faults out.new) }
+    ensures told { OnOk result (K.faults out.new ≡ K.faults out.old) }
     ensures steady { K.steady out.old → K.steady out.new × (IsErr result → K.full out.new) }
 {
     let mut line = Line::new();
@@ -119,6 +124,7 @@ fn put_teams<K: Sink>(out: &mut K, instance: &Instance) -> Result<(), WriteFault
     ensures part { OnErr result (AppendedPart (K.got out.old) (K.got out.new) (flat_map line_text (map team_line instance.now.teams))) }
     ensures later { K.faults out.old ≤ K.faults out.new }
     ensures cause { IsErr result → Rose (K.faults out.old) (K.faults out.new) }
+    ensures told { OnOk result (K.faults out.new ≡ K.faults out.old) }
     ensures steady { K.steady out.old → K.steady out.new × (IsErr result → K.full out.new) }
 {
     for k in 0..instance.teams() as u32 {
@@ -132,6 +138,7 @@ fn put_task<K: Sink>(out: &mut K, task: &Task) -> Result<(), WriteFault>
     ensures part { OnErr result (AppendedPart (K.got out.old) (K.got out.new) (line_text (task_line task.now))) }
     ensures later { K.faults out.old ≤ K.faults out.new }
     ensures cause { IsErr result → Rose (K.faults out.old) (K.faults out.new) }
+    ensures told { OnOk result (K.faults out.new ≡ K.faults out.old) }
     ensures steady { K.steady out.old → K.steady out.new × (IsErr result → K.full out.new) }
 {
     let mut line = Line::new();
@@ -151,6 +158,7 @@ fn put_tasks<K: Sink>(out: &mut K, instance: &Instance) -> Result<(), WriteFault
     ensures part { OnErr result (AppendedPart (K.got out.old) (K.got out.new) (flat_map line_text (map task_line instance.now.tasks))) }
     ensures later { K.faults out.old ≤ K.faults out.new }
     ensures cause { IsErr result → Rose (K.faults out.old) (K.faults out.new) }
+    ensures told { OnOk result (K.faults out.new ≡ K.faults out.old) }
     ensures steady { K.steady out.old → K.steady out.new × (IsErr result → K.full out.new) }
 {
     for j in 0..instance.tasks() as u32 {
@@ -166,6 +174,7 @@ pub fn write_head<K: Sink>(out: &mut K, instance: &Instance, nodes: u32) -> Resu
     ensures part { OnErr result (AppendedPart (K.got out.old) (K.got out.new) (instance_text instance.now nodes)) }
     ensures later { K.faults out.old ≤ K.faults out.new }
     ensures cause { IsErr result → Rose (K.faults out.old) (K.faults out.new) }
+    ensures told { OnOk result (K.faults out.new ≡ K.faults out.old) }
     ensures steady { K.steady out.old → K.steady out.new × (IsErr result → K.full out.new) }
 {
     put_size(out, instance, nodes)?;

@@ -77,6 +77,7 @@ fn put_part<K: Sink>(out: &mut K, part: &Part<'_>) -> Result<(), WriteFault>
     ensures part { OnErr result (AppendedPart (K.got out.old) (K.got out.new) (text_of part.now)) }
     ensures later { K.faults out.old ≤ K.faults out.new }
     ensures cause { IsErr result → Rose (K.faults out.old) (K.faults out.new) }
+    ensures told { OnOk result (K.faults out.new ≡ K.faults out.old) }
     ensures steady { K.steady out.old → K.steady out.new × (IsErr result → K.full out.new) }
 {
     match part {
@@ -94,6 +95,7 @@ fn put_long<K: Sink>(out: &mut K, parts: &[Part<'_>]) -> Result<(), WriteFault>
     ensures part { OnErr result (AppendedPart (K.got out.old) (K.got out.new) (line_text (map text_of parts.now))) }
     ensures later { K.faults out.old ≤ K.faults out.new }
     ensures cause { IsErr result → Rose (K.faults out.old) (K.faults out.new) }
+    ensures told { OnOk result (K.faults out.new ≡ K.faults out.old) }
     ensures steady { K.steady out.old → K.steady out.new × (IsErr result → K.full out.new) }
 {
     let mut before = b"".as_slice();
@@ -112,6 +114,7 @@ pub fn put_line<K: Sink>(out: &mut K, parts: &[Part<'_>]) -> Result<(), WriteFau
     ensures part { OnErr result (AppendedPart (K.got out.old) (K.got out.new) (line_text (map text_of parts.now))) }
     ensures later { K.faults out.old ≤ K.faults out.new }
     ensures cause { IsErr result → Rose (K.faults out.old) (K.faults out.new) }
+    ensures told { OnOk result (K.faults out.new ≡ K.faults out.old) }
     ensures steady { K.steady out.old → K.steady out.new × (IsErr result → K.full out.new) }
 {
     let mut line = ShortLine::new();

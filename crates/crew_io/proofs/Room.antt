@@ -1,11 +1,16 @@
 -- bytes that are read behind what is held
-use Rattle.std.proofs.Common.{◌≡◌, ◌≤◌, ◌+◌, ◌-◌, ◌++◌, ℕ, List, length, take, drop, Option, None, Some, ap, sym, refl, ◌∙◌, arith, length-take, append_assoc, append-nil}
-use Rattle.std.specs.Prelude.{slice_range}
+use Rattle.std.proofs.Common.{◌≡◌, ◌≤◌, ◌+◌, ◌-◌, ◌++◌, ℕ, List, length, take, drop, Option, None, Some, Result, Ok, Err, ap, sym, refl, ◌∙◌, arith, length-take, append_assoc, append-nil}
+use Rattle.std.specs.Prelude.{slice_range, IfOk}
 use Rattle.std.proofs.lemmas.List.{drop-take, take-append-le, drop-append-le, take-append-drop, take-take}
 use Rattle.std.proofs.Math.Seq.{take-append-add}
 use borrow.Rule.Slice.PartMut.{put_mid, post_of}
 use Rattle.crew_io.specs.Io.{Gave}
 use Rattle.crew_io.specs.Lines.{with_left}
+
+-- what follows from two facts of a value, where there is one
+pub both_ok : {X E : Type 0} (r : Result X E) (P Q R : X → Type 0) → IfOk r P → IfOk r Q → ((x : X) → P x → Q x → R x) → IfOk r R
+both_ok (Ok x) P Q R p q f = f x p q
+both_ok (Err e) P Q R p q f = tt
 
 pub range_is : (xs : List ℕ) (a b : ℕ) → a ≤ b → slice_range xs a b ≡ drop a (take b xs)
 range_is xs a b h =

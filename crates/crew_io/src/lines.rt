@@ -1,5 +1,5 @@
 // The lines of a source.
-ghost use Rattle.std.specs.Prelude.{◌≡◌, ◌≤◌, ◌<◌, ◌+◌, ◌-◌, ◌↔◌, ◌≢◌, ⊤, [], Option, Some, None, Ok, length, slice_range, IfOk, OnErr, IsOk, IsErr, IsSome, IsTrue};
+ghost use Rattle.std.specs.Prelude.{◌≡◌, ◌≤◌, ◌<◌, ◌+◌, ◌-◌, ◌↔◌, ◌≢◌, ⊤, [], Option, Some, None, Ok, length, slice_range, IfOk, OnOk, OnErr, IsOk, IsErr, IsSome, IsTrue};
 ghost use Rattle.std.specs.Borrow.{sem, follows_so};
 ghost use mathlib.Core.Option.{none};
 ghost use Rattle.crew_terms.specs.Words.{LONGEST};
@@ -105,6 +105,7 @@ fn read_on<S: Source>(src: &mut S, room: &mut [u8], at: usize, end: usize) -> Re
     ensures end { result ≡ Ok 0 → HasEnded (S.left src.old) }
     ensures later { S.faults src.old ≤ S.faults src.new }
     ensures cause { IsErr result → Rose (S.faults src.old) (S.faults src.new) }
+    ensures uncounted { OnOk result (S.faults src.new ≡ S.faults src.old) }
     ensures steady { S.steady src.old → IsOk result × S.steady src.new }
 {
     src.read(&mut room[end..])
@@ -122,6 +123,7 @@ fn refill<S: Source>(src: &mut S, room: &mut [u8], at: usize, end: usize) -> Res
     ensures end { result ≡ Ok 0 → HasEnded (S.left src.old) }
     ensures later { S.faults src.old ≤ S.faults src.new }
     ensures cause { IsErr result → Rose (S.faults src.old) (S.faults src.new) }
+    ensures uncounted { OnOk result (S.faults src.new ≡ S.faults src.old) }
     ensures steady { S.steady src.old → IsOk result × S.steady src.new }
 {
     move_to_front(room, at, end);
@@ -215,6 +217,7 @@ impl LineReader {
         ensures end { result ≡ Ok 0 → HasEnded (S.left src.old) × (self.new.held ≡ self.old.held) }
         ensures later { S.faults src.old ≤ S.faults src.new }
         ensures cause { IsErr result → Rose (S.faults src.old) (S.faults src.new) }
+        ensures uncounted { OnOk result (S.faults src.new ≡ S.faults src.old) }
         ensures steady { S.steady src.old → IsOk result × S.steady src.new }
     {
         let read = refill(src, &mut self.buf, self.at, self.end);
@@ -244,6 +247,7 @@ impl LineReader {
         requires { self.old.stopped ≡ None }
         ensures advances { Advances self.old (S.left src.old) result self.new (S.left src.new) }
         ensures fault { result ≡ Progress.ReadFault → Rose (S.faults src.old) (S.faults src.new) }
+        ensures told { result ≢ Progress.ReadFault → S.faults src.new ≡ S.faults src.old }
         ensures later { S.faults src.old ≤ S.faults src.new }
         ensures steady { S.steady src.old → S.steady src.new × (result ≢ Progress.ReadFault) }
     {
@@ -274,6 +278,7 @@ impl LineReader {
     pub fn advance<S: Source>(&mut self, src: &mut S) -> Progress
         ensures steps { Steps self.old (S.left src.old) result self.new (S.left src.new) }
         ensures fault { self.old.stopped ≡ None → result ≡ Progress.ReadFault → Rose (S.faults src.old) (S.faults src.new) }
+        ensures told { result ≢ Progress.ReadFault → S.faults src.new ≡ S.faults src.old }
         ensures again { IsSome self.old.stopped → S.faults src.new ≡ S.faults src.old }
         ensures later { S.faults src.old ≤ S.faults src.new }
         ensures steady { self.old.stopped ≡ None → S.steady src.old → S.steady src.new × (result ≢ Progress.ReadFault) }
@@ -290,6 +295,7 @@ impl LineReader {
         ensures* after { sem 𝓛 (follows_so the_row the_row self.entry.ghost_name none (λ _ _. ⊤)
             (λ new. GotNext self.old (S.left src.old) result new (S.left src.new))) }
         ensures fault { self.old.stopped ≡ None → result ≡ Got.ReadFault → Rose (S.faults src.old) (S.faults src.new) }
+        ensures told { result ≢ Got.ReadFault → S.faults src.new ≡ S.faults src.old }
         ensures again { IsSome self.old.stopped → S.faults src.new ≡ S.faults src.old }
         ensures later { S.faults src.old ≤ S.faults src.new }
         ensures steady { self.old.stopped ≡ None → S.steady src.old → S.steady src.new × (result ≢ Got.ReadFault) }

@@ -42,6 +42,7 @@ pub trait Sink {
         ensures nothing { OnErr result (got self.new ≡ got self.old) }
         ensures later { faults self.old ≤ faults self.new }
         ensures cause { IsErr result → Rose (faults self.old) (faults self.new) }
+        ensures uncounted { OnOk result (faults self.new ≡ faults self.old) }
         ensures steady { steady self.old → steady self.new × (IsErr result → full self.new) };
 
     /// Passes on what the sink holds back. A flush that fails is counted.
@@ -50,6 +51,7 @@ pub trait Sink {
         ensures same { got self.new ≡ got self.old }
         ensures later { faults self.old ≤ faults self.new }
         ensures cause { IsErr result → Rose (faults self.old) (faults self.new) }
+        ensures uncounted { OnOk result (faults self.new ≡ faults self.old) }
         ensures steady { steady self.old → IsOk result × steady self.new }
         ensures full { full self.old → full self.new };
 }
@@ -138,6 +140,7 @@ impl Sink for MemSink {
         ensures nothing { OnErr result (Some self.new.got ≡ Some self.old.got) }
         ensures later { self.old.faults ≤ self.new.faults }
         ensures cause { IsErr result → Rose self.old.faults self.new.faults }
+        ensures uncounted { OnOk result (self.new.faults ≡ self.old.faults) }
         ensures steady { self.old.fails ≡ [] → (self.new.fails ≡ []) × (IsErr result → length self.new.got ≡ self.new.room) }
 
         // It fails exactly where the call is due to fail or the room is full, and takes as much as it may.
@@ -160,6 +163,7 @@ impl Sink for MemSink {
         ensures same { Some self.new.got ≡ Some self.old.got }
         ensures later { self.old.faults ≤ self.new.faults }
         ensures cause { IsErr result → Rose self.old.faults self.new.faults }
+        ensures uncounted { OnOk result (self.new.faults ≡ self.old.faults) }
         ensures steady { self.old.fails ≡ [] → IsOk result × (self.new.fails ≡ []) }
         ensures full { length self.old.got ≡ self.old.room → length self.new.got ≡ self.new.room }
 
@@ -297,6 +301,7 @@ pub fn put_all<K: Sink>(sink: &mut K, bytes: &[u8]) -> Result<(), WriteFault>
     ensures part { OnErr result (AppendedPart (K.got sink.old) (K.got sink.new) bytes.now) }
     ensures later { K.faults sink.old ≤ K.faults sink.new }
     ensures cause { IsErr result → Rose (K.faults sink.old) (K.faults sink.new) }
+    ensures told { OnOk result (K.faults sink.new ≡ K.faults sink.old) }
     ensures steady { K.steady sink.old → K.steady sink.new × (IsErr result → K.full sink.new) }
 {
     let mut at = 0;

@@ -33,6 +33,7 @@ pub trait Source {
         ensures nothing { OnErr result (left self.new ≡ left self.old) }
         ensures later { faults self.old ≤ faults self.new }
         ensures cause { IsErr result → Rose (faults self.old) (faults self.new) }
+        ensures uncounted { OnOk result (faults self.new ≡ faults self.old) }
         ensures steady { steady self.old → IsOk result × steady self.new };
 }
 
@@ -99,6 +100,7 @@ impl Source for MemSource {
         ensures nothing { OnErr result (Some self.new.left ≡ Some self.old.left) }
         ensures later { self.old.faults ≤ self.new.faults }
         ensures cause { IsErr result → Rose self.old.faults self.new.faults }
+        ensures uncounted { OnOk result (self.new.faults ≡ self.old.faults) }
         ensures steady { self.old.fails ≡ [] → IsOk result × (self.new.fails ≡ []) }
 
         // It fails exactly where the call is due to fail, and gives as much as it may.

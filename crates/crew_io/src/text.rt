@@ -77,6 +77,7 @@ fn read_behind<S: Source>(src: &mut S, room: &mut [u8], len: usize) -> Result<us
     ensures end { result ≡ Ok 0 → HasEnded (S.left src.new) }
     ensures later { S.faults src.old ≤ S.faults src.new }
     ensures cause { IsErr result → Rose (S.faults src.old) (S.faults src.new) }
+    ensures uncounted { OnOk result (S.faults src.new ≡ S.faults src.old) }
     ensures steady { S.steady src.old → IsOk result × S.steady src.new }
 {
     src.read(&mut room[len..])
@@ -88,6 +89,7 @@ fn read_end<S: Source>(src: &mut S, read: Vec<u8>) -> Text
     ensures within { HasAtMost (length read.items) result }
     ensures later { S.faults src.old ≤ S.faults src.new }
     ensures fault { result ≡ Text.ReadFault → Rose (S.faults src.old) (S.faults src.new) }
+    ensures told { result ≢ Text.ReadFault → S.faults src.new ≡ S.faults src.old }
     ensures steady { S.steady src.old → S.steady src.new × (result ≢ Text.ReadFault) }
 {
     let mut next = [0u8; 1];
@@ -107,6 +109,7 @@ pub fn read_text<S: Source>(alloc: Global, src: &mut S, most: usize) -> Result<T
     ensures err { OnErr result (TookAtMost most (S.left src.old) (S.left src.new)) }
     ensures later { S.faults src.old ≤ S.faults src.new }
     ensures fault { result ≡ Ok Text.ReadFault → Rose (S.faults src.old) (S.faults src.new) }
+    ensures told { result ≢ Ok Text.ReadFault → S.faults src.new ≡ S.faults src.old }
     ensures steady { S.steady src.old → S.steady src.new × (result ≢ Ok Text.ReadFault) }
 {
     let mut room = Vec::new(alloc);

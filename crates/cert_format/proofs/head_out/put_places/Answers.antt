@@ -15,6 +15,6 @@ loop-p-preserved g c =
     let below : c.loop-p.p < length c.args.instance.now.places = (let t = c.loop-p-test.true in let e = c.places-p-end.ensures.count in omega arith) in
     record {
       so_far = line_written place_line c.args.instance.now.places c.loop-p.p _ below _ _ _ _ (ap place_line (c.bytes-name.ensures.bytes ∙ c.place.ensures.name)) c.loop-p.invariant.so_far c.in_ok-put_line.ensures.all;
-      later = (let a = c.loop-p.invariant.later in let b = c.in_ok-put_line.ensures.later in omega (arith, a, b));
+      faults = c.in_ok-put_line.ensures.told ∙ c.loop-p.invariant.faults;
       steady = λ h. (c.in_ok-put_line.ensures.steady (c.loop-p.invariant.steady h)).0;
     }

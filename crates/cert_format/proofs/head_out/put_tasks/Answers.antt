@@ -1,4 +1,4 @@
-use Rattle.std.proofs.Common.{◌<◌, length, ap, arith}
+use Rattle.std.proofs.Common.{◌<◌, length, ap, ◌∙◌, arith}
 use Rattle.dossier_terms.specs.Lines.{task_line}
 use Rattle.cert_format.proofs.Fronts.{on_err}
 use Rattle.cert_format.proofs.Heads.{line_written, line_part}
@@ -15,6 +15,6 @@ loop-j-preserved g c =
     let below : c.loop-j.j < length c.args.instance.now.tasks = (let t = c.loop-j-test.true in let e = c.tasks-j-end.ensures.count in omega arith) in
     record {
       so_far = line_written task_line c.args.instance.now.tasks c.loop-j.j _ below _ _ _ _ (ap task_line c.task.ensures.task) c.loop-j.invariant.so_far c.in_ok-put_task.ensures.all;
-      later = (let a = c.loop-j.invariant.later in let b = c.in_ok-put_task.ensures.later in omega (arith, a, b));
+      faults = c.in_ok-put_task.ensures.told ∙ c.loop-j.invariant.faults;
       steady = λ h. (c.in_ok-put_task.ensures.steady (c.loop-j.invariant.steady h)).0;
     }

@@ -1,4 +1,4 @@
-use Rattle.std.proofs.Common.{◌<◌, length, ap, arith}
+use Rattle.std.proofs.Common.{◌<◌, length, ap, ◌∙◌, arith}
 use Rattle.dossier_terms.specs.Lines.{team_line}
 use Rattle.cert_format.proofs.Fronts.{on_err}
 use Rattle.cert_format.proofs.Heads.{line_written, line_part}
@@ -15,6 +15,6 @@ loop-k-preserved g c =
     let below : c.loop-k.k < length c.args.instance.now.teams = (let t = c.loop-k-test.true in let e = c.teams-k-end.ensures.count in omega arith) in
     record {
       so_far = line_written team_line c.args.instance.now.teams c.loop-k.k _ below _ _ _ _ (ap team_line c.team.ensures.team) c.loop-k.invariant.so_far c.in_ok-put_team.ensures.all;
-      later = (let a = c.loop-k.invariant.later in let b = c.in_ok-put_team.ensures.later in omega (arith, a, b));
+      faults = c.in_ok-put_team.ensures.told ∙ c.loop-k.invariant.faults;
       steady = λ h. (c.in_ok-put_team.ensures.steady (c.loop-k.invariant.steady h)).0;
     }

@@ -1,4 +1,4 @@
-use Rattle.std.proofs.Common.{◌<◌, length, refl, arith}
+use Rattle.std.proofs.Common.{◌<◌, length, refl, ◌∙◌, arith}
 use Rattle.dossier_terms.specs.Lines.{travel_line}
 use Rattle.cert_format.proofs.Fronts.{on_err}
 use Rattle.cert_format.proofs.Heads.{line_written, line_part}
@@ -15,6 +15,6 @@ loop-a-preserved g c =
     let below : c.loop-a.a < length c.args.instance.now.travel = (let t = c.loop-a-test.true in let e = c.places-a-end.ensures.count in let r = c.places-a-end.ensures.limits.rows in omega arith) in
     record {
       so_far = line_written travel_line c.args.instance.now.travel c.loop-a.a _ below _ _ _ _ refl c.loop-a.invariant.so_far c.in_ok-put_travel.ensures.all;
-      later = (let a = c.loop-a.invariant.later in let b = c.in_ok-put_travel.ensures.later in omega (arith, a, b));
+      faults = c.in_ok-put_travel.ensures.told ∙ c.loop-a.invariant.faults;
       steady = λ h. (c.in_ok-put_travel.ensures.steady (c.loop-a.invariant.steady h)).0;
     }

@@ -1,4 +1,4 @@
-use Rattle.std.proofs.Common.{◌++◌, ◌∷◌, [], List, ℕ, take, map, sym, ◌∙◌, subst, arith}
+use Rattle.std.proofs.Common.{◌++◌, ◌∷◌, [], List, ℕ, take, map, sym, ◌∙◌, subst}
 use Rattle.std.specs.List.{join_with_byte}
 use Rattle.std.proofs.lemmas.List.{take_all}
 use Rattle.crew_io.specs.Io.{Appended, AppendedPart}
@@ -50,7 +50,7 @@ loop-part-preserved g c =
           (appended_both old put new (join_with_byte 32 words ++ gap_after words) _
           (appended_both old mid put (join_with_byte 32 words) (gap_after words) c.loop-part.invariant.so_far gap) c.in_ok-put_part.ensures.all);
       gap = c.as_slice-before-in-loop-part.ensures ∙ gap_later text_of parts c.loop-part.part-index c.loop-part-test.true;
-      later = (let a = c.loop-part.invariant.later in let b = c.in_ok-put_all.ensures.later in let d = c.in_ok-put_part.ensures.later in omega (arith, a, b, d));
+      faults = c.in_ok-put_part.ensures.told ∙ c.in_ok-put_all.ensures.told ∙ c.loop-part.invariant.faults;
       steady = λ h. (c.in_ok-put_part.ensures.steady (c.in_ok-put_all.ensures.steady (c.loop-part.invariant.steady h)).0).0;
     }
 

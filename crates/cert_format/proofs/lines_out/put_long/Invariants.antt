@@ -1,4 +1,4 @@
-use Rattle.std.proofs.Common.{◌≡◌, ◌≤◌, take, map}
+use Rattle.std.proofs.Common.{◌≡◌, take, map}
 use Rattle.std.specs.List.{join_with_byte}
 use Rattle.crew_io.specs.Io.{Appended}
 use Rattle.cert_format.specs.Parts.{text_of}
@@ -9,6 +9,6 @@ abbrev pub invariant-loop-part : goal.invariant-loop-part
 invariant-loop-part g l = record {
   so_far : Appended (g.K.Sink.got l.fn.out) (g.K.Sink.got l.out) (join_with_byte 32 (map text_of (take l.part-index l.parts)));
   gap : l.before ≡ gap_after (map text_of (take l.part-index l.parts));
-  later : g.K.Sink.faults l.fn.out ≤ g.K.Sink.faults l.out;
+  faults : g.K.Sink.faults l.out ≡ g.K.Sink.faults l.fn.out;
   steady : g.K.Sink.steady l.fn.out → g.K.Sink.steady l.out;
 }

@@ -7,7 +7,7 @@ invariant-loop-len g l = record {
   held : l.len ≤ vec_len l.room;
   within : vec_len l.room ≤ l.most;
   so_far : with_left (take l.len l.room.items) (g.S.Source.left l.src) ≡ g.S.Source.left l.fn.src;
-  later : g.S.Source.faults l.fn.src ≤ g.S.Source.faults l.src;
+  faults : g.S.Source.faults l.src ≡ g.S.Source.faults l.fn.src;
   steady : g.S.Source.steady l.fn.src → g.S.Source.steady l.src;
 }
 
