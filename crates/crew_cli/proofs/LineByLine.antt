@@ -398,6 +398,15 @@ stop_is_fault checker answer outcome stopped (Over end ended is) e = absurd (let
 stop_is_fault checker answer outcome stopped (Short why told more is) e = absurd (let f = sym is ∙ e in cc)
 stop_is_fault checker answer outcome stopped (Fault told is) e = is_fault answer stopped told
 
+-- and a fault of the source stops it
+pub fault_stops : (checker : Checked) (answer : Progress) (outcome : Outcome) → IsOutcomeAtStop checker answer outcome → answer ≡ progress.ReadFault → outcome ≡ outcomes.ReadFault
+fault_stops checker answer outcome (Over end ended is) e = absurd (let f = sym end ∙ e in cc)
+fault_stops checker answer outcome (Short why told more is) e = absurd (let f = sym told ∙ ap told_of e in cc)
+fault_stops checker answer outcome (Fault told is) e = is
+
+pub line_is_no_fault : (answer : Progress) → answer ≡ progress.Line → answer ≡ progress.ReadFault → ⊥
+line_is_no_fault answer line fault = let e = sym line ∙ fault in cc
+
 -- and only a dossier's end lets the reader go on
 pub stop_opens : (old new : Reader) (checker after : Checked) (answer : Progress) (outcome : Outcome) → IsOutcomeAtStop checker answer outcome → OpensNext old new after outcome
 stop_opens old new checker after answer outcome (Over end ended is) = subst (OpensNext old new after) (sym is) tt

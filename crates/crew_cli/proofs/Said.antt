@@ -15,6 +15,8 @@ use Rattle.dossier_terms.specs.Accepted.{IsAccepted}
 use Rattle.cert_checker.specs.Checked.{Checked, IsTrueYes, fresh_checker, verdict_of}
 use Rattle.cert_checker.specs.declared.checker.Verdict.{Verdict}
 use Rattle.crew_cli.specs.Input.{Fresh, IsBetween, IsNext, IsOpen, IsRefusal, IsInterrupted, HasRead}
+use Rattle.crew_cli.specs.declared.input.Outcome.{Outcome}
+use Rattle.crew_cli.specs.declared.input.Outcome.TheVariants.{Yes, ReadFault}
 use Rattle.crew_cli.specs.Run.{OfBytes, SaysYes, SaysNo, SaysFront, SaysReadFault, SaysYesLines, Nothing, YesFront, NoFront}
 
 -- these dossiers are read, and their yes lines are written
@@ -77,6 +79,9 @@ says_one_more (Some input) got0 old new left later got added count more verdict 
       written = subst (λ bytes. Appended got0 added bytes) lines (appended_both got0 got added (flat_map yes_line so.done) (yes_line d) so.written (wrote d n.says));
       each = All-push IsTrueYes so.done d so.each n.true_yes;
     }
+
+pub yes_is_no_fault : {E : Type 0} (outcome : Outcome) (verdict : Verdict) → outcome ≡ Yes verdict → ◌≡◌ {A = Result Outcome E} (Ok outcome) (Ok ReadFault) → ⊥
+yes_is_no_fault outcome verdict is e = cc
 
 -- the input has ended behind a dossier
 pub says_yes : (left0 got0 : Option (List ℕ)) (reader : Reader) (left got : Option (List ℕ)) (count : ℕ)

@@ -1,5 +1,5 @@
 // An input, dossier by dossier and line by line.
-ghost use Rattle.std.specs.Prelude.{◌≡◌, ◌≢◌, ◌≤◌, ℕ, List, IfOk, OnErr};
+ghost use Rattle.std.specs.Prelude.{◌≡◌, ◌≢◌, ◌≤◌, ℕ, List, Ok, IfOk, OnErr};
 ghost use Rattle.crew_io.specs.Io.{Rose};
 ghost use Rattle.dossier_terms.specs.Dossier.{Dossier};
 ghost use Rattle.cert_checker.specs.Checked.{IsOpen as IsDue};
@@ -68,6 +68,7 @@ pub fn next_dossier<S: Source>(
     ensures next { IfOk result (OpensNext reader.old reader.new checker.new) }
     ensures memory { OnErr result (checker.new.at ≡ state.Spent) }
     ensures fault { IfOk result (λ outcome. outcome ≡ Outcome.ReadFault → Rose (S.faults src.old) (S.faults src.new)) }
+    ensures told { result ≢ Ok Outcome.ReadFault → S.faults src.new ≡ S.faults src.old }
     ensures later { S.faults src.old ≤ S.faults src.new }
     ensures steady { S.steady src.old → S.steady src.new × IfOk result (λ outcome. outcome ≢ Outcome.ReadFault) }
 {

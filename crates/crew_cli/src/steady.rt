@@ -1,5 +1,6 @@
 // The top call over sources and sinks in memory, and over such as do not fail.
 ghost use Rattle.std.specs.Prelude.{◌≡◌, ◌≢◌, ◌↔◌, ◌⊎◌, ◌++◌, ℕ, List, Some, [], length, map, string_bytes};
+ghost use Rattle.crew_io.specs.Io.{Rose};
 ghost use Rattle.crew_cli.specs.Run.{AskFor, Says, IsFine};
 ghost use Rattle.crew_cli.specs.declared.run.Command.{Command};
 
@@ -55,6 +56,13 @@ pub fn run_in_memory(
     ensures complete { (command : Command) → AskFor command (map (λ w. string_bytes w) words.now) → IsFine command src.old.left
         → src.old.fails ≡ [] → out.old.fails ≡ []
         → (result ≡ Status.Done) ⊎ (result ≡ Status.Memory) ⊎ ((result ≡ Status.WriteFault) × (length out.new.got ≡ out.new.room)) }
+
+    // A fault is told only where its count rose in this call, and each that came is told; only that of a read gives way
+    // to that of the flush behind it.
+    ensures read_fault { result ≡ Status.ReadFault → Rose src.old.faults src.new.faults }
+    ensures write_fault { result ≡ Status.WriteFault → Rose out.old.faults out.new.faults }
+    ensures read_told { result ≢ Status.ReadFault → result ≢ Status.WriteFault → src.new.faults ≡ src.old.faults }
+    ensures write_told { result ≢ Status.WriteFault → out.new.faults ≡ out.old.faults }
 {
     one_reading();
     run(alloc, words, src, out)
