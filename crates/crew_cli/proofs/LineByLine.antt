@@ -133,13 +133,6 @@ opens old new left later count more o a is = record {
   few = (let h = a.handed in let f = o.few in let n = length-append new.line (10 ∷ []) in omega arith);
 }
 
--- fewer lines were judged than a checker may judge
-pub few_lines : (first : Reader) (left0 : Option (List ℕ)) (start : Checked) (old new : Reader) (left later : Option (List ℕ)) (checker : Checked) → IsSoFar first left0 start old left checker
-    → Advances old left progress.Line new later → checker.lines < 2 ^ 62
-few_lines first left0 start old new left later checker s a =
-    let g = opens old new left later checker.lines (checker.lines + 1) s.going a refl in
-    let w = g.within in let f = g.few in omega arith
-
 -- what the table says where the checker says this
 
 goes : (lines : ℕ) (said : Said) (at : State) (due : Reading) (ws : Words) (answer : Answer) → Says due ws answer → said ≡ said_of (lines + 1) answer
@@ -404,6 +397,15 @@ pub stop_is_fault : (checker : Checked) (answer : Progress) (outcome : Outcome) 
 stop_is_fault checker answer outcome stopped (Over end ended is) e = absurd (let f = sym is ∙ e in cc)
 stop_is_fault checker answer outcome stopped (Short why told more is) e = absurd (let f = sym is ∙ e in cc)
 stop_is_fault checker answer outcome stopped (Fault told is) e = is_fault answer stopped told
+
+-- and a fault of the source stops it
+pub fault_stops : (checker : Checked) (answer : Progress) (outcome : Outcome) → IsOutcomeAtStop checker answer outcome → answer ≡ progress.ReadFault → outcome ≡ outcomes.ReadFault
+fault_stops checker answer outcome (Over end ended is) e = absurd (let f = sym end ∙ e in cc)
+fault_stops checker answer outcome (Short why told more is) e = absurd (let f = sym told ∙ ap told_of e in cc)
+fault_stops checker answer outcome (Fault told is) e = is
+
+pub line_is_no_fault : (answer : Progress) → answer ≡ progress.Line → answer ≡ progress.ReadFault → ⊥
+line_is_no_fault answer line fault = let e = sym line ∙ fault in cc
 
 -- and only a dossier's end lets the reader go on
 pub stop_opens : (old new : Reader) (checker after : Checked) (answer : Progress) (outcome : Outcome) → IsOutcomeAtStop checker answer outcome → OpensNext old new after outcome

@@ -1,6 +1,5 @@
 -- what is written for the dossiers of an input, one after another
-use Rattle.std.proofs.Common.{◌≡◌, ◌^◌, ◌++◌, ℕ, List, [], ◌∷◌, length, take, Option, None, Some, Result, Ok, Err, ap, subst, sym, refl, ◌∙◌, arith, append_assoc, append-nil}
-use Rattle.std.proofs.Math.Seq.{take-length}
+use Rattle.std.proofs.Common.{◌≡◌, ◌^◌, ◌++◌, ℕ, List, [], ◌∷◌, take, Option, None, Some, Result, Ok, Err, ap, subst, sym, refl, ◌∙◌, arith, append_assoc, append-nil}
 use Rattle.std.specs.Prelude.{All, IfSome, OnErr, OnOk}
 use Rattle.std.specs.List.{flat_map}
 use Rattle.std.proofs.lemmas.List.Concat.{flat_map-append}
@@ -16,6 +15,8 @@ use Rattle.dossier_terms.specs.Accepted.{IsAccepted}
 use Rattle.cert_checker.specs.Checked.{Checked, IsTrueYes, fresh_checker, verdict_of}
 use Rattle.cert_checker.specs.declared.checker.Verdict.{Verdict}
 use Rattle.crew_cli.specs.Input.{Fresh, IsBetween, IsNext, IsOpen, IsRefusal, IsInterrupted, HasRead}
+use Rattle.crew_cli.specs.declared.input.Outcome.{Outcome}
+use Rattle.crew_cli.specs.declared.input.Outcome.TheVariants.{Yes, ReadFault}
 use Rattle.crew_cli.specs.Run.{OfBytes, SaysYes, SaysNo, SaysFront, SaysReadFault, SaysYesLines, Nothing, YesFront, NoFront}
 
 -- these dossiers are read, and their yes lines are written
@@ -79,6 +80,9 @@ says_one_more (Some input) got0 old new left later got added count more verdict 
       each = All-push IsTrueYes so.done d so.each n.true_yes;
     }
 
+pub yes_is_no_fault : {E : Type 0} (outcome : Outcome) (verdict : Verdict) → outcome ≡ Yes verdict → ◌≡◌ {A = Result Outcome E} (Ok outcome) (Ok ReadFault) → ⊥
+yes_is_no_fault outcome verdict is e = cc
+
 -- the input has ended behind a dossier
 pub says_yes : (left0 got0 : Option (List ℕ)) (reader : Reader) (left got : Option (List ℕ)) (count : ℕ)
     → ((input : List ℕ) (done : List Dossier) → IsBetween input done reader left count → IsAccepted input done)
@@ -121,20 +125,6 @@ on_ok_goes (Err e) f p = tt
 pub on_err_goes : {X E P Q : Type 0} (r : Result X E) → (P → Q) → OnErr r P → OnErr r Q
 on_err_goes (Ok x) f p = tt
 on_err_goes (Err e) f p = f p
-
--- all of a piece is a front of it
-pub all_is_part : (got added : Option (List ℕ)) (piece : List ℕ) → Appended got added piece → AppendedPart got added piece
-all_is_part None added piece wrote = wrote
-all_is_part (Some bytes) added piece wrote = (length piece, omega arith, wrote ∙ ap (λ x. Some (bytes ++ x)) (sym (take-length piece)))
-
--- nothing was read or written yet
-pub front_none : (left got : Option (List ℕ)) → OfBytes left got got SaysFront
-front_none None got = tt
-front_none (Some input) got = (
-  [],
-  appended_none got,
-  record { dossiers = []; rest = input; text = refl; each = All-nil IsTrueYes; part = []; lines = refl; next = Nothing refl },
-)
 
 pub yes_lines_none : (left got : Option (List ℕ)) → OfBytes left got got SaysYesLines
 yes_lines_none None got = tt

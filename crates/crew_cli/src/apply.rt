@@ -1,5 +1,5 @@
 // The instance of each round of a day.
-ghost use Rattle.std.specs.Prelude.{◌≡◌, ◌≢◌, ◌≤◌, ◌↔◌, length, List, ℕ, None, IfOk, IfSome, OnErr, IsTrue, All};
+ghost use Rattle.std.specs.Prelude.{◌≡◌, ◌≢◌, ◌≤◌, ◌↔◌, length, List, ℕ, None, Ok, IfOk, IfSome, OnErr, IsTrue, All};
 ghost use Rattle.crew_io.specs.Io.{Appended, AppendedPart, Rose};
 ghost use Rattle.dossier_terms.specs.Lines.{instance_text};
 ghost use Rattle.day_terms.specs.Ranges.{IsInRange};
@@ -40,6 +40,7 @@ fn refuse<K: Sink>(out: &mut K, number: u64, cause: DayFault) -> Status
     ensures part { AppendedPart (K.got out.old) (K.got out.new) (refused_line number cause) }
     ensures others { IsTrue (is_refused_or_write_fault result) }
     ensures write_fault { result ≡ Status.WriteFault → Rose (K.faults out.old) (K.faults out.new) }
+    ensures told { result ≢ Status.WriteFault → K.faults out.new ≡ K.faults out.old }
     ensures later { K.faults out.old ≤ K.faults out.new }
     ensures steady { K.steady out.old → K.steady out.new × (result ≡ Status.WriteFault → K.full out.new) }
 {
@@ -55,6 +56,7 @@ fn put_round<K: Sink>(instance: &Instance, nodes: u32, out: &mut K) -> Applied
     ensures part { result ≡ Applied.WriteFault → AppendedPart (K.got out.old) (K.got out.new) (instance_text instance.now nodes) }
     ensures others { IsTrue (is_taken_or_write_fault result) }
     ensures write_fault { result ≡ Applied.WriteFault → Rose (K.faults out.old) (K.faults out.new) }
+    ensures told { result ≢ Applied.WriteFault → K.faults out.new ≡ K.faults out.old }
     ensures later { K.faults out.old ≤ K.faults out.new }
     ensures steady { K.steady out.old → K.steady out.new × (result ≡ Applied.WriteFault → K.full out.new) }
 {
@@ -77,6 +79,7 @@ fn apply_entry<K: Sink>(desk: &mut Desk, entry: &Entry, out: &mut K) -> Result<A
     ensures applied { IfOk result (λ applied. IsApplied desk.old entry.now applied desk.new (K.got out.old) (K.got out.new)) }
     ensures nothing { OnErr result (K.got out.new ≡ K.got out.old) }
     ensures write_fault { IfOk result (λ applied. applied ≡ Applied.WriteFault → Rose (K.faults out.old) (K.faults out.new)) }
+    ensures told { result ≢ Ok Applied.WriteFault → K.faults out.new ≡ K.faults out.old }
     ensures later { K.faults out.old ≤ K.faults out.new }
     ensures steady { K.steady out.old → K.steady out.new × IfOk result (λ applied. applied ≡ Applied.WriteFault → K.full out.new) }
 {
@@ -104,6 +107,7 @@ fn apply_day<K: Sink>(alloc: Global, day: &Day, out: &mut K) -> Result<Status, A
         → OnErr result (Wrote (K.got out.old) (K.got out.new) (SaysFirstRounds text)) }
     ensures others { IfOk result (λ status. IsTrue (is_of_day status)) }
     ensures write_fault { IfOk result (λ status. status ≡ Status.WriteFault → Rose (K.faults out.old) (K.faults out.new)) }
+    ensures told { result ≢ Ok Status.WriteFault → K.faults out.new ≡ K.faults out.old }
     ensures later { K.faults out.old ≤ K.faults out.new }
     ensures steady { K.steady out.old → K.steady out.new × IfOk result (λ status. status ≡ Status.WriteFault → K.full out.new) }
 {
@@ -134,6 +138,7 @@ fn apply_text<K: Sink>(alloc: Global, text: &[u8], out: &mut K) -> Result<Status
     ensures refused { IfOk result (λ status. status ≡ Status.Refused → IsFine command.Apply text.now → ⊥) }
     ensures others { IfOk result (λ status. IsTrue (is_of_day status)) }
     ensures write_fault { IfOk result (λ status. status ≡ Status.WriteFault → Rose (K.faults out.old) (K.faults out.new)) }
+    ensures told { result ≢ Ok Status.WriteFault → K.faults out.new ≡ K.faults out.old }
     ensures later { K.faults out.old ≤ K.faults out.new }
     ensures steady { K.steady out.old → K.steady out.new × IfOk result (λ status. status ≡ Status.WriteFault → K.full out.new) }
 {
@@ -156,6 +161,8 @@ pub(crate) fn apply<S: Source, K: Sink>(
     ensures others { IfOk result (λ status. (status ≢ Status.Words) × (status ≢ Status.No) × (status ≢ Status.Memory)) }
     ensures read_fault { IfOk result (λ status. status ≡ Status.ReadFault → Rose (S.faults src.old) (S.faults src.new)) }
     ensures write_fault { IfOk result (λ status. status ≡ Status.WriteFault → Rose (K.faults out.old) (K.faults out.new)) }
+    ensures read_told { result ≢ Ok Status.ReadFault → S.faults src.new ≡ S.faults src.old }
+    ensures write_told { result ≢ Ok Status.WriteFault → K.faults out.new ≡ K.faults out.old }
     ensures source_later { S.faults src.old ≤ S.faults src.new }
     ensures sink_later { K.faults out.old ≤ K.faults out.new }
     ensures steady_source { S.steady src.old → IfOk result (λ status. status ≢ Status.ReadFault) }

@@ -1,5 +1,5 @@
 // A check of dossiers, one after another.
-ghost use Rattle.std.specs.Prelude.{◌≡◌, ◌≢◌, ◌≤◌, ◌^◌, IfOk, OnErr, IsTrue};
+ghost use Rattle.std.specs.Prelude.{◌≡◌, ◌≢◌, ◌≤◌, ◌^◌, Ok, IfOk, OnErr, IsTrue};
 ghost use Rattle.crew_io.specs.Io.{Appended, AppendedPart, Rose};
 ghost use Rattle.crew_io.specs.Lines.{fresh_reader};
 ghost use Rattle.dossier_terms.specs.Texts.{no_line};
@@ -33,6 +33,8 @@ pub(crate) fn check<S: Source, K: Sink>(
     ensures others { IfOk result (λ status. (status ≢ Status.Words) × (status ≢ Status.Refused) × (status ≢ Status.Memory)) }
     ensures read_fault { IfOk result (λ status. status ≡ Status.ReadFault → Rose (S.faults src.old) (S.faults src.new)) }
     ensures write_fault { IfOk result (λ status. status ≡ Status.WriteFault → Rose (K.faults out.old) (K.faults out.new)) }
+    ensures read_told { result ≢ Ok Status.ReadFault → S.faults src.new ≡ S.faults src.old }
+    ensures write_told { result ≢ Ok Status.WriteFault → K.faults out.new ≡ K.faults out.old }
     ensures source_later { S.faults src.old ≤ S.faults src.new }
     ensures sink_later { K.faults out.old ≤ K.faults out.new }
     ensures steady_source { S.steady src.old → IfOk result (λ status. status ≢ Status.ReadFault) }
@@ -64,6 +66,8 @@ fn check_all<S: Source, K: Sink>(
     ensures others { IfOk result (λ status. (status ≢ Status.Words) × (status ≢ Status.Refused) × (status ≢ Status.Memory)) }
     ensures read_fault { IfOk result (λ status. status ≡ Status.ReadFault → Rose (S.faults src.old) (S.faults src.new)) }
     ensures write_fault { IfOk result (λ status. status ≡ Status.WriteFault → Rose (K.faults out.old) (K.faults out.new)) }
+    ensures read_told { result ≢ Ok Status.ReadFault → S.faults src.new ≡ S.faults src.old }
+    ensures write_told { result ≢ Ok Status.WriteFault → K.faults out.new ≡ K.faults out.old }
     ensures source_later { S.faults src.old ≤ S.faults src.new }
     ensures sink_later { K.faults out.old ≤ K.faults out.new }
     ensures steady_source { S.steady src.old → IfOk result (λ status. status ≢ Status.ReadFault) }
@@ -90,6 +94,7 @@ fn refuse<K: Sink>(out: &mut K, line: u64, reason: Reason) -> Status
     ensures part { AppendedPart (K.got out.old) (K.got out.new) (no_line line reason) }
     ensures others { IsTrue (is_no_or_write_fault result) }
     ensures write_fault { result ≡ Status.WriteFault → Rose (K.faults out.old) (K.faults out.new) }
+    ensures told { result ≢ Status.WriteFault → K.faults out.new ≡ K.faults out.old }
     ensures later { K.faults out.old ≤ K.faults out.new }
     ensures steady { K.steady out.old → K.steady out.new × (result ≡ Status.WriteFault → K.full out.new) }
 {

@@ -1,8 +1,9 @@
 // An input, dossier by dossier and line by line.
-ghost use Rattle.std.specs.Prelude.{◌≡◌, ◌≢◌, ◌≤◌, ℕ, List, IfOk};
+ghost use Rattle.std.specs.Prelude.{◌≡◌, ◌≢◌, ◌≤◌, ℕ, List, Ok, IfOk, OnErr};
 ghost use Rattle.crew_io.specs.Io.{Rose};
 ghost use Rattle.dossier_terms.specs.Dossier.{Dossier};
 ghost use Rattle.cert_checker.specs.Checked.{IsOpen as IsDue};
+ghost use Rattle.cert_checker.specs.declared.checker.State.TheVariants as state;
 ghost use Rattle.crew_cli.specs.Input.{IsBetween, IsOpen, IsOutcome, IsOutcomeAtStop, OpensNext, told_of};
 
 use crate::laws::{first_line_is_first, whole_is_true};
@@ -65,7 +66,9 @@ pub fn next_dossier<S: Source>(
     ensures outcome { IfOk result (λ outcome. (input : List ℕ) (done : List Dossier) → IsBetween input done reader.old (S.left src.old) checker.old.lines
         → IsOutcome input done reader.new (S.left src.new) checker.new outcome) }
     ensures next { IfOk result (OpensNext reader.old reader.new checker.new) }
+    ensures memory { OnErr result (checker.new.at ≡ state.Spent) }
     ensures fault { IfOk result (λ outcome. outcome ≡ Outcome.ReadFault → Rose (S.faults src.old) (S.faults src.new)) }
+    ensures told { result ≢ Ok Outcome.ReadFault → S.faults src.new ≡ S.faults src.old }
     ensures later { S.faults src.old ≤ S.faults src.new }
     ensures steady { S.steady src.old → S.steady src.new × IfOk result (λ outcome. outcome ≢ Outcome.ReadFault) }
 {

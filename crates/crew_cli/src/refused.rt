@@ -1,5 +1,5 @@
 // The line of a day's refusal.
-ghost use Rattle.std.specs.Prelude.{◌≤◌, [], ◌∷◌, codes, OnOk, OnErr, IsErr};
+ghost use Rattle.std.specs.Prelude.{◌≡◌, ◌≤◌, [], ◌∷◌, codes, OnOk, OnErr, IsErr};
 ghost use Rattle.std.specs.Fmt.{decimal};
 ghost use Rattle.crew_io.specs.Io.{Rose, Appended, AppendedPart};
 ghost use Rattle.crew_terms.specs.Words.{line_text};
@@ -28,6 +28,7 @@ fn put_field<K: Sink>(out: &mut K, number: u64, fault: FieldFault) -> Result<(),
     ensures part { OnErr result (AppendedPart (K.got out.old) (K.got out.new) (refused_line number (DayFault.InItself (DayCause.Field fault)))) }
     ensures later { K.faults out.old ≤ K.faults out.new }
     ensures cause { IsErr result → Rose (K.faults out.old) (K.faults out.new) }
+    ensures told { OnOk result (K.faults out.new ≡ K.faults out.old) }
     ensures steady { K.steady out.old → K.steady out.new × (IsErr result → K.full out.new) }
 {
     let refused = Part::Word(b"refused");
@@ -46,6 +47,7 @@ fn put_word<K: Sink>(out: &mut K, number: u64, cause: &[u8]) -> Result<(), Write
     ensures part { OnErr result (AppendedPart (K.got out.old) (K.got out.new) (line_text (codes "refused" ∷ decimal number ∷ cause.now ∷ []))) }
     ensures later { K.faults out.old ≤ K.faults out.new }
     ensures cause { IsErr result → Rose (K.faults out.old) (K.faults out.new) }
+    ensures told { OnOk result (K.faults out.new ≡ K.faults out.old) }
     ensures steady { K.steady out.old → K.steady out.new × (IsErr result → K.full out.new) }
 {
     put_line(
@@ -64,6 +66,7 @@ fn put_change<K: Sink>(out: &mut K, number: u64, fault: ChangeFault) -> Result<(
     ensures part { OnErr result (AppendedPart (K.got out.old) (K.got out.new) (refused_line number (DayFault.Change fault))) }
     ensures later { K.faults out.old ≤ K.faults out.new }
     ensures cause { IsErr result → Rose (K.faults out.old) (K.faults out.new) }
+    ensures told { OnOk result (K.faults out.new ≡ K.faults out.old) }
     ensures steady { K.steady out.old → K.steady out.new × (IsErr result → K.full out.new) }
 {
     match fault {
@@ -96,6 +99,7 @@ pub fn put_refused<K: Sink>(out: &mut K, number: u64, cause: DayFault) -> Result
     ensures part { OnErr result (AppendedPart (K.got out.old) (K.got out.new) (refused_line number cause)) }
     ensures later { K.faults out.old ≤ K.faults out.new }
     ensures cause { IsErr result → Rose (K.faults out.old) (K.faults out.new) }
+    ensures told { OnOk result (K.faults out.new ≡ K.faults out.old) }
     ensures steady { K.steady out.old → K.steady out.new × (IsErr result → K.full out.new) }
 {
     match cause {

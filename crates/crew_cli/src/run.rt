@@ -48,6 +48,8 @@ fn answer<S: Source, K: Sink>(alloc: Global, command: Command, src: &mut S, out:
     ensures ends { IsTrue (ends_with command result) }
     ensures read_fault { result ≡ Status.ReadFault → Rose (S.faults src.old) (S.faults src.new) }
     ensures write_fault { result ≡ Status.WriteFault → Rose (K.faults out.old) (K.faults out.new) }
+    ensures read_told { result ≢ Status.ReadFault → S.faults src.new ≡ S.faults src.old }
+    ensures write_told { result ≢ Status.WriteFault → K.faults out.new ≡ K.faults out.old }
     ensures source_later { S.faults src.old ≤ S.faults src.new }
     ensures sink_later { K.faults out.old ≤ K.faults out.new }
     ensures steady_source { S.steady src.old → result ≢ Status.ReadFault }
@@ -93,6 +95,13 @@ pub fn run<S: Source, K: Sink>(alloc: Global, words: &[String], src: &mut S, out
     ensures sink_later { K.faults out.old ≤ K.faults out.new }
     ensures steady_source { S.steady src.old → result ≢ Status.ReadFault }
     ensures steady_sink { K.steady out.old → result ≡ Status.WriteFault → K.full out.new }
+
+    // Each fault that came is told; only that of a read gives way to that of the flush behind it. What was written is
+    // then the same.
+    ensures read_told { result ≢ Status.ReadFault → result ≢ Status.WriteFault → S.faults src.new ≡ S.faults src.old }
+    ensures write_told { result ≢ Status.WriteFault → K.faults out.new ≡ K.faults out.old }
+    ensures read_says { (command : Command) → AskFor command (map (λ w. string_bytes w) words.now) → S.faults src.new ≢ S.faults src.old
+        → OfBytes (S.left src.old) (K.got out.old) (K.got out.new) (Says command Status.ReadFault (S.left src.new)) }
 
     // Where no count of faults rises, each input that is fine is done, or memory was wanting.
     ensures complete { (command : Command) → AskFor command (map (λ w. string_bytes w) words.now) → IfSome (S.left src.old) (λ input. IsFine command input

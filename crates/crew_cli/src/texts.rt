@@ -19,6 +19,7 @@ pub fn put_yes<K: Sink>(out: &mut K, verdict: Verdict) -> Result<(), WriteFault>
     ensures part { OnErr result ((d : Dossier) → verdict ≡ verdict_of d → AppendedPart (K.got out.old) (K.got out.new) (yes_line d)) }
     ensures later { K.faults out.old ≤ K.faults out.new }
     ensures cause { IsErr result → Rose (K.faults out.old) (K.faults out.new) }
+    ensures told { OnOk result (K.faults out.new ≡ K.faults out.old) }
     ensures steady { K.steady out.old → K.steady out.new × (IsErr result → K.full out.new) }
 {
     let parts = [
@@ -43,6 +44,7 @@ fn put_word<K: Sink>(out: &mut K, line: u64, reason: &[u8]) -> Result<(), WriteF
     ensures part { OnErr result (AppendedPart (K.got out.old) (K.got out.new) (line_text (codes "no" ∷ decimal line ∷ reason.now ∷ []))) }
     ensures later { K.faults out.old ≤ K.faults out.new }
     ensures cause { IsErr result → Rose (K.faults out.old) (K.faults out.new) }
+    ensures told { OnOk result (K.faults out.new ≡ K.faults out.old) }
     ensures steady { K.steady out.old → K.steady out.new × (IsErr result → K.full out.new) }
 {
     put_line(
@@ -64,6 +66,7 @@ fn put_plan<K: Sink>(out: &mut K, line: u64, verdict: PlanVerdict) -> Result<(),
     ensures part { OnErr result (AppendedPart (K.got out.old) (K.got out.new) (no_line line (Reason.Plan verdict))) }
     ensures later { K.faults out.old ≤ K.faults out.new }
     ensures cause { IsErr result → Rose (K.faults out.old) (K.faults out.new) }
+    ensures told { OnOk result (K.faults out.new ≡ K.faults out.old) }
     ensures steady { K.steady out.old → K.steady out.new × (IsErr result → K.full out.new) }
 {
     let no = Part::Word(b"no");
@@ -106,6 +109,7 @@ pub fn put_no<K: Sink>(out: &mut K, line: u64, reason: Reason) -> Result<(), Wri
     ensures part { OnErr result (AppendedPart (K.got out.old) (K.got out.new) (no_line line reason)) }
     ensures later { K.faults out.old ≤ K.faults out.new }
     ensures cause { IsErr result → Rose (K.faults out.old) (K.faults out.new) }
+    ensures told { OnOk result (K.faults out.new ≡ K.faults out.old) }
     ensures steady { K.steady out.old → K.steady out.new × (IsErr result → K.full out.new) }
 {
     let no = Part::Word(b"no");

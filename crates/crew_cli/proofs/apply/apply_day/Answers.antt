@@ -1,6 +1,6 @@
-use Rattle.std.proofs.Common.{◌<◌, length, subst, sym, arith}
+use Rattle.std.proofs.Common.{◌<◌, length, subst, sym, ◌∙◌, arith}
 use Rattle.crew_cli.specs.Applied.{IsApplied, IsDay}
-use Rattle.crew_cli.proofs.Applies.{at_refused, at_front, at_memory, at_taken, at_end, at_stop}
+use Rattle.crew_cli.proofs.Applies.{at_refused, at_front, at_memory, at_taken, at_end, at_stop, taken_is_no_fault}
 use Rattle.crew_cli.proofs.Said.{on_err}
 use Rattle.crew_cli.proofs.apply.apply_day.Goals as goal
 
@@ -39,6 +39,7 @@ loop-n-preserved g c =
       taken = t.taken;
       so_far = t.so_far;
       later = (let a = i.later in let b = c.in_ok-apply_entry.ensures.later in omega (arith, a, b));
+      told = c.in_ok-apply_entry.ensures.told (λ e. taken_is_no_fault c.in_ok-apply_entry.field-0 c.in-Taken.is e) ∙ i.told;
       steady = λ h. (c.in_ok-apply_entry.ensures.steady (i.steady h)).0;
     }
 

@@ -11,5 +11,6 @@ invariant-loop-n g l = record {
   taken : AreTaken start (take l.n l.entries);
   so_far : Appended (g.K.Sink.got l.fn.out) (g.K.Sink.got l.out) (rounds_text (rounds_of (take l.n l.entries)));
   later : g.K.Sink.faults l.fn.out ≤ g.K.Sink.faults l.out;
+  told : g.K.Sink.faults l.out ≡ g.K.Sink.faults l.fn.out;
   steady : g.K.Sink.steady l.fn.out → g.K.Sink.steady l.out;
 }

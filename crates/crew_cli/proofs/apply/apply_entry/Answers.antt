@@ -21,6 +21,7 @@ returns-in_default-entry g c =
       applied = (none, c.in_default.ensures.ok, subst (λ rs. Appended got got (rounds_text rs)) (sym (no_round c.args.desk.now c.args.entry.now c.in_default-entry.not-Plan)) (appended_none got));
       nothing = tt;
       write_fault = λ e. absurd (cc);
+      told = λ _. refl;
       later = omega arith;
       steady = λ h. (h, λ e. absurd (cc));
     }

@@ -1,7 +1,7 @@
-use Rattle.std.proofs.Common.{subst, arith}
+use Rattle.std.proofs.Common.{subst, refl, ◌∙◌, arith}
 use Rattle.crew_cli.specs.Input.{IsOutcome, OpensNext}
 use Rattle.crew_cli.proofs.LineByLine.{rose_from}
-use Rattle.crew_cli.proofs.Said.{opens, begins, says_one_more, says_yes, says_no, front_so_far, front_yes, front_no, on_err, says_yes_lines, says_read_fault}
+use Rattle.crew_cli.proofs.Said.{opens, begins, says_one_more, says_yes, says_no, front_so_far, front_yes, front_no, on_err, says_yes_lines, says_read_fault, yes_is_no_fault}
 use Rattle.crew_cli.proofs.check.check_all.Goals as goal
 
 pub dossiers-init : goal.dossiers-init
@@ -10,6 +10,8 @@ dossiers-init g c = record {
   so_far = begins (g.S.Source.left c.args.src.now) (g.K.Sink.got c.args.out.now) c.args.reader.now c.args.checker.now c.requires.reader c.requires.checker;
   source_later = omega arith;
   sink_later = omega arith;
+  source_told = refl;
+  sink_told = refl;
   steady_source = λ h. h;
   steady_sink = λ h. h;
 }
@@ -26,6 +28,8 @@ dossiers-preserved g c =
           c.in_default.ensures.all c.dossiers.invariant.so_far;
       source_later = let x = c.dossiers.invariant.source_later in let y = c.in_ok-verdict.ensures.later in omega (arith, x, y);
       sink_later = let x = c.dossiers.invariant.sink_later in let y = c.put_yes.ensures.later in omega (arith, x, y);
+      source_told = c.in_ok-verdict.ensures.told (λ e. yes_is_no_fault c.in_ok-verdict.field-0 c.in-Yes.verdict c.in-Yes.is e) ∙ c.dossiers.invariant.source_told;
+      sink_told = c.in_default.ensures.told ∙ c.dossiers.invariant.sink_told;
       steady_source = λ h. (c.in_ok-verdict.ensures.steady (c.dossiers.invariant.steady_source h)).0;
       steady_sink = λ h. (c.put_yes.ensures.steady (c.dossiers.invariant.steady_sink h)).0;
     }

@@ -1,4 +1,4 @@
-use Rattle.std.proofs.Common.{◌≤◌, ◌-◌}
+use Rattle.std.proofs.Common.{◌≡◌, ◌≤◌, ◌-◌}
 use Rattle.crew_cli.specs.Input.{IsOpen}
 use Rattle.crew_cli.proofs.Said.{HasSaidOf}
 use Rattle.crew_cli.proofs.check.check_all.Given as goal
@@ -9,6 +9,8 @@ invariant-dossiers g l = record {
   so_far : HasSaidOf (g.S.Source.left l.fn.src) (g.K.Sink.got l.fn.out) l.reader (g.S.Source.left l.src) (g.K.Sink.got l.out) l.checker.lines;
   source_later : g.S.Source.faults l.fn.src ≤ g.S.Source.faults l.src;
   sink_later : g.K.Sink.faults l.fn.out ≤ g.K.Sink.faults l.out;
+  source_told : g.S.Source.faults l.src ≡ g.S.Source.faults l.fn.src;
+  sink_told : g.K.Sink.faults l.out ≡ g.K.Sink.faults l.fn.out;
   steady_source : g.S.Source.steady l.fn.src → g.S.Source.steady l.src;
   steady_sink : g.K.Sink.steady l.fn.out → g.K.Sink.steady l.out;
 }
