@@ -1,4 +1,5 @@
-// One line of a dossier, judged by the row of the table that is due.
+// One line of a dossier, judged by the row of the table that is due. The calls through which each line goes are inlined,
+// so that what is due is moved once, and not from call to call.
 ghost use Rattle.std.specs.Prelude.{IfOk};
 ghost use Rattle.head_check.specs.Head.{Holds as HoldsHead, IsLineDue, reading_of};
 ghost use Rattle.cert_checker.specs.Due.{Awaits, IsAwaited, IsStep};
@@ -14,6 +15,7 @@ use head_check::{HeadDue, HeadStep, judge_head};
 use std::alloc::{AllocError, Global};
 
 /// What is due behind a line of the head.
+#[inline(always)]
 fn due_after(due: HeadDue) -> Due
     requires { HoldsHead due }
     ensures { Awaits result (reading_of due) }
@@ -25,6 +27,7 @@ fn due_after(due: HeadDue) -> Due
 }
 
 /// A line of the head.
+#[inline(always)]
 fn head_line(alloc: Global, due: HeadDue, words: LineWords<'_>) -> Result<Step, AllocError>
     requires due { IsLineDue due }
     requires holds { HoldsHead due }

@@ -15,6 +15,7 @@ use head::{form_line, place_line, size_line, task_line, team_line, travel_line};
 use std::alloc::{AllocError, Global};
 
 /// Judges the line of the head that is due. Its only error is want of memory.
+#[inline(always)]
 pub fn judge_head(alloc: Global, due: HeadDue, words: LineWords<'_>) -> Result<HeadStep, AllocError>
     requires due { IsLineDue due }
     requires holds { Holds due }
