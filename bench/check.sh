@@ -1,7 +1,7 @@
 #!/usr/bin/env bash
 # Times `crew check` against `wc -l` and `sha256sum` on the same bytes: a hundred megabytes and more of dossiers
-# with the greatest instance, and of small ones; a leaf of the greatest day, with all its potentials; and a pool and a
-# deep tree of half the size and of the whole.
+# with the greatest instance, of those of a small airport, and of the smallest there are; a leaf of the greatest day, with
+# all its potentials; and a pool and a deep tree of half the size and of the whole.
 set -eu
 here=$(cd "$(dirname "${BASH_SOURCE[0]}")" && pwd)
 . "$here/timing.sh"
@@ -33,6 +33,27 @@ greatest() {
     }
     print "pool 0 0\nplan 0 0"
     for (j = 0; j < 400; j++) print "do " j " " 200 + int(j / 64) * 150 " " j % 64
+    print "tree 0 0 1 0\nleaf bare\nend"
+  }'
+}
+
+# a dossier of 4 teams, 12 tasks and 6 places each of whose tasks is planned
+airport() {
+  awk 'BEGIN {
+    print "crew dossier 1\nsize 4 12 6 200\nplace BASE"
+    for (p = 1; p < 6; p++) print "place GATE-A" p
+    for (p = 0; p < 6; p++) {
+      row = "travel"
+      for (q = 0; q < 6; q++) row = row " " (p == q ? 0 : 5 + (p * 7 + q * 5) % 13)
+      print row
+    }
+    for (k = 0; k < 4; k++) print "team RAMP-" k + 1 " 0 360 840 0 " 1 + k % 3
+    for (j = 0; j < 12; j++) {
+      from = 420 + int(j / 4) * 90
+      print "task LH" 1000 + 37 * j " " 1 + j % 5 " " from " " from + 30 " 35 1 0"
+    }
+    print "pool 0 0\nplan 0 0"
+    for (j = 0; j < 12; j++) print "do " j " " 420 + int(j / 4) * 90 " " j % 4
     print "tree 0 0 1 0\nleaf bare\nend"
   }'
 }
@@ -98,9 +119,12 @@ repeat() {
 greatest >"$made/greatest"
 "$crew" check <"$made/greatest" >/dev/null
 repeat "$made/greatest" "$made/many-great"
-repeat "$here/../examples/first.dossier" "$made/many-small"
+airport >"$made/airport"
+repeat "$made/airport" "$made/many-small"
+repeat "$here/../examples/first.dossier" "$made/many-smallest"
 ratios 'dossiers of the greatest instance' "$made/many-great" "$crew" check
-ratios 'small dossiers' "$made/many-small" "$crew" check
+ratios 'dossiers of a small airport' "$made/many-small" "$crew" check
+ratios 'the smallest dossiers' "$made/many-smallest" "$crew" check
 full_leaf >"$made/full-leaf"
 ratios 'a leaf of the greatest day' "$made/full-leaf" "$crew" check
 for many in 50000 100000; do
