@@ -12,7 +12,7 @@ use node_limits::Limits;
 /// Prices are whole multiples of 1/D of a task.
 pub const D: i64 = 840_000_000;
 
-// What the teams of task `j` earn together.
+/// What the teams of task `j` earn together.
 fn price_of_task(limits: &Limits<'_>, prices: &Prices, j: u32) -> i128
     requires task { j < tasks_in limits.now.limits }
     requires prices { ArePricesOf limits.now.limits prices.now }
@@ -23,7 +23,7 @@ fn price_of_task(limits: &Limits<'_>, prices: &Prices, j: u32) -> i128
     i128::from(teams) * i128::from(prices.pi(j))
 }
 
-// The same, at most one task unless the node requires a team at the task.
+/// The same, at most one task unless the node requires a team at the task.
 fn term_of(limits: &Limits<'_>, prices: &Prices, j: u32) -> i128
     requires task { j < tasks_in limits.now.limits }
     requires prices { ArePricesOf limits.now.limits prices.now }

@@ -29,14 +29,14 @@ pub enum LocalVerdict {
     Worth,
 }
 
-// The potentials of a task at the minutes at which a team may begin it, of which `first` is the first.
+/// The potentials of a task at the minutes at which a team may begin it, of which `first` is the first.
 #[derive(Clone, Copy)]
 struct Visits<'t> {
     first: u32,
     potentials: &'t [i64],
 }
 
-// The visits of team `k` to task `j`; none where there is no minute at which it may begin the task.
+/// The visits of team `k` to task `j`; none where there is no minute at which it may begin the task.
 fn visits_to<'t>(limits: &Limits<'_>, k: u32, table: &'t Table, j: u32) -> Visits<'t>
     requires team { k < teams_in limits.now.limits }
     requires task { j < tasks_in limits.now.limits }
@@ -67,7 +67,7 @@ fn are_at_most(potentials: &[i64], most: i64) -> bool
     potentials.iter().all(|potential| *potential <= most)
 }
 
-// What a visit of team `k` to task `j` earns.
+/// What a visit of team `k` to task `j` earns.
 fn earned(prices: &Prices, k: u32, j: u32) -> i64
     requires team { k < length prices.now.rho }
     requires task { j < length prices.now.pi }
@@ -76,7 +76,7 @@ fn earned(prices: &Prices, k: u32, j: u32) -> i64
     prices.pi(j) + prices.rho(k, j)
 }
 
-// The minute at which a team that begins task `j` at this minute is ready for task `h`.
+/// The minute at which a team that begins task `j` at this minute is ready for task `h`.
 fn ready_for(instance: &Instance, minute: u32, j: u32, h: u32) -> u32
     requires minute { minute ≤ 2881 }
     requires from { j < length instance.now.tasks }
@@ -88,8 +88,8 @@ fn ready_for(instance: &Instance, minute: u32, j: u32, h: u32) -> u32
     minute + from.minutes + instance.travel(from.place, to.place)
 }
 
-// Whether the potentials of task `j` are at least its reward and the potential of each visit to task `h`
-// that can follow, of which these are the records.
+/// Whether the potentials of task `j` are at least its reward and the potential of each visit to task `h`
+/// that can follow, of which these are the records.
 fn holds_step(
     instance: &Instance,
     here: Visits<'_>,
@@ -118,7 +118,7 @@ fn holds_step(
     )
 }
 
-// The same for each task `h`.
+/// The same for each task `h`.
 fn holds_steps(
     instance: &Instance,
     here: Visits<'_>,
@@ -144,8 +144,8 @@ fn holds_steps(
     true
 }
 
-// Whether the potentials of task `j` are at least its reward, and its reward and the potential of each visit
-// that can follow. The records are those of each task.
+/// Whether the potentials of task `j` are at least its reward, and its reward and the potential of each visit
+/// that can follow. The records are those of each task.
 fn holds_potential(
     limits: &Limits<'_>,
     k: u32,
@@ -173,7 +173,7 @@ fn holds_potential(
     holds_steps(instance, here, least.list(), j, reward, records)
 }
 
-// Finds the records of each task. It takes no memory.
+/// Finds the records of each task. It takes no memory.
 fn find_records(limits: &Limits<'_>, k: u32, table: &Table, records: &mut Vec<Records>)
     requires team { k < teams_in limits.now.limits }
     requires table { IsTableOf limits.now.limits.instance table.now }
@@ -187,7 +187,7 @@ fn find_records(limits: &Limits<'_>, k: u32, table: &Table, records: &mut Vec<Re
     }
 }
 
-// Whether the worth is at least 0 and each potential of a visit.
+/// Whether the worth is at least 0 and each potential of a visit.
 fn holds_worth(limits: &Limits<'_>, k: u32, table: &Table, worth: i64) -> bool
     requires team { k < teams_in limits.now.limits }
     requires table { IsTableOf limits.now.limits.instance table.now }

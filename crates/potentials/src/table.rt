@@ -8,7 +8,7 @@ use crew_instance::Instance;
 use std::alloc::{AllocError, Global};
 use std::marker::Model;
 
-// The first start minute of a task, and a potential for each minute of its window.
+/// The first start minute of a task, and a potential for each minute of its window.
 #[derive(Drop)]
 struct Row {
     first: u32,

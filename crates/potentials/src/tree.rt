@@ -26,7 +26,7 @@ pub enum Node {
     Leaf { state: LeafState, prices: Prices },
 }
 
-// The numbers of a tree: its splits, its closed leaves, its other leaves, and its greatest depth.
+/// The numbers of a tree: its splits, its closed leaves, its other leaves, and its greatest depth.
 #[derive(Clone, Copy)]
 struct Numbers {
     splits: u32,
@@ -57,7 +57,7 @@ impl Model for Tree {
 }
 
 impl Numbers {
-    // The numbers with one more leaf, below so many splits.
+    /// The numbers with one more leaf, below so many splits.
     fn with_leaf(self, state: LeafState, level: u32) -> Numbers
         requires closed { self.closed < 200001 }
         requires left_open { self.left_open < 200001 }
@@ -73,7 +73,7 @@ impl Numbers {
     }
 }
 
-// What the node says of itself, if it is a leaf.
+/// What the node says of itself, if it is a leaf.
 fn state_of(node: &Node) -> Option<LeafState>
     ensures { result ≡ state_of node.now }
 {
@@ -83,7 +83,7 @@ fn state_of(node: &Node) -> Option<LeafState>
     }
 }
 
-// Goes on behind a node that is whole: the innermost split that is in its first child gets its second one.
+/// Goes on behind a node that is whole: the innermost split that is in its first child gets its second one.
 fn go_on(above: &mut ArrayVec<bool, 100000>)
     ensures { reverse above.new.items ≡ next_node (reverse above.old.items) }
 {
@@ -95,7 +95,7 @@ fn go_on(above: &mut ArrayVec<bool, 100000>)
     }
 }
 
-// The numbers of the tree with these nodes.
+/// The numbers of the tree with these nodes.
 fn numbers_of(nodes: &[Node]) -> Numbers
     requires whole { IsPreorder nodes.now }
     requires few { length nodes.now ≤ 200001 }
