@@ -51,17 +51,16 @@ fn turn_at(plan: &Plan, k: u32, task: u32) -> Option<Turn>
     }
 }
 
-/// The tasks of team `k`, by start and then by number.
-pub(crate) fn turns_of(plan: &Plan, k: u32) -> ArrayVec<Turn, 400>
-    ensures { AreTurns plan.now k (length plan.now) result.items }
+/// Puts the tasks of team `k`, by start and then by number, in the place of what the list holds.
+pub(crate) fn fill_turns(plan: &Plan, k: u32, turns: &mut ArrayVec<Turn, 400>)
+    ensures { AreTurns plan.now k (length plan.now) turns.new.items }
 {
-    let mut turns = ArrayVec::new();
+    turns.clear();
     for task in 0..plan.len() as u32 {
         if let Some(turn) = turn_at(plan, k, task) {
-            put_in_order(&mut turns, turn);
+            put_in_order(turns, turn);
         }
     }
-    turns
 }
 
 // Whether a team that does the one can do the other after it.
@@ -76,13 +75,19 @@ fn can_follow(instance: &Instance, before: Turn, after: Turn) -> bool
     before.start + from.minutes + instance.travel(from.place, to.place) <= after.start
 }
 
-// The first of the team's tasks that it can't come to in time from the one before.
-fn clash_of(instance: &Instance, plan: &Plan, k: u32) -> Option<PlanVerdict>
+// The first of the team's tasks that it can't come to in time from the one before. The list is memory to work in, and
+// what it holds before doesn't matter.
+fn clash_of(
+    instance: &Instance,
+    plan: &Plan,
+    k: u32,
+    turns: &mut ArrayVec<Turn, 400>,
+) -> Option<PlanVerdict>
     requires plan { IsPlanOf instance.now plan.now }
     requires jobs { AreJobsBelow instance.now plan.now (length plan.now) }
     ensures { MatchOption result (HasNoClash instance.now plan.now k) (IsClash instance.now plan.now k) }
 {
-    let turns = turns_of(plan, k);
+    fill_turns(plan, k, turns);
     let turns = turns.as_slice();
     for i in 1..turns.len() {
         let before = turns[i - 1];
@@ -101,8 +106,9 @@ pub fn fault_of_teams(instance: &Instance, plan: &Plan) -> Option<PlanVerdict>
     ensures verdict { MatchOption result (IsLegal instance.now plan.now) (IsVerdict instance.now plan.now) }
     ensures fault { IfSome result (λ _. ¬ (IsLegal instance.now plan.now)) }
 {
+    let mut turns = ArrayVec::new();
     for k in 0..instance.teams() as u32 {
-        if let Some(fault) = clash_of(instance, plan, k) {
+        if let Some(fault) = clash_of(instance, plan, k, &mut turns) {
             return Some(fault);
         }
     }

@@ -6,7 +6,8 @@ ghost use Rattle.crew_laws.specs.Visits.{AreVisitsOf};
 ghost use Rattle.plan_check.specs.Visits.{AreTasksOf};
 
 use crate::plan::Plan;
-use crate::turns::turns_of;
+use crate::turns::fill_turns;
+use arrayvec::ArrayVec;
 use crew_terms::Visit;
 use std::alloc::{AllocError, Global};
 
@@ -16,7 +17,8 @@ pub fn tasks_of(alloc: Global, plan: &Plan, k: u32) -> Result<Vec<Visit>, AllocE
     ensures tasks { IfOk result (λ visits. AreTasksOf plan.now k visits.items) }
     ensures legal { (i : Problem) → IsLegal i plan.now → IfOk result (λ visits. AreVisitsOf plan.now k visits.items) }
 {
-    let turns = turns_of(plan, k);
+    let mut turns = ArrayVec::new();
+    fill_turns(plan, k, &mut turns);
     let turns = turns.as_slice();
     let mut visits = Vec::with_capacity(alloc, turns.len())?;
     for turn in turns {

@@ -7,7 +7,7 @@ use Rattle.plan_check.proofs.turns.clash_of.Goals as goal
 pub can_follow-requires-clause-before : goal.can_follow-requires-clause-before
 can_follow-requires-clause-before c =
     let are : AreTurns c.args.plan.now c.args.k (length c.args.plan.now) c.as_slice-turns.result.now =
-    subst (AreTurns c.args.plan.now c.args.k (length c.args.plan.now)) (sym c.as_slice-turns.ensures.value) c.turns_of-turns.ensures in
+    subst (AreTurns c.args.plan.now c.args.k (length c.args.plan.now)) (sym c.as_slice-turns.ensures.value) c.fill_turns.ensures in
     let l = turn_known c.args.plan.now c.args.k _ _ (turn_done c.args.plan.now c.args.k _ c.as_slice-turns.result.now are (c.loop-i.i - 1) (omega arith)) in
     let w = c.requires.plan.whole in
     omega arith
@@ -15,7 +15,7 @@ can_follow-requires-clause-before c =
 pub can_follow-requires-clause-after : goal.can_follow-requires-clause-after
 can_follow-requires-clause-after c =
     let are : AreTurns c.args.plan.now c.args.k (length c.args.plan.now) c.as_slice-turns.result.now =
-    subst (AreTurns c.args.plan.now c.args.k (length c.args.plan.now)) (sym c.as_slice-turns.ensures.value) c.turns_of-turns.ensures in
+    subst (AreTurns c.args.plan.now c.args.k (length c.args.plan.now)) (sym c.as_slice-turns.ensures.value) c.fill_turns.ensures in
     let l = turn_known c.args.plan.now c.args.k _ _ (turn_done c.args.plan.now c.args.k _ c.as_slice-turns.result.now are c.loop-i.i (omega arith)) in
     let w = c.requires.plan.whole in
     omega arith
@@ -23,14 +23,14 @@ can_follow-requires-clause-after c =
 pub can_follow-requires-clause-window : goal.can_follow-requires-clause-window
 can_follow-requires-clause-window c =
     let are : AreTurns c.args.plan.now c.args.k (length c.args.plan.now) c.as_slice-turns.result.now =
-    subst (AreTurns c.args.plan.now c.args.k (length c.args.plan.now)) (sym c.as_slice-turns.ensures.value) c.turns_of-turns.ensures in
+    subst (AreTurns c.args.plan.now c.args.k (length c.args.plan.now)) (sym c.as_slice-turns.ensures.value) c.fill_turns.ensures in
     turn_in_window c.args.instance.now c.args.plan.now c.args.k (get_or c.as_slice-turns.result.now (c.loop-i.i - 1) no_turn) c.requires.jobs
     (turn_done c.args.plan.now c.args.k _ c.as_slice-turns.result.now are (c.loop-i.i - 1) (omega arith))
 
 pub returns-then-not-can_follow : goal.returns-then-not-can_follow
 returns-then-not-can_follow c =
     let are : AreTurns c.args.plan.now c.args.k (length c.args.plan.now) c.as_slice-turns.result.now =
-    subst (AreTurns c.args.plan.now c.args.k (length c.args.plan.now)) (sym c.as_slice-turns.ensures.value) c.turns_of-turns.ensures in
+    subst (AreTurns c.args.plan.now c.args.k (length c.args.plan.now)) (sym c.as_slice-turns.ensures.value) c.fill_turns.ensures in
     let e : (c.loop-i.i - 1) + 1 ≡ c.loop-i.i = let a = c.loop-i.auto.i in omega arith in
     let broken : Follows c.args.instance.now c.as_slice-turns.result.now (c.loop-i.i - 1) ((c.loop-i.i - 1) + 1) → ⊥ =
     λ h. let t : c.can_follow.result ≡ true = c.can_follow.ensures.1 (subst (λ b. Follows c.args.instance.now c.as_slice-turns.result.now (c.loop-i.i - 1) b) e h) in let f = c.if-not-can_follow.true in cc in
@@ -49,5 +49,5 @@ loop-i-preserved c =
 pub returns : goal.returns
 returns c =
     let are : AreTurns c.args.plan.now c.args.k (length c.args.plan.now) c.as_slice-turns.result.now =
-    subst (AreTurns c.args.plan.now c.args.k (length c.args.plan.now)) (sym c.as_slice-turns.ensures.value) c.turns_of-turns.ensures in
+    subst (AreTurns c.args.plan.now c.args.k (length c.args.plan.now)) (sym c.as_slice-turns.ensures.value) c.fill_turns.ensures in
     no_clash_from c.args.plan.now c.args.k c.as_slice-turns.result.now are c.args.instance.now (λ a l. c.loop-i.invariant a (let m = c.loop-i-test.false in omega arith))

@@ -3,8 +3,8 @@ use Rattle.arrayvec.specs.ArrayVec.{ArrayVec}
 use Rattle.plan_check.specs.Turns.{AreTurns}
 use Rattle.plan_check.specs.declared.turns.Turn.{Turn}
 use Rattle.plan_check.proofs.TeamTurns.{tasks_below, turns_skip, turns_put}
-use Rattle.plan_check.proofs.turns.turns_of.Goals as goal
-use Rattle.plan_check.proofs.turns.turns_of.Goals.{in-Some, in_default}
+use Rattle.plan_check.proofs.turns.fill_turns.Goals as goal
+use Rattle.plan_check.proofs.turns.fill_turns.Goals.{in-Some, in_default}
 
 pub put_in_order-requires-clause-last : goal.put_in_order-requires-clause-last
 put_in_order-requires-clause-last c =
