@@ -52,6 +52,8 @@ fn turn_at(plan: &Plan, k: u32, task: u32) -> Option<Turn>
 }
 
 /// Puts the tasks of team `k`, by start and then by number, in the place of what the list holds.
+// Each team goes through all tasks here, so its loop is kept out of the checker of lines.
+#[inline(never)]
 pub(crate) fn fill_turns(plan: &Plan, k: u32, turns: &mut ArrayVec<Turn, 400>)
     ensures { AreTurns plan.now k (length plan.now) turns.new.items }
 {
