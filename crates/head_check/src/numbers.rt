@@ -51,7 +51,10 @@ pub(crate) fn number_list(alloc: Global, numbers: &Rest<'_>) -> Result<Vec<u32>,
 }
 
 /// The numbers of teams, copied out of a line.
-pub fn team_list(alloc: Global, teams: &Rest<'_>) -> Result<SmallVec<u32, MOST_TEAMS_PER_TASK>, AllocError>
+pub fn team_list(
+    alloc: Global,
+    teams: &Rest<'_>,
+) -> Result<SmallVec<u32, MOST_TEAMS_PER_TASK>, AllocError>
     requires { AreBelow 64 teams.now }
     ensures { IfOk result (λ list. list.items ≡ naturals teams.now) }
 {
