@@ -1,18 +1,14 @@
--- numbers and names that a row of fields accepts
-use Rattle.std.proofs.Common.{◌≡◌, ◌≢◌, ◌≤◌, ◌<◌, ◌+◌, ◌^◌, ◌++◌, ◌⊎◌, inl, inr, [], ◌∷◌, ℕ, zero, suc, ℤ, pos, negsuc, ◌≤ℤ◌, ◌+ℤ◌, ◌-ℤ◌, List, Ok, Err, length, map, take, drop, drop-cons, get_or, ap, sym, refl, ◌∙◌, subst, arith, to_z, of_z, w64, nat_abs}
+-- numbers that a row of fields accepts
+use Rattle.std.proofs.Common.{◌≡◌, ◌≤◌, ◌<◌, ◌+◌, ◌^◌, ◌++◌, [], ◌∷◌, ℕ, zero, suc, ℤ, pos, negsuc, ◌≤ℤ◌, ◌+ℤ◌, ◌-ℤ◌, List, Ok, Err, length, map, take, drop, drop-cons, get_or, ap, sym, refl, ◌∙◌, subst, arith, to_z, of_z, w64, nat_abs}
 use Rattle.std.proofs.lemmas.Int.{ints, to_z_pos}
 use Rattle.std.proofs.lemmas.List.{drop_all}
 use Rattle.std.specs.Fmt.{decimal}
 use Rattle.crew_terms.specs.Words.{Words}
-use Rattle.crew_terms.specs.Name.{IsName}
 use Rattle.dossier_terms.specs.Rules.{IsShape, IsShapeFrom}
-use Rattle.cert_format.proofs.Rows.{whole_line, longer_line, named_line}
-use Rattle.field_table.specs.Fields.{Spells, Accepts, Refuses, AllAccept, AreValues, IsFirstFault}
-use Rattle.field_table.specs.Fields.IsFirstFault.{TooFew, Refused}
-use Rattle.field_table.specs.declared.fields.Cause.{Cause}
-use Rattle.field_table.specs.declared.fields.Cause.TheVariants.{Count, Spelling, Range}
+use Rattle.cert_format.proofs.Rows.{whole_line, longer_line}
+use Rattle.field_table.specs.Fields.{Spells, Accepts, AllAccept, AreValues}
 use Rattle.field_table.specs.declared.fields.Kind.{Kind}
-use Rattle.field_table.specs.declared.fields.Kind.TheVariants.{Number, Name}
+use Rattle.field_table.specs.declared.fields.Kind.TheVariants.{Number}
 use Rattle.field_table.specs.declared.fields.Field.{Field}
 use Rattle.field_table.specs.declared.fields.FieldFault.{FieldFault}
 
@@ -49,12 +45,9 @@ pub none_read : (fs : List Field) (ws : Words) (fault : FieldFault) → ((values
     → (values : List ℤ) → AreValues fs ws values → ⊥
 none_read fs ws fault back values a = let e : Err fault ≡ Ok values = back values a in cc
 
--- a field of numbers, and a field of names
+-- a field of numbers
 abbrev pub number_field : ℕ → ℤ → Field
 number_field low high = record { low = pos low; high = high; kind = Number }
-
-abbrev pub name_field : Field
-name_field = record { low = pos 1; high = pos 32; kind = Name }
 
 -- the number that a value is when it is cast
 abbrev pub cast : ℤ → ℕ
@@ -119,54 +112,11 @@ row_of fs ws zs n a =
     subst (λ (xs : List ℤ). AreIn fs (map cast xs) × (take (length fs) (drop 1 ws) ≡ map decimal (map cast xs))) e
     (numbers_of fs (take (length fs) (drop 1 ws)) zs n a.accepted)
 
--- and a row whose first field is a name
-named : (fs : List Field) (ws : Words) (zs : List ℤ) → AreNatural fs → AllAccept (name_field ∷ fs) (take (suc (length fs)) (drop 1 ws)) zs
-    → IsName (get_or ws 1 []) × AreIn fs (map cast (drop 1 zs)) × (take (length fs) (drop 2 ws) ≡ map decimal (map cast (drop 1 zs)))
-named fs [] zs n a = absurd a
-named fs (w ∷ []) zs n a = absurd a
-named fs (w ∷ x ∷ ws) [] n a = absurd a
-named fs (w ∷ x ∷ ws) (z ∷ zs) n a = let more = numbers_of fs (take (length fs) ws) zs n a.1 in (a.0.spelled.0, more.0, more.1)
-
-pub named_row_of : (fs : List Field) (ws : Words) (zs : List ℤ) → AreNatural fs → AreValues (name_field ∷ fs) ws zs
-    → IsName (get_or ws 1 []) × AreIn fs (map cast (firsts (length fs) 1 zs)) × (take (length fs) (drop 2 ws) ≡ map decimal (map cast (firsts (length fs) 1 zs)))
-named_row_of fs ws zs n a =
-    let l = one_each (name_field ∷ fs) (take (suc (length fs)) (drop 1 ws)) zs a.accepted in
-    let e : drop 1 zs ≡ firsts (length fs) 1 zs = firsts_from (length fs) 1 zs (omega arith) in
-    subst (λ (xs : List ℤ). IsName (get_or ws 1 []) × AreIn fs (map cast xs) × (take (length fs) (drop 2 ws) ≡ map decimal (map cast xs))) e (named fs ws zs n a.accepted)
-
--- a line of one word, a name, these numbers and more
-pub named_read : (fs : List Field) (w name : List ℕ) (ns : List ℕ) (rest : Words) → IsName name → AreIn fs ns
-    → AreValues (name_field ∷ fs) (w ∷ name ∷ (map decimal ns ++ rest)) (pos (length name) ∷ map pos ns)
-named_read fs w name ns rest is a = record {
-  enough = (let l = long fs ns rest a in omega arith);
-  accepted = (record { spelled = (is, refl); low = (let s = is.some in omega (arith, ints)); high = (let s = is.short in omega (arith, ints)) }, front_accepted fs ns rest a);
-}
-
-name_accepted : (w : List ℕ) → IsName w → Accepts name_field w (pos (length w))
-name_accepted w is = record { spelled = (is, refl); low = (let s = is.some in omega (arith, ints)); high = (let s = is.short in omega (arith, ints)) }
-
-no_name : (w : List ℕ) (cause : Cause) → Refuses name_field w cause → IsName w → ⊥
-no_name w Count r is = r
-no_name w Spelling r is = r (pos (length w)) (is, refl)
-no_name w Range (y, s, out) is = out (subst (Accepts name_field w) (sym s.1) (name_accepted w is))
-
-first_named : (fs : List Field) (ws : Words) (k : ℕ) (zs : List ℤ) → AllAccept (take (suc k) (name_field ∷ fs)) (take (suc k) (drop 1 ws)) zs → IsName (get_or ws 1 [])
-first_named fs [] k zs a = absurd a
-first_named fs (w ∷ []) k zs a = absurd a
-first_named fs (w ∷ x ∷ ws) k [] a = absurd a
-first_named fs (w ∷ x ∷ ws) k (z ∷ zs) a = a.0.spelled.0
-
--- a fault at the first field is that of the name, and else the name is one
-pub fault_of_name : (fs : List Field) (ws : Words) (fault : FieldFault) → suc (length fs) < length ws → IsFirstFault (name_field ∷ fs) ws fault
-    → ((fault.place ≡ 1) × (IsName (get_or ws 1 []) → ⊥)) ⊎ ((fault.place ≢ 1) × IsName (get_or ws 1 []))
-fault_of_name fs ws fault long (TooFew few is) = absurd (omega arith)
-fault_of_name fs ws fault long (Refused enough zero place field at refused values accepted) =
-    inl (place, no_name (get_or ws 1 []) fault.cause (subst (λ (f : Field). Refuses f (get_or ws 1 []) fault.cause) (let e : field ≡ name_field = cc in e) refused))
-fault_of_name fs ws fault long (Refused enough (suc k) place field at refused values accepted) =
-    inr ((λ e. absurd (omega arith)), first_named fs ws k values accepted)
-
 -- the last number below a count
-pub last_below : (n : ℕ) → n < 2 ^ 32 → to_z w64 (of_z w64 (to_z w64 n -ℤ pos 1)) +ℤ pos 1 ≡ pos n
+abbrev pub last_of : ℕ → ℤ
+last_of n = to_z w64 (of_z w64 (to_z w64 n -ℤ pos 1))
+
+pub last_below : (n : ℕ) → n < 2 ^ 32 → last_of n +ℤ pos 1 ≡ pos n
 last_below n h = omega (arith, ints)
 
 -- the line of one word and the numbers that its row reads
@@ -183,15 +133,3 @@ pub longer_line_of_row : (fs : List Field) (w : List ℕ) (ws : Words) (zs : Lis
 longer_line_of_row fs w ws zs ss n shape a rest =
     let row = row_of fs ws zs n a in
     (row.0, longer_line w (length fs) ws (map cast (firsts (length fs) 0 zs)) ss shape row.1 rest)
-
--- the line of one word, a name and the numbers that its row reads, and more of them
-pub named_line_of_row : (fs : List Field) (w name : List ℕ) (ws : Words) (zs : List ℤ) (ss : List ℕ) → AreNatural fs → IsShapeFrom w (suc (length fs)) ws
-    → name ≡ get_or ws 1 [] → AreValues (name_field ∷ fs) ws zs → drop (suc (suc (length fs))) ws ≡ map decimal ss
-    → IsName name × AreIn fs (map cast (firsts (length fs) 1 zs)) × (ws ≡ w ∷ name ∷ (map decimal (map cast (firsts (length fs) 1 zs)) ++ map decimal ss))
-named_line_of_row fs w name ws zs ss n shape is a rest =
-    let row = named_row_of fs ws zs n a in (
-      subst IsName (sym is) row.0,
-      row.1,
-      named_line w (length fs) ws (map cast (firsts (length fs) 1 zs)) ss shape row.2 rest
-          ∙ ap (λ (v : List ℕ). w ∷ v ∷ (map decimal (map cast (firsts (length fs) 1 zs)) ++ map decimal ss)) (sym is),
-    )

@@ -1,8 +1,8 @@
 pub mod Fields
+pub mod Names
 pub mod Fronts
 pub mod Rests
 pub mod Visits
-pub mod Exits
 pub mod Heads
 pub mod Rows
 pub mod Accepted

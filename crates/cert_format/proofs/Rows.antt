@@ -1,5 +1,5 @@
 -- the lines that words make
-use Rattle.std.proofs.Common.{◌≡◌, ◌<◌, ◌++◌, [], ◌∷◌, ℕ, suc, List, length, map, take, drop, get_or, ap, sym, ◌∙◌, arith}
+use Rattle.std.proofs.Common.{◌≡◌, ◌++◌, [], ◌∷◌, ℕ, suc, List, map, take, drop, get_or, ap, sym, ◌∙◌, arith}
 use Rattle.std.specs.Fmt.{decimal}
 use Rattle.std.proofs.lemmas.List.{take_all, take-append-drop}
 use Rattle.crew_terms.specs.Words.{Words}
@@ -14,17 +14,6 @@ whole_line w n ws ns shape spelled =
 pub apart : (ws : Words) (v w : List ℕ) (xs ys : Words) → ws ≡ v ∷ xs → ws ≡ w ∷ ys → get_or v 0 0 ≡ get_or w 0 0
 apart ws v w xs ys a b = ap (λ zs. get_or (get_or zs 0 []) 0 0) (sym a ∙ b)
 
--- a line of two words, n numbers and more of them
-pub named_line : (w : List ℕ) (n : ℕ) (ws : Words) (ns ss : List ℕ) → IsShapeFrom w (suc n) ws → take n (drop 2 ws) ≡ map decimal ns → drop (suc (suc n)) ws ≡ map decimal ss
-    → ws ≡ w ∷ get_or ws 1 [] ∷ (map decimal ns ++ map decimal ss)
-named_line w n ws ns ss ([], is, few) a b = absurd (omega arith)
-named_line w n ws ns ss (x ∷ xs, is, few) a b =
-    let front : take n xs ≡ map decimal ns = ap (λ ys. take n (drop 2 ys)) (sym is) ∙ a in
-    let back : drop n xs ≡ map decimal ss = ap (drop (suc (suc n))) (sym is) ∙ b in
-    let name : x ≡ get_or ws 1 [] = ap (λ ys. get_or ys 1 []) (sym is) in
-    is ∙ ap (λ ys. w ∷ x ∷ ys) (sym (take-append-drop n xs) ∙ ap (λ ys. ys ++ drop n xs) front ∙ ap (λ ys. map decimal ns ++ ys) back)
-    ∙ ap (λ y. w ∷ y ∷ (map decimal ns ++ map decimal ss)) name
-
 -- a line of one word, n numbers and more of them
 pub longer_line : (w : List ℕ) (n : ℕ) (ws : Words) (ns ss : List ℕ) → IsShapeFrom w n ws → take n (drop 1 ws) ≡ map decimal ns → drop (suc n) ws ≡ map decimal ss
     → ws ≡ w ∷ (map decimal ns ++ map decimal ss)
@@ -32,6 +21,3 @@ longer_line w n ws ns ss (xs, is, few) a b =
     let front : take n xs ≡ map decimal ns = ap (λ ys. take n (drop 1 ys)) (sym is) ∙ a in
     let back : drop n xs ≡ map decimal ss = ap (drop (suc n)) (sym is) ∙ b in
     is ∙ ap (λ ys. w ∷ ys) (sym (take-append-drop n xs) ∙ ap (λ ys. ys ++ drop n xs) front ∙ ap (λ ys. map decimal ns ++ ys) back)
-
-pub longer : (w : List ℕ) (n : ℕ) (ws : Words) → IsShapeFrom w n ws → n < length ws
-longer w n ws (rest, is, few) = let l = ap length is in omega arith

@@ -1,17 +1,16 @@
 -- lines whose words no row accepts are no lines of their kind
-use Rattle.std.proofs.Common.{◌≡◌, ◌<◌, ◌+ℤ◌, ◌^◌, ◌++◌, [], ◌∷◌, ℕ, ℤ, pos, List, length, map, sym, refl, subst, arith}
+use Rattle.std.proofs.Common.{◌≡◌, ◌<◌, ◌+ℤ◌, ◌^◌, ◌++◌, [], ◌∷◌, ℕ, ℤ, pos, List, map, sym, refl, subst, arith}
 use Rattle.std.specs.Prelude.{codes}
 use Rattle.std.specs.Fmt.{decimal}
 use Rattle.std.proofs.lemmas.Int.{ints}
 use Rattle.crew_terms.specs.Words.{Words}
-use Rattle.crew_terms.specs.Name.{IsName}
 use Rattle.dossier_terms.specs.Rules.{IsShape}
 use Rattle.field_table.specs.Fields.{AreValues}
 use Rattle.field_table.specs.declared.fields.Field.{Field}
 use Rattle.cert_format.specs.declared.kinds.LineKind.{LineKind}
 use Rattle.cert_format.specs.declared.kinds.LineKind.TheVariants as kinds
-use Rattle.cert_format.specs.Lines.{IsSizeLine, IsTeamOf, IsTaskOf, IsPoolLine, IsPlanLine, IsJobLine, IsTreeLine, IsNodeLine}
-use Rattle.cert_format.proofs.Accepted.{number_field, name_field, AreIn, numbers_read, named_read}
+use Rattle.cert_format.specs.Lines.{IsSizeLine, IsPoolLine, IsPlanLine, IsJobLine, IsTreeLine, IsNodeLine}
+use Rattle.cert_format.proofs.Accepted.{number_field, AreIn, numbers_read}
 use Rattle.cert_format.proofs.Rows.{apart}
 
 -- no values are read of the words
@@ -20,11 +19,6 @@ NoneRead fs ws = (values : List ℤ) → AreValues fs ws values → ⊥
 
 pub none_of : (fs : List Field) (ws : Words) (w : List ℕ) (ns : List ℕ) (rest : Words) → NoneRead fs ws → AreIn fs ns → ws ≡ w ∷ (map decimal ns ++ rest) → ⊥
 none_of fs ws w ns rest none a is = none (map pos ns) (subst (λ (xs : Words). AreValues fs xs (map pos ns)) (sym is) (numbers_read fs w ns rest a))
-
-none_named : (fs : List Field) (ws : Words) (w name : List ℕ) (ns : List ℕ) (rest : Words) → NoneRead (name_field ∷ fs) ws → IsName name → AreIn fs ns
-    → ws ≡ w ∷ name ∷ (map decimal ns ++ rest) → ⊥
-none_named fs ws w name ns rest none named a is =
-    none (pos (length name) ∷ map pos ns) (subst (λ (xs : Words). AreValues (name_field ∷ fs) xs (pos (length name) ∷ map pos ns)) (sym is) (named_read fs w name ns rest named a))
 
 abbrev pub size_fields : List Field
 size_fields = number_field 0 (pos 64) ∷ number_field 0 (pos 400) ∷ number_field 0 (pos 200) ∷ number_field 0 (pos 100000) ∷ []
@@ -37,9 +31,6 @@ size_wrong ws none (kinds.Size m n p b) (z, is) =
     let nodes = z.nodes in
     none_of size_fields ws (codes "size") (m ∷ n ∷ p ∷ b ∷ []) [] none (refl, omega (arith, ints), omega (arith, ints), omega arith, (refl, omega (arith, ints), omega (arith, ints), omega arith, (refl, omega (arith, ints), omega (arith, ints), omega arith, (refl, omega (arith, ints), omega (arith, ints), omega arith, tt)))) is
 size_wrong ws none _ h = absurd h
-
-pub place_wrong : (ws : Words) → NoneRead (name_field ∷ []) ws → (name : List ℕ) → IsName name → ws ≡ codes "place" ∷ name ∷ [] → ⊥
-place_wrong ws none name named is = none_named [] ws (codes "place") name [] [] none named tt is
 
 abbrev pub tree_fields : List Field
 tree_fields = number_field 0 (pos 100000) ∷ number_field 0 (pos 100000) ∷ number_field 0 (pos 100001) ∷ number_field 0 (pos 100000) ∷ []
@@ -98,31 +89,3 @@ pair_wrong teams tasks ws lt lk e f small few shape none kinds.LeafBare is = let
 pair_wrong teams tasks ws lt lk e f small few shape none kinds.LeafOpen is = let g = apart ws (codes "pair") (codes "leaf") shape.0 _ shape.1 is in absurd (omega arith)
 pair_wrong teams tasks ws lt lk e f small few shape none kinds.LeafClosed is = let g = apart ws (codes "pair") (codes "leaf") shape.0 _ shape.1 is in absurd (omega arith)
 pair_wrong teams tasks ws lt lk e f small few shape none _ h = absurd h
-
-abbrev pub team_fields : ℤ → List Field
-team_fields last = number_field 0 last ∷ number_field 0 (pos 2880) ∷ number_field 0 (pos 2880) ∷ []
-
-pub team_wrong : (places : ℕ) (ws : Words) (last : ℤ) → last +ℤ pos 1 ≡ pos places → places < 2 ^ 32
-    → NoneRead (name_field ∷ team_fields last) ws → (kind : LineKind) → IsTeamOf places ws kind → ⊥
-team_wrong places ws last e small none (kinds.Team name home from until skills) (ss, f, t, is) =
-    let a = t.home in
-    let b = t.from in
-    let c = t.until in
-    none_named (team_fields last) ws (codes "team") name (home ∷ from ∷ until ∷ []) (map decimal ss) none t.name (refl, omega (arith, ints), omega (arith, ints), omega arith, (refl, omega (arith, ints), omega (arith, ints), omega arith, (refl, omega (arith, ints), omega (arith, ints), omega arith, tt))) is
-team_wrong places ws last e small none _ h = absurd h
-
-abbrev pub task_fields : ℤ → List Field
-task_fields last = number_field 0 last ∷ number_field 0 (pos 2880) ∷ number_field 0 (pos 2880) ∷ number_field 1 (pos 2880) ∷ number_field 1 (pos 8) ∷ []
-
-pub task_wrong : (places : ℕ) (ws : Words) (last : ℤ) → last +ℤ pos 1 ≡ pos places → places < 2 ^ 32
-    → NoneRead (name_field ∷ task_fields last) ws → (kind : LineKind) → IsTaskOf places ws kind → ⊥
-task_wrong places ws last e small none (kinds.Task name place earliest latest minutes teams skills) (ss, f, t, is) =
-    let a = t.place in
-    let b = t.earliest in
-    let c = t.latest in
-    let d = t.some_minutes in
-    let g = t.minutes in
-    let h = t.some_teams in
-    let k = t.teams in
-    none_named (task_fields last) ws (codes "task") name (place ∷ earliest ∷ latest ∷ minutes ∷ teams ∷ []) (map decimal ss) none t.name (refl, omega (arith, ints), omega (arith, ints), omega arith, (refl, omega (arith, ints), omega (arith, ints), omega arith, (refl, omega (arith, ints), omega (arith, ints), omega arith, (refl, omega (arith, ints), omega (arith, ints), omega arith, (refl, omega (arith, ints), omega (arith, ints), omega arith, tt))))) is
-task_wrong places ws last e small none _ h = absurd h

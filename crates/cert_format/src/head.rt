@@ -2,10 +2,10 @@
 ghost use Rattle.cert_format.specs.Lines.{ReadsLine};
 
 use crate::kinds::{Expect, LineFault, LineKind};
-use crate::numbers::read_below;
-use crate::ranges::{MINUTE, NAME, name_of, named};
+use crate::numbers::{read_below, read_in};
+use crate::ranges::{MINUTE, read_name};
 use crate::shape::{has_shape, has_shape_from, is_word};
-use field_table::{LineWords, fields};
+use field_table::{LineWords, field, fields};
 
 /// Reads the line `crew dossier 1`.
 pub(crate) fn read_form<'a>(words: LineWords<'a>) -> Result<LineKind<'a>, LineFault>
@@ -46,8 +46,7 @@ pub(crate) fn read_place<'a>(words: LineWords<'a>) -> Result<LineKind<'a>, LineF
     if !has_shape(&words, b"place", 1) {
         return Err(LineFault::Shape);
     }
-    fields!(&words, "place" => _length: NAME; else fault => LineFault::Name);
-    let name = name_of(&words);
+    let name = read_name(&words)?;
     Ok(LineKind::Place { name })
 }
 
@@ -70,11 +69,10 @@ pub(crate) fn read_team<'a>(words: LineWords<'a>, places: u32) -> Result<LineKin
         return Err(LineFault::Shape);
     }
     let last = places as i64 - 1;
-    fields!(
-        &words, "team" => _length: NAME, home: Number(0, last), from: MINUTE, until: MINUTE;
-        else fault => named(fault)
-    );
-    let name = name_of(&words);
+    let name = read_name(&words)?;
+    let home = read_in(&words, 2, &field!(Number(0, last)))?;
+    let from = read_in(&words, 3, &MINUTE)?;
+    let until = read_in(&words, 4, &MINUTE)?;
     let skills = read_below(words, 5, 64)?;
     Ok(LineKind::Team {
         name,
@@ -93,12 +91,12 @@ pub(crate) fn read_task<'a>(words: LineWords<'a>, places: u32) -> Result<LineKin
         return Err(LineFault::Shape);
     }
     let last = places as i64 - 1;
-    fields!(
-        &words, "task" => _length: NAME, place: Number(0, last), earliest: MINUTE, latest: MINUTE,
-            minutes: Number(1, 2880), teams: Number(1, 8);
-        else fault => named(fault)
-    );
-    let name = name_of(&words);
+    let name = read_name(&words)?;
+    let place = read_in(&words, 2, &field!(Number(0, last)))?;
+    let earliest = read_in(&words, 3, &MINUTE)?;
+    let latest = read_in(&words, 4, &MINUTE)?;
+    let minutes = read_in(&words, 5, &field!(Number(1, 2880)))?;
+    let teams = read_in(&words, 6, &field!(Number(1, 8)))?;
     let skills = read_below(words, 7, 64)?;
     Ok(LineKind::Task {
         name,

@@ -1,5 +1,5 @@
 // A line of words, written to a sink.
-ghost use Rattle.std.specs.Prelude.{◌≡◌, ◌≤◌, ◌++◌, [], map, OnOk, OnErr, IsErr};
+ghost use Rattle.std.specs.Prelude.{◌≡◌, ◌≤◌, ◌++◌, [], ◌∷◌, map, OnOk, OnErr, IsErr};
 ghost use Rattle.crew_io.specs.Io.{Rose, Appended, AppendedPart};
 ghost use Rattle.crew_terms.specs.Words.{line_text};
 ghost use Rattle.cert_format.specs.Parts.{text_of};
@@ -45,6 +45,16 @@ fn add(line: &mut ShortLine, bytes: &[u8]) -> Result<(), Longer>
     }
 }
 
+/// Adds a byte to a short line, where it fits.
+fn add_byte(line: &mut ShortLine, byte: u8) -> Result<(), Longer>
+    ensures { OnOk result (line.new.items ≡ line.old.items ++ byte ∷ []) }
+{
+    match line.try_push(byte) {
+        Ok(()) => Ok(()),
+        Err(_) => Err(Longer),
+    }
+}
+
 /// Adds the word that a part is to a short line, where it fits.
 fn add_part(line: &mut ShortLine, part: &Part<'_>) -> Result<(), Longer>
     ensures { OnOk result (line.new.items ≡ line.old.items ++ text_of part.now) }
@@ -63,13 +73,15 @@ fn gather(line: &mut ShortLine, parts: &[Part<'_>]) -> Result<(), Longer>
     requires { line.old.items ≡ [] }
     ensures { OnOk result (line.new.items ≡ line_text (map text_of parts.now)) }
 {
-    let mut between = b"".as_slice();
-    for part in parts {
-        add(line, between)?;
+    let Some((first, others)) = parts.split_first() else {
+        return add_byte(line, b'\n');
+    };
+    add_part(line, first)?;
+    for part in others {
+        add_byte(line, b' ')?;
         add_part(line, part)?;
-        between = b" ".as_slice();
     }
-    add(line, b"\n")
+    add_byte(line, b'\n')
 }
 
 fn put_part<K: Sink>(out: &mut K, part: &Part<'_>) -> Result<(), WriteFault>

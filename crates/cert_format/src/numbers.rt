@@ -47,18 +47,28 @@ impl<'a> Rest<'a> {
     }
 }
 
-/// Whether the word with this number is the decimal of a number in a field's range.
+/// Reads the number of the word at a place, in a field's range.
+// A field is a constant where its word is read; inlined, its range is too.
+#[inline(always)]
+pub(crate) fn read_in(words: &LineWords<'_>, n: usize, field: &Field) -> Result<i64, LineFault>
+    requires { n < length words.now }
+    ensures { MatchResult result (λ z. IsIn field.now z × (slice_index_or words.now n [] ≡ signed_decimal z)) (λ fault. (fault ≡ LineFault.Number) × ((z : ℤ) → IsIn field.now z → slice_index_or words.now n [] ≢ signed_decimal z)) }
+{
+    let Some(z) = words.number(n) else {
+        return Err(LineFault::Number);
+    };
+    if z < field.low || z > field.high {
+        return Err(LineFault::Number);
+    }
+    Ok(z)
+}
+
+/// Whether the word at a place is the decimal of a number in a field's range.
 fn is_in(words: &LineWords<'_>, n: usize, field: &Field) -> bool
     requires { n < length words.now }
     ensures { MatchBool result ((z : ℤ) × IsIn field.now z × (slice_index_or words.now n [] ≡ signed_decimal z)) ((z : ℤ) → IsIn field.now z → slice_index_or words.now n [] ≢ signed_decimal z) }
 {
-    let Some(z) = words.number(n) else {
-        return false;
-    };
-    if z < field.low || z > field.high {
-        return false;
-    }
-    true
+    read_in(words, n, field).is_ok()
 }
 
 /// Whether the words from a place on are the decimals of numbers in a field's range.

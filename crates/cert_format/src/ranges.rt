@@ -1,10 +1,10 @@
-// The fields that several lines have, and what their faults are.
-ghost use Rattle.std.specs.Prelude.{◌≡◌, ◌≢◌, ◌<◌, [], length, slice_index_or};
+// The fields that several lines have.
+ghost use Rattle.std.specs.Prelude.{◌≡◌, ◌<◌, [], length, slice_index_or, MatchResult};
 ghost use Rattle.dossier_terms.specs.Table.{HasName};
 
 use crate::kinds::LineFault;
 use crew_terms::Name;
-use field_table::{Field, FieldFault, Kind, LineWords, Words};
+use field_table::{Field, Kind, LineWords, Words};
 
 /// A minute of the day, of today and tomorrow.
 pub(crate) const MINUTE: Field = Field {
@@ -27,29 +27,13 @@ pub(crate) const POTENTIAL: Field = Field {
     kind: Kind::Number,
 };
 
-/// A name of a place, a team or a task.
-pub(crate) const NAME: Field = Field {
-    low: 1,
-    high: 32,
-    kind: Kind::Name,
-};
-
-/// The fault of a line whose first field is its name.
-pub(crate) fn named(fault: FieldFault) -> LineFault
-    ensures name { fault.place ≡ 1 → result ≡ LineFault.Name }
-    ensures number { fault.place ≢ 1 → result ≡ LineFault.Number }
+/// Reads the name that stands after the first word.
+pub(crate) fn read_name(words: &LineWords<'_>) -> Result<Name, LineFault>
+    requires { 1 < length words.now }
+    ensures { MatchResult result (λ name. HasName words.now × (slice_index_or words.now 1 [] ≡ name)) (λ fault. (fault ≡ LineFault.Name) × (HasName words.now → ⊥)) }
 {
-    if fault.place == 1 {
-        return LineFault::Name;
+    match Name::read(words.word(1)) {
+        Some(name) => Ok(name),
+        None => Err(LineFault::Name),
     }
-    LineFault::Number
-}
-
-/// The name that stands after the first word.
-pub(crate) fn name_of(words: &LineWords<'_>) -> Name
-    requires there { 1 < length words.now }
-    requires named { HasName words.now }
-    ensures { result ≡ slice_index_or words.now 1 [] }
-{
-    Name::read(words.word(1)).unwrap()
 }

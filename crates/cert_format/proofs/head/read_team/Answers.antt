@@ -1,36 +1,53 @@
-use Rattle.std.proofs.Common.{refl, arith}
+use Rattle.std.proofs.Common.{[], ◌∷◌, get_or, refl, subst, arith}
 use Rattle.std.proofs.lemmas.Int.{ints}
+use Rattle.std.proofs.lemmas.Result.{err_from_is_err_and}
 use Rattle.std.specs.Prelude.{codes}
+use Rattle.crew_terms.specs.Name.{IsName}
 use Rattle.cert_format.specs.declared.kinds.Expect.TheVariants.{Team}
-use Rattle.cert_format.proofs.Exits.{named_told}
-use Rattle.cert_format.proofs.Rows.{longer}
-use Rattle.cert_format.proofs.Accepted.{none_read, named_line_of_row, last_below}
-use Rattle.cert_format.proofs.Wrong.{team_fields, team_wrong}
+use Rattle.cert_format.proofs.Accepted.{number_field, last_of, last_below}
+use Rattle.cert_format.proofs.Fields.{number_spelled}
+use Rattle.cert_format.proofs.Names.{minute_field, team_numbers, number_told, named_line}
 use Rattle.cert_format.proofs.head.read_team.Goals as goal
+
+pub returns-in_err-home : goal.returns-in_err-home
+returns-in_err-home c =
+    let p = err_from_is_err_and c.from_residual-in_err-home.result c.from_residual-in_err-home.ensures.1 in
+    rw (p.1, p.2)
+    (number_told (Team c.args.places) c.args.words _ _ _ c.if-not-has_shape_from.ensures c.in_ok-name.ensures.0
+    (λ kind is. (team_numbers c.args.places c.args.words (omega arith) kind is).0) c.in_err-home.ensures)
+
+pub returns-in_err-from : goal.returns-in_err-from
+returns-in_err-from c =
+    let p = err_from_is_err_and c.from_residual-in_err-from.result c.from_residual-in_err-from.ensures.1 in
+    rw (p.1, p.2)
+    (number_told (Team c.args.places) c.args.words _ _ _ c.if-not-has_shape_from.ensures c.in_ok-name.ensures.0
+    (λ kind is. (team_numbers c.args.places c.args.words (omega arith) kind is).1) c.in_err-from.ensures)
+
+pub returns-in_err-until : goal.returns-in_err-until
+returns-in_err-until c =
+    let p = err_from_is_err_and c.from_residual-in_err-until.result c.from_residual-in_err-until.ensures.1 in
+    rw (p.1, p.2)
+    (number_told (Team c.args.places) c.args.words _ _ _ c.if-not-has_shape_from.ensures c.in_ok-name.ensures.0
+    (λ kind is. (team_numbers c.args.places c.args.words (omega arith) kind is).2) c.in_err-until.ensures)
 
 pub returns : goal.returns
 returns c =
-    named_told (Team c.args.places) c.args.words (team_fields _) c.in-Err-fields.fault c.named.result c.if-not-has_shape_from.ensures (λ n. n) (λ n. n)
-    (longer (codes "team") 4 c.args.words c.if-not-has_shape_from.ensures) c.in-Err-fields.ensures.exact c.named.ensures.name c.named.ensures.number
-    (team_wrong c.args.places c.args.words _ (last_below c.args.places (omega arith)) (omega arith) (none_read _ c.args.words c.in-Err-fields.fault c.in-Err-fields.ensures.back))
-
-pub returns-2 : goal.returns-2
-returns-2 c =
+    let ws = c.args.words in
     let rest = c.in_ok-skills.ensures in
-    let row = named_line_of_row (team_fields _) (codes "team") c.name_of-name.result c.args.words c.in-Ok-fields.field-0 rest.0 (refl, omega (arith, ints), (refl, omega (arith, ints), (refl, omega (arith, ints), tt))) c.if-not-has_shape_from.ensures c.name_of-name.ensures c.in-Ok-fields.ensures.exact rest.2.spelled in
-    let home = row.1.2 in
-    let from = row.1.4.2 in
-    let until = row.1.4.4.2 in
+    let named = c.in_ok-name.ensures in
+    let home = number_spelled (number_field 0 (last_of c.args.places)) (get_or ws 2 []) refl (omega (arith, ints)) (_, c.in_ok-home.ensures.0, c.in_ok-home.ensures.1) in
+    let from = number_spelled minute_field (get_or ws 3 []) refl (omega (arith, ints)) (_, c.in_ok-from.ensures.0, c.in_ok-from.ensures.1) in
+    let until = number_spelled minute_field (get_or ws 4 []) refl (omega (arith, ints)) (_, c.in_ok-until.ensures.0, c.in_ok-until.ensures.1) in
     let places = last_below c.args.places (omega arith) in (
       rest.0,
       rest.1,
       record {
-        name = row.0;
+        name = subst IsName named.1 named.0;
         home = omega (arith, ints);
         from = omega (arith, ints);
         until = omega (arith, ints);
         none = refl;
         skills = rest.2.below;
       },
-      row.2,
+      named_line (codes "team") _ (_ ∷ _ ∷ _ ∷ []) rest.0 ws c.if-not-has_shape_from.ensures named.1 (home.3, (from.3, (until.3, tt))) rest.2.spelled,
     )

@@ -1,17 +1,22 @@
-use Rattle.std.proofs.Common.{◌≡◌, ◌++◌, List, ℕ, sym, ◌∙◌}
+use Rattle.std.proofs.Common.{◌≡◌, ◌<◌, ◌+◌, ◌++◌, ◌∷◌, [], List, ℕ, suc, length, get_or, ap, sym, ◌∙◌, arith}
 use Rattle.cert_format.specs.Parts.{text_of}
+use Rattle.cert_format.specs.declared.lines_out.Part.{Part}
 use Rattle.cert_format.proofs.Fronts.{joined, gap_later}
 use Rattle.cert_format.proofs.lines_out.gather.Goals as goal
 
--- bytes that are added in two steps
-two_steps : (old mid new first second so_far gap : List ℕ) → old ≡ so_far → first ≡ gap → mid ≡ old ++ first → new ≡ mid ++ second → new ≡ (so_far ++ gap) ++ second
-two_steps old mid new first second so_far gap a b c d = cc
+-- a part of the others is the next of all parts
+next_part : (parts : List Part) (first : Part) (others : List Part) (i : ℕ) (d : Part) → parts ≡ first ∷ others → get_or others i d ≡ get_or parts (i + 1) d
+next_part parts first others i d is = ap (λ n. get_or (first ∷ others) n d) (let e : suc i ≡ i + 1 = omega arith in e) ∙ ap (λ ps. get_or ps (i + 1) d) (sym is)
+
+-- a space and a word that are added
+two_steps : (old mid new so_far gap word next : List ℕ) → old ≡ so_far → 32 ∷ [] ≡ gap → word ≡ next → mid ≡ old ++ 32 ∷ [] → new ≡ mid ++ word → new ≡ (so_far ++ gap) ++ next
+two_steps old mid new so_far gap word next a b c d e = cc
 
 pub loop-part-preserved : goal.loop-part-preserved
 loop-part-preserved c =
     let parts = c.args.parts.now in
     let i = c.loop-part.part-index in
-    record {
-      so_far = two_steps _ _ _ _ _ _ _ c.loop-part.invariant.so_far c.loop-part.invariant.gap c.in_ok-add.ensures c.in_ok-add_part.ensures ∙ sym (joined text_of parts i _ c.loop-part-test.true);
-      gap = c.as_slice-between-in-loop-part.ensures ∙ gap_later text_of parts i c.loop-part-test.true;
-    }
+    let split = c.in-Some.ensures.cases.0 in
+    let below : i + 1 < length parts = (let l = ap length split in let t = c.loop-part-test.true in omega arith) in
+    two_steps _ _ _ _ _ _ _ c.loop-part.invariant (gap_later text_of parts i (omega arith)) (ap text_of (next_part parts _ _ i _ split)) c.in_ok-add_byte.ensures c.in_ok-add_part-2.ensures
+    ∙ sym (joined text_of parts (i + 1) _ below)
