@@ -39,8 +39,8 @@ fn due_routes(draft: Box<Draft>, more: u64) -> Due
 }
 
 /// What is due behind the line `pool`, where it has these numbers. No memory is taken by them.
-fn begin_pool(alloc: Global, base: Base, kept: u64, columns: u64) -> Result<Due, AllocError>
-    ensures { IfOk result (λ due. Awaits due (routes_due (draft base.instance base.nodes kept) columns)) }
+fn begin_pool(alloc: Global, base: Base, kept: u64, routes: u64) -> Result<Due, AllocError>
+    ensures { IfOk result (λ due. Awaits due (routes_due (draft base.instance base.nodes kept) routes)) }
 {
     let limits = Limits::root(alloc, &base.instance)?;
     let limits = limits.rest();
@@ -54,7 +54,7 @@ fn begin_pool(alloc: Global, base: Base, kept: u64, columns: u64) -> Result<Due,
         bound: 0,
     };
     let draft = Box::new(alloc, draft)?;
-    Ok(due_routes(draft, columns))
+    Ok(due_routes(draft, routes))
 }
 
 /// The line `pool`.
@@ -66,18 +66,13 @@ pub fn pool_line(alloc: Global, base: Box<Base>, words: LineWords<'_>) -> Result
         Ok(kind) => kind,
         Err(fault) => return Ok(Step::No(fault.reason())),
     };
-    let LineKind::Pool { kept, columns } = kind else {
+    let LineKind::Pool { kept, routes } = kind else {
         unreachable!()
     };
-    if kept > columns {
+    if kept > routes {
         return Ok(Step::No(Reason::Pool));
     }
-    let due = begin_pool(
-        alloc,
-        Box::into_inner(base),
-        natural(kept),
-        natural(columns),
-    )?;
+    let due = begin_pool(alloc, Box::into_inner(base), natural(kept), natural(routes))?;
     Ok(Step::More(due))
 }
 

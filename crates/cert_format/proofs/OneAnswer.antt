@@ -118,9 +118,9 @@ pool_one : (ws : Words) (a b : LineKind) → IsPoolLine ws a → IsPoolLine ws b
 pool_one ws (kinds.Pool u v) (kinds.Pool u' v') (k, c, p, q, few, less, e) (k', c', p', q', few', less', f) =
     let same = one_list (k ∷ c ∷ []) (k' ∷ c' ∷ []) (omega arith, (omega arith, tt)) (omega arith, (omega arith, tt)) (behind (codes "pool") ws _ _ e f) in
     let kept : k ≡ k' = cc in
-    let columns : c ≡ c' = cc in
+    let routes : c ≡ c' = cc in
     let a : u ≡ u' = p ∙ ap pos kept ∙ sym p' in
-    let b : v ≡ v' = q ∙ ap pos columns ∙ sym q' in
+    let b : v ≡ v' = q ∙ ap pos routes ∙ sym q' in
     cc
 pool_one ws (kinds.Pool u v) _ h g = absurd g
 pool_one ws _ _ h g = absurd h
@@ -311,7 +311,7 @@ task_fits places ws (kinds.Task name place earliest latest minutes teams skills)
 task_fits places ws _ h = absurd h
 
 pool_fits : (ws : Words) (kind : LineKind) → Fits expected.Pool ws kind
-pool_fits ws (kinds.Pool kept columns) (k, c, e, f, few, less, is) = ((_, is, refl), tt)
+pool_fits ws (kinds.Pool kept routes) (k, c, e, f, few, less, is) = ((_, is, refl), tt)
 pool_fits ws _ h = absurd h
 
 route_fits : (teams tasks : ℕ) (ws : Words) (kind : LineKind) → Fits (expected.Route teams tasks) ws kind

@@ -48,7 +48,7 @@ abbrev pub pool_fields : List Field
 pool_fields = number_field 0 (pos 9223372036854775807) ∷ number_field 0 (pos 9223372036854775807) ∷ []
 
 pub pool_wrong : (ws : Words) → NoneRead pool_fields ws → (kind : LineKind) → IsPoolLine ws kind → ⊥
-pool_wrong ws none (kinds.Pool kept columns) (k, c, e, f, few, less, is) =
+pool_wrong ws none (kinds.Pool kept routes) (k, c, e, f, few, less, is) =
     none_of pool_fields ws (codes "pool") (k ∷ c ∷ []) [] none (refl, omega (arith, ints), omega (arith, ints), omega arith, (refl, omega (arith, ints), omega (arith, ints), omega arith, tt)) is
 pool_wrong ws none _ h = absurd h
 

@@ -55,7 +55,7 @@ IsTaskOf places ws (kinds.Task name place earliest latest minutes teams skills) 
 IsTaskOf places ws _ = ⊥
 
 abbrev pub IsPoolLine : Words → LineKind → Type 0
-IsPoolLine ws (kinds.Pool kept columns) = (k c : ℕ) × (kept ≡ pos k) × (columns ≡ pos c)
+IsPoolLine ws (kinds.Pool kept routes) = (k c : ℕ) × (kept ≡ pos k) × (routes ≡ pos c)
     × (k ≤ 9223372036854775807) × (c ≤ 9223372036854775807) × (ws ≡ pool_line k c)
 IsPoolLine ws _ = ⊥
 
@@ -109,7 +109,7 @@ IsExtraLine task count ws (kinds.Extra j prices) = (j ≡ task) × AreNumbers Is
 IsExtraLine task count ws _ = ⊥
 
 abbrev pub IsWorthLine : Words → LineKind → Type 0
-IsWorthLine ws (kinds.Worth sigma) = IsWorthNumber sigma × (ws ≡ worth_line sigma)
+IsWorthLine ws (kinds.Worth worth) = IsWorthNumber worth × (ws ≡ worth_line worth)
 IsWorthLine ws _ = ⊥
 
 abbrev pub IsPhiLine : ℕ → ℕ → Words → LineKind → Type 0

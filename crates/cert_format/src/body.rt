@@ -15,10 +15,10 @@ pub(crate) fn read_pool<'a>(words: LineWords<'a>) -> Result<LineKind<'a>, LineFa
         return Err(LineFault::Shape);
     }
     fields!(
-        &words, "pool" => kept: Number(0, i64::MAX), columns: Number(0, i64::MAX);
+        &words, "pool" => kept: Number(0, i64::MAX), routes: Number(0, i64::MAX);
         else fault => LineFault::Number
     );
-    Ok(LineKind::Pool { kept, columns })
+    Ok(LineKind::Pool { kept, routes })
 }
 
 /// Reads a line `route` of an instance with so many teams and tasks.

@@ -67,7 +67,7 @@ pub enum LineKind<'a> {
     /// How many routes come from the round before, and how many routes there are.
     Pool {
         kept: i64,
-        columns: i64,
+        routes: i64,
     },
     /// The visits of a team: of each its task, and the minute at which it begins.
     Route {
@@ -114,7 +114,7 @@ pub enum LineKind<'a> {
     },
     /// A team's worth.
     Worth {
-        sigma: i64,
+        worth: i64,
     },
     /// A potential of a team's task for each minute at which the team may begin it.
     Phi {

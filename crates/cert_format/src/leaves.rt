@@ -40,8 +40,8 @@ pub(crate) fn read_worth<'a>(words: LineWords<'a>) -> Result<LineKind<'a>, LineF
     if !has_shape(&words, b"worth", 1) {
         return Err(LineFault::Shape);
     }
-    fields!(&words, "worth" => sigma: Number(0, i64::MAX); else fault => LineFault::Number);
-    Ok(LineKind::Worth { sigma })
+    fields!(&words, "worth" => worth: Number(0, i64::MAX); else fault => LineFault::Number);
+    Ok(LineKind::Worth { worth })
 }
 
 /// Reads the line `phi` of this task, with so many potentials, one for each permitted minute.

@@ -194,10 +194,10 @@ impl LeafReader {
             Ok(kind) => kind,
             Err(fault) => return LeafStep::No(fault.reason()),
         };
-        let LineKind::Worth { sigma } = kind else {
+        let LineKind::Worth { worth } = kind else {
             unreachable!()
         };
-        self.worths[team as usize] = sigma;
+        self.worths[team as usize] = worth;
         self.after_phi(limits, goal, team, next_open(limits, team, 0))
     }
 

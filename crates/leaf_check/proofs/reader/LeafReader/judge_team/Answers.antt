@@ -19,10 +19,10 @@ returns-in-Holds-clause-tells c = λ a leaf left table g read count teams potent
     let known = c.requires.team in
     let short : team < length r.worths.items = omega arith in
     let fits : FitsSigned w64 c.index-worth.result.now = search rules in
-    let sigma : ℤ = to_z w64 (of_z w64 c.index-worth.result.now) in
-    let worth : sigma ≡ table.worth = to_z-of_z w64 c.index-worth.result.now fits ∙ c.index-worth.ensures ∙ get_or_default r.worths.items team c.index-worth.result.now (pos 0) short ∙ potentials.worth in
+    let worth : ℤ = to_z w64 (of_z w64 c.index-worth.result.now) in
+    let is : worth ≡ table.worth = to_z-of_z w64 c.index-worth.result.now fits ∙ c.index-worth.ensures ∙ get_or_default r.worths.items team c.index-worth.result.now (pos 0) short ∙ potentials.worth in
     let longer = length-append leaf.tables (table ∷ []) in
-    team_holds a n r leaf team left table sigma g.limits count kept same worth c.after_table.result c.after_table.new.self c.in-Holds.ensures.verdict
+    team_holds a n r leaf team left table worth g.limits count kept same is c.after_table.result c.after_table.new.self c.in-Holds.ensures.verdict
     (c.after_table.ensures.tells a (with_table leaf table) left g (read_table n r leaf table team count short potentials.worth kept) (omega arith) (omega arith))
 
 pub returns-in-Low-clause-tells : goal.returns-in-Low-clause-tells
@@ -35,9 +35,9 @@ returns-in-Low-clause-tells c = λ a leaf left table g read count teams potentia
     let known = c.requires.team in
     let short : c.args.team < length r.worths.items = omega arith in
     let fits : FitsSigned w64 c.index-worth.result.now = search rules in
-    let sigma : ℤ = to_z w64 (of_z w64 c.index-worth.result.now) in
-    let worth : sigma ≡ table.worth = to_z-of_z w64 c.index-worth.result.now fits ∙ c.index-worth.ensures ∙ get_or_default r.worths.items c.args.team c.index-worth.result.now (pos 0) short ∙ potentials.worth in
-    team_low a n r leaf c.args.team left table sigma g.limits count kept same worth c.in-Low.task c.in-Low.ensures.verdict
+    let worth : ℤ = to_z w64 (of_z w64 c.index-worth.result.now) in
+    let is : worth ≡ table.worth = to_z-of_z w64 c.index-worth.result.now fits ∙ c.index-worth.ensures ∙ get_or_default r.worths.items c.args.team c.index-worth.result.now (pos 0) short ∙ potentials.worth in
+    team_low a n r leaf c.args.team left table worth g.limits count kept same is c.in-Low.task c.in-Low.ensures.verdict
 
 pub returns-in-Worth-clause-tells : goal.returns-in-Worth-clause-tells
 returns-in-Worth-clause-tells c = λ a leaf left table g read count teams potentials.
@@ -49,6 +49,6 @@ returns-in-Worth-clause-tells c = λ a leaf left table g read count teams potent
     let known = c.requires.team in
     let short : c.args.team < length r.worths.items = omega arith in
     let fits : FitsSigned w64 c.index-worth.result.now = search rules in
-    let sigma : ℤ = to_z w64 (of_z w64 c.index-worth.result.now) in
-    let worth : sigma ≡ table.worth = to_z-of_z w64 c.index-worth.result.now fits ∙ c.index-worth.ensures ∙ get_or_default r.worths.items c.args.team c.index-worth.result.now (pos 0) short ∙ potentials.worth in
-    team_worth a n r leaf c.args.team left table sigma g.limits count kept same worth c.in-Worth.ensures.verdict
+    let worth : ℤ = to_z w64 (of_z w64 c.index-worth.result.now) in
+    let is : worth ≡ table.worth = to_z-of_z w64 c.index-worth.result.now fits ∙ c.index-worth.ensures ∙ get_or_default r.worths.items c.args.team c.index-worth.result.now (pos 0) short ∙ potentials.worth in
+    team_worth a n r leaf c.args.team left table worth g.limits count kept same is c.in-Worth.ensures.verdict

@@ -26,25 +26,25 @@ pub returns-clause-tells : goal.returns-clause-tells
 returns-clause-tells c = λ a leaf left g read count teams.
     let n = c.args.limits.now.limits in
     let team = c.args.team in
-    let sigma = c.in-Worth.sigma in
+    let worth = c.in-Worth.worth in
     let old = c.args.self.now.worths in
     let h = subst (IsWorthLine c.args.words) c.in-Worth.is c.in-Ok.ensures in
-    let fits : FitsSigned w64 sigma = search rules in
-    let v : ℤ = to_z w64 (of_z w64 sigma) in
-    let is : v ≡ sigma = to_z-of_z w64 sigma fits in
+    let fits : FitsSigned w64 worth = search rules in
+    let v : ℤ = to_z w64 (of_z w64 worth) in
+    let is : v ≡ worth = to_z-of_z w64 worth fits in
     let all = c.requires.ready.worths in
     let known = c.requires.team in
     let short : team < length old.items = omega arith in
     let r : LeafReader = record c.args.self.now { worths = with_item old team v } in
-    let table : Potentials = record { worth = sigma; phi = [] } in
+    let table : Potentials = record { worth = worth; phi = [] } in
     let kept : HasRead n r leaf = record { prices = read.prices; worths = more_worths leaf old.items team v count read.worths } in
     let holds : HasPotentials n r team table (below_next n c.next_open.result) = record {
       worth = get_or-set_same old.items team v (pos 0) short ∙ is;
       phi = none_yet c.minutes_are_permitted.ensures n team c.next_open.result c.args.self.now.table table c.next_open.ensures;
     } in
-    tells_rest a (after_phi a leaf.prices leaf.extras leaf.tables left sigma [] (open_tasks (limits_of a) (length leaf.tables)))
+    tells_rest a (after_phi a leaf.prices leaf.extras leaf.tables left worth [] (open_tasks (limits_of a) (length leaf.tables)))
     (worth_row a leaf.prices leaf.extras leaf.tables left c.args.words) c.after_phi.result c.after_phi.new.self
-    (λ said others. worth_read a leaf.prices leaf.extras leaf.tables left c.args.words sigma said h.0 h.1 others)
-    (subst (λ ks. Tells a (after_phi a leaf.prices leaf.extras leaf.tables left sigma [] ks) c.after_phi.result c.after_phi.new.self)
+    (λ said others. worth_read a leaf.prices leaf.extras leaf.tables left c.args.words worth said h.0 h.1 others)
+    (subst (λ ks. Tells a (after_phi a leaf.prices leaf.extras leaf.tables left worth [] ks) c.after_phi.result c.after_phi.new.self)
     (ap (λ m. open_tasks m team) (sym g.limits) ∙ ap (λ k. open_tasks (limits_of a) k) (sym count))
     (c.after_phi.ensures.tells a leaf left table (open_tasks n team) g kept count teams holds (left_first (has_minutes n team) (tasks_in n) c.next_open.result c.next_open.ensures)))
