@@ -93,6 +93,6 @@ pub fn job_line(
         return Ok(Step::No(Reason::Shape));
     }
     let teams = team_list(alloc, &teams)?;
-    held.plan.assign(task, start, &teams)?;
+    held.plan.assign(task, start, teams.as_slice())?;
     Ok(judge_job(draft, more, task + 1))
 }

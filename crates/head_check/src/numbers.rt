@@ -5,7 +5,11 @@ ghost use Rattle.dossier_terms.specs.Dossier.{mask_of};
 ghost use Rattle.head_check.specs.Numbers.{AreBelow, naturals};
 
 use cert_format::Rest;
+use smallvec::SmallVec;
 use std::alloc::{AllocError, Global};
+
+/// A task is done by at most so many teams, so that a list of them needs no memory of its own.
+pub const MOST_TEAMS_PER_TASK: usize = 8;
 
 /// The number at a place, which is a minute, a skill or a team.
 pub fn number_at(numbers: &Rest<'_>, n: usize) -> u32
@@ -47,9 +51,16 @@ pub(crate) fn number_list(alloc: Global, numbers: &Rest<'_>) -> Result<Vec<u32>,
 }
 
 /// The numbers of teams, copied out of a line.
-pub fn team_list(alloc: Global, teams: &Rest<'_>) -> Result<Vec<u32>, AllocError>
+pub fn team_list(
+    alloc: Global,
+    teams: &Rest<'_>,
+) -> Result<SmallVec<u32, MOST_TEAMS_PER_TASK>, AllocError>
     requires { AreBelow 64 teams.now }
     ensures { IfOk result (λ list. list.items ≡ naturals teams.now) }
 {
-    number_list(alloc, teams)
+    let mut list = SmallVec::new(alloc);
+    for n in 0..teams.len() {
+        list.push(number_at(teams, n))?;
+    }
+    Ok(list)
 }

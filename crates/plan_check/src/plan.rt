@@ -4,14 +4,18 @@ ghost use Rattle.std.specs.Option.{option_map};
 ghost use Rattle.crew_terms.specs.Plan.{job_of, unassigned_count};
 ghost use Rattle.plan_check.specs.Teams.{teams_in};
 
+use smallvec::SmallVec;
 use std::alloc::{AllocError, Global};
 use std::marker::Model;
+
+/// A task is done by at most so many teams, so that the list of a job's teams lies in the plan itself.
+const MOST_TEAMS_PER_TASK: usize = 8;
 
 // When a task is begun, and by which teams.
 #[derive(Drop)]
 struct Slot {
     start: u32,
-    teams: Vec<u32>,
+    teams: SmallVec<u32, MOST_TEAMS_PER_TASK>,
 }
 
 /// A plan: for each of at most 400 tasks nothing, or the minute of the day at which it is begun and the
@@ -55,7 +59,7 @@ impl Plan {
         ensures ok { OnOk result (self.new ≡ slice_set self.old i (Some (record { start = start; teams = teams.now }))) }
         ensures err { OnErr result (self.new ≡ self.old) }
     {
-        let teams = Vec::from_slice(self.alloc, teams)?;
+        let teams = SmallVec::from_slice(self.alloc, teams)?;
         self.slots[i as usize] = Some(Slot { start, teams });
         Ok(())
     }
@@ -104,7 +108,7 @@ impl Plan {
         ensures { result.now ≡ teams_in (job_of self.now i) }
     {
         match &self.slots[i as usize] {
-            Some(slot) => &slot.teams,
+            Some(slot) => slot.teams.as_slice(),
             None => &[],
         }
     }
