@@ -29,7 +29,7 @@ use Rattle.cert_checker.specs.Due.{HasLeafRoom, IsInLeaf, IsNode, IsStep, draft_
 use Rattle.cert_checker.specs.declared.due.Draft.{Draft as Held}
 use Rattle.cert_checker.specs.declared.due.TreeDraft.{TreeDraft}
 use Rattle.cert_checker.specs.declared.due.Due.TheVariants.{End as EndLine}
-use Rattle.cert_checker.specs.declared.due.Step.TheVariants.{More, Whole, No}
+use Rattle.cert_checker.specs.declared.due.Step.TheVariants.{Whole, No}
 use Rattle.cert_checker.proofs.NodeRows.{at_node, limits_at, moved, written_back}
 
 -- ---- what the reader of a leaf tells

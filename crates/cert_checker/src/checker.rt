@@ -99,40 +99,37 @@ fn whole_verdict(ended: &Ended) -> Verdict
     }
 }
 
-/// What is said of the line of this number after a step.
-fn said_after(step: &Step, number: u64) -> Said
-    ensures { IsSaidOf number step.now result }
-{
-    match step {
-        Step::More(_) => Said::More,
-        Step::Whole(ended) => Said::Whole(whole_verdict(ended)),
-        Step::No(reason) => Said::No {
-            line: number,
-            reason: *reason,
-        },
-    }
-}
-
-/// Where the checker stands after a step at the line of this number.
-fn state_after(step: Step, number: u64) -> State
-    ensures { result ≡ state_in number step }
-{
-    match step {
-        Step::More(due) => State::Due(due),
-        Step::Whole(ended) => State::Whole(ended),
-        Step::No(reason) => State::Refused {
-            line: number,
-            reason,
-        },
-    }
-}
-
-/// Puts another state in the place of one, which is let go.
+/// Puts the next state in the place that one was taken out of, where nothing is left to be let go.
 #[inline(always)]
-fn put(state: &mut State, next: State)
+fn put_back(state: &mut State, next: State)
+    requires taken { state.old ≡ State.Spent }
     ensures { state.new ≡ next }
 {
-    drop(mem::replace(state, next));
+    mem::forget(mem::replace(state, next));
+}
+
+/// Keeps what a step at the line of this number leads to, and gives what is said of that line.
+#[inline(always)]
+fn settle(state: &mut State, step: Step, line: u64) -> Said
+    requires taken { state.old ≡ State.Spent }
+    ensures said { IsSaidOf line step result }
+    ensures kept { state.new ≡ state_in line step }
+{
+    match step {
+        Step::More(due) => {
+            put_back(state, State::Due(due));
+            Said::More
+        }
+        Step::Whole(ended) => {
+            let verdict = whole_verdict(&ended);
+            put_back(state, State::Whole(ended));
+            Said::Whole(verdict)
+        }
+        Step::No(reason) => {
+            put_back(state, State::Refused { line, reason });
+            Said::No { line, reason }
+        }
+    }
 }
 
 /// The reason that tells why no line comes.
@@ -184,9 +181,7 @@ impl Checker {
         let words = self.cuts.split(line);
         let step = judge(self.alloc, due, words)?;
         self.lines += 1;
-        let said = said_after(&step, self.lines);
-        put(&mut self.state, state_after(step, self.lines));
-        Ok(said)
+        Ok(settle(&mut self.state, step, self.lines))
     }
 
     /// Judges one more line, without its LF. After a line that is refused every later call gives that answer again,
@@ -209,7 +204,7 @@ impl Checker {
                 self.judge_line(Due::Head(HeadDue::Form), line)
             }
             State::Refused { line, reason } => {
-                put(&mut self.state, State::Refused { line, reason });
+                put_back(&mut self.state, State::Refused { line, reason });
                 Ok(Said::No { line, reason })
             }
             State::Spent => Err(AllocError),
@@ -238,7 +233,7 @@ impl Checker {
         }
         let line = self.lines + 1;
         let reason = stop_reason(why);
-        put(&mut self.state, State::Refused { line, reason });
+        self.state = State::Refused { line, reason };
         Some(Said::No { line, reason })
     }
 

@@ -38,7 +38,7 @@ judge_job-requires c =
     let b : Draft = c.deref_mut-held.result.now in
     let i = b.base.instance in
     let job : Job = record { start = c.in-Job.start; teams = h.0 } in
-    let listed : c.deref.result.now ≡ h.0 = c.deref.ensures.value ∙ c.in_ok-teams.ensures ∙ ap naturals h.1 ∙ naturals-pos h.0 in
+    let listed : c.as_slice.result.now ≡ h.0 = c.as_slice.ensures ∙ c.in_ok-teams.ensures ∙ ap naturals h.1 ∙ naturals-pos h.0 in
     let line = line_of_counts i c.teams-teams.result c.tasks-tasks.result (c.in-Job.task, job) c.teams-teams.ensures.count c.tasks-tasks.ensures.count h.2 in
     let begun = subst IsBegun (sym c.deref_mut-held.ensures.value) c.requires.1.0 in record {
       plan = subst (IsPlanOf i) (sym (c.in_ok-assign.ensures.ok ∙ ap (λ ks. slice_set b.plan c.in-Job.task (Some (record job { teams = ks }))) listed))
@@ -52,7 +52,7 @@ returns c = λ reading a.
     let b : Draft = c.deref_mut-held.result.now in
     let i = b.base.instance in
     let job : Job = record { start = c.in-Job.start; teams = h.0 } in
-    let listed : c.deref.result.now ≡ h.0 = c.deref.ensures.value ∙ c.in_ok-teams.ensures ∙ ap naturals h.1 ∙ naturals-pos h.0 in
+    let listed : c.as_slice.result.now ≡ h.0 = c.as_slice.ensures ∙ c.in_ok-teams.ensures ∙ ap naturals h.1 ∙ naturals-pos h.0 in
     let line = line_of_counts i c.teams-teams.result c.tasks-tasks.result (c.in-Job.task, job) c.teams-teams.ensures.count c.tasks-tasks.ensures.count h.2 in
     let plan : c.assign.new.self ≡ slice_set b.plan c.in-Job.task (Some job) = c.in_ok-assign.ensures.ok ∙ ap (λ ks. slice_set b.plan c.in-Job.task (Some (record job { teams = ks }))) listed in
     let next : c.in-Job.task + 1 ≡ suc c.in-Job.task = omega arith in
