@@ -1,5 +1,5 @@
 -- a day's entries, one after another
-use Rattle.std.proofs.Common.{◌≡◌, ◌+◌, ◌++◌, ◌∷◌, [], ℕ, List, Option, None, Some, length, ap, subst, sym, refl, ◌∙◌, append_assoc, append-nil}
+use Rattle.std.proofs.Common.{◌≡◌, ◌↔◌, ◌+◌, ◌++◌, ◌∷◌, [], ℕ, zero, suc, List, Option, None, Some, length, slice_get, take, ap, subst, sym, refl, ◌∙◌, append_assoc, append-nil}
 use Rattle.std.specs.List.{fold}
 use Rattle.std.proofs.lemmas.List.Sums.{fold-append}
 use Rattle.std.proofs.lemmas.List.Concat.{flat_map-append}
@@ -35,6 +35,22 @@ taken_more entries entry taken e = taken_from start entries entry taken e
 taken_within : (s : State) (front back : List Entry) (entry : Entry) → AreTaken s (front ++ entry ∷ back) → refusal_of (after_all s front) entry ≡ None
 taken_within s [] back entry taken = taken.0
 taken_within s (x ∷ xs) back entry taken = taken_within (after_entry s x) xs back entry taken.1
+
+-- each of the entries is taken by the state that those before it come to, from a state on
+abbrev IsEachTaken : State → List Entry → Type 0
+IsEachTaken s entries = (n : ℕ) (entry : Entry) → slice_get entries n ≡ Some entry → refusal_of (after_all s (take n entries)) entry ≡ None
+
+each_taken : (s : State) (entries : List Entry) → AreTaken s entries → IsEachTaken s entries
+each_taken s [] taken n entry e = absurd (cc)
+each_taken s (x ∷ xs) taken zero entry e = let same : x ≡ entry = cc in subst (λ y. refusal_of s y ≡ None) same taken.0
+each_taken s (x ∷ xs) taken (suc n) entry e = each_taken (after_entry s x) xs taken.1 n entry e
+
+all_taken : (s : State) (entries : List Entry) → IsEachTaken s entries → AreTaken s entries
+all_taken s [] each = tt
+all_taken s (x ∷ xs) each = (each 0 x refl, all_taken (after_entry s x) xs (λ n entry e. each (suc n) entry e))
+
+pub taken_in_turn : (entries : List Entry) → AreTaken start entries ↔ IsEachTaken start entries
+taken_in_turn entries = (each_taken start entries, all_taken start entries)
 
 rounds_more_from : (s : State) (entries : List Entry) (entry : Entry) → rounds_from s (entries ++ entry ∷ []) ≡ rounds_from s entries ++ round_at (after_all s entries) entry
 rounds_more_from s [] entry = append-nil (round_at s entry)

@@ -1,5 +1,6 @@
-// Laws of inputs: what is refused is accepted as no dossiers, and what ends a dossier is its text.
-ghost use Rattle.std.specs.Prelude.{◌≡◌, ℕ, List, [], map};
+// Laws of inputs: what is refused is accepted as no dossiers, and what ends a dossier is its text. A law of days: by
+// which state each entry is taken.
+ghost use Rattle.std.specs.Prelude.{◌≡◌, ◌↔◌, ℕ, List, [], None, Some, map, slice_get, take};
 ghost use Rattle.crew_terms.specs.Words.{Words, words_of};
 ghost use Rattle.dossier_terms.specs.declared.Reason.{Reason};
 ghost use Rattle.dossier_terms.specs.Dossier.{Dossier};
@@ -8,7 +9,11 @@ ghost use Rattle.dossier_terms.specs.Reading.{Form};
 ghost use Rattle.dossier_terms.specs.Accepted.{IsAccepted};
 ghost use Rattle.dossier_terms.specs.Table.{Ended, Reaches};
 ghost use Rattle.cert_checker.specs.Checked.{IsTrueYes};
+ghost use Rattle.day_terms.specs.declared.Entry.{Entry};
+ghost use Rattle.day_terms.specs.State.{start, state_after};
+ghost use Rattle.day_terms.specs.Refusal.{refusal_of};
 ghost use Rattle.crew_cli.specs.Input.{IsRefusal, text_of_lines};
+ghost use Rattle.crew_cli.specs.Rounds.{AreTaken};
 
 use dossier_laws::{
     good_bounds, good_is_read, one_dossier, read_is_good, says_one_thing, sheet_is_good,
@@ -62,3 +67,9 @@ pub fn first_line_is_first()
     good_is_read();
     read_is_good();
 }
+
+/// The entries of a day are taken exactly where the state refuses none of them that those before it come to.
+pub fn entries_are_taken_in_turn()
+    ensures { (entries : List Entry) → AreTaken start entries
+        ↔ ((n : ℕ) (entry : Entry) → slice_get entries n ≡ Some entry → refusal_of (state_after (take n entries)) entry ≡ None) }
+{}
