@@ -3,9 +3,9 @@ use Rattle.cert_checker.proofs.LeafRows.{end_is, ends_whole, ends_miscounted}
 use Rattle.cert_checker.proofs.leaf.end_line.Goals as goal
 
 pub returns-then-eq : goal.returns-then-eq
-returns-then-eq c = ends_whole c.args.draft c.args.claimed c.args.seen c.args.words (end_is c.args.words c.in_default.field-0 c.in_default.ensures)
+returns-then-eq c = ends_whole c.args.tree c.args.seen c.args.words (end_is c.args.words c.in_default.field-0 c.in_default.ensures)
     (sym c.eq.ensures ∙ c.if-eq.true)
 
 pub returns-else-eq : goal.returns-else-eq
-returns-else-eq c = ends_miscounted c.args.draft c.args.claimed c.args.seen c.args.words (end_is c.args.words c.in_default.field-0 c.in_default.ensures)
+returns-else-eq c = ends_miscounted c.args.tree c.args.seen c.args.words (end_is c.args.words c.in_default.field-0 c.in_default.ensures)
     (sym c.eq.ensures ∙ c.if-eq.false)
