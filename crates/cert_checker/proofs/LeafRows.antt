@@ -118,18 +118,25 @@ not_counted s c t seen h is = both_ways (same_numbers s c) h
     (and_from (eqb s.left_open c.left_open) (eqb s.depth c.depth) (eq-eqb s.left_open c.left_open (ap (λ (n : Counts). n.left_open) seen ∙ is.left_open))
     (eq-eqb s.depth c.depth (ap (λ (n : Counts). n.depth) seen ∙ is.depth)))))
 
--- the line is read, and the numbers are those that were claimed
-pub ends_whole : (b : Box Held) (claimed seen : TreeCounts) (ws : Words) → ws ≡ end_line → same_numbers seen claimed ≡ true
-    → IsStep (EndLine b claimed seen) ws (Whole (record { draft = b; counts = seen }))
-ends_whole b claimed seen ws is same = λ reading awaited.
-    let t = awaited.0 in
-    let d = whole (draft_of b.value) t in
-    let row : end_row (draft_of b.value) (counts_of claimed) t ws (Ends d) = Holds is (Holds (counted seen claimed t awaited.1 same) (Finish refl)) in
-    (d, subst (λ r. Says r ws (Ends d)) (sym awaited.2) row, record { tree = t; is = refl; counts = awaited.1 })
+-- the numbers that were compared are those of the tree
+pub compared : (seen : TreeCounts) (held tree : TreeDraft) (same answer : Bool) → held ≡ tree → answer ≡ same_numbers seen held.claimed → answer ≡ same → same_numbers seen tree.claimed ≡ same
+compared seen held tree same answer read test is = ap (λ (t : TreeDraft). same_numbers seen t.claimed) (sym read) ∙ sym test ∙ is
 
-pub ends_miscounted : (b : Box Held) (claimed seen : TreeCounts) (ws : Words) → ws ≡ end_line → same_numbers seen claimed ≡ false
-    → IsStep (EndLine b claimed seen) ws (No reasons.Count)
-ends_miscounted b claimed seen ws is differ = λ reading awaited.
+-- the line is read, and the numbers are those that were claimed
+pub ends_whole : (tree : Box TreeDraft) (seen : TreeCounts) (ws : Words) → ws ≡ end_line → same_numbers seen tree.value.claimed ≡ true
+    → (held : TreeDraft) → held ≡ tree.value → IsStep (EndLine tree seen) ws (Whole (record { draft = held.draft; counts = seen }))
+ends_whole tree seen ws is same held read = λ reading awaited.
+    let b = draft_of tree.value.draft.value in
+    let claimed = tree.value.claimed in
     let t = awaited.0 in
-    let row : end_row (draft_of b.value) (counts_of claimed) t ws (Refuses reasons.Count) = Holds is (Fails (not_counted seen claimed t awaited.1 differ) refl) in
+    let d = whole b t in
+    let row : end_row b (counts_of claimed) t ws (Ends d) = Holds is (Holds (counted seen claimed t awaited.1 same) (Finish refl)) in
+    (d, subst (λ r. Says r ws (Ends d)) (sym awaited.2) row, record { tree = t; is = ap (λ (x : TreeDraft). whole (draft_of x.draft.value) t) (sym read); counts = awaited.1 })
+
+pub ends_miscounted : (tree : Box TreeDraft) (seen : TreeCounts) (ws : Words) → ws ≡ end_line → same_numbers seen tree.value.claimed ≡ false
+    → IsStep (EndLine tree seen) ws (No reasons.Count)
+ends_miscounted tree seen ws is differ = λ reading awaited.
+    let claimed = tree.value.claimed in
+    let t = awaited.0 in
+    let row : end_row (draft_of tree.value.draft.value) (counts_of claimed) t ws (Refuses reasons.Count) = Holds is (Fails (not_counted seen claimed t awaited.1 differ) refl) in
     subst (λ r. Says r ws (Refuses reasons.Count)) (sym awaited.2) row

@@ -99,15 +99,15 @@ module _ (tree : TreeDraft) (old new : Trail) (to : Walked) (rest : Rest)
       (f ∷ fs, at_node (f ∷ fs) node.claimed (enters (root_limits tree.draft.value.base.instance) fs (woken fs node)), for_tree, refl)
 
 -- past the last leaf the whole tree is seen
-pub ended_at : (tree : TreeDraft) (old new : Trail) (to : Walked) (draft : Box Held) (claimed seen : TreeCounts) (is_closed : Bool)
+pub ended_at : (tree : TreeDraft) (old new : Trail) (to : Walked) (rest : Rest) (box : Box TreeDraft) (seen : TreeCounts) (is_closed : Bool)
     → old ≡ trail_over tree.draft.value.base.instance tree.draft.value.limits → LeavesLeaf is_closed old tree.walk new to true
-    → draft_of draft.value ≡ draft_of tree.draft.value → claimed ≡ tree.claimed → seen ≡ to.seen
+    → box.value ≡ moved tree rest to → seen ≡ to.seen
     → (fs : List Frame) (leaf : Written) → IsNode tree fs → IsLeaf is_closed leaf
-    → Awaits (EndDue draft claimed seen) (node_done (draft_of tree.draft.value) (counts_of tree.claimed) fs leaf)
-ended_at tree old new to draft claimed seen is_closed woke leaves read same saw fs leaf node kind =
+    → Awaits (EndDue box seen) (node_done (draft_of tree.draft.value) (counts_of tree.claimed) fs leaf)
+ended_at tree old new to rest box seen is_closed woke leaves is saw fs leaf node kind =
     let at : IsAt (root_limits tree.draft.value.base.instance) old tree.walk fs = subst (λ t. IsAt (root_limits tree.draft.value.base.instance) t tree.walk fs) (sym woke) node.at in
     let p = leaves (root_limits tree.draft.value.base.instance) fs leaf (draft_of tree.draft.value) (counts_of tree.claimed) at kind in
-    (p.0, ap counts_of saw ∙ p.2.seen, p.1 ∙ ap (λ b. Ends b (counts_of tree.claimed) p.0) (sym read) ∙ ap (λ n. Ends (draft_of draft.value) (counts_of n) p.0) (sym same))
+    (p.0, ap counts_of saw ∙ p.2.seen, p.1 ∙ ap (λ (t : TreeDraft). Ends (draft_of t.draft.value) (counts_of t.claimed) p.0) (sym is))
 
 -- the limits that woke are those of the node
 pub limits_at : (tree : TreeDraft) (t : Trail) (fs : List Frame) → t ≡ trail_over tree.draft.value.base.instance tree.draft.value.limits → IsNode tree fs

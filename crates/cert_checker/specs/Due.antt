@@ -79,7 +79,7 @@ Awaits (Job b more from) r = IsBegun b.value × (r ≡ Jobs (draft_of b.value) m
 Awaits (Tree b) r = IsRoot b.value.base.instance b.value.limits × (r ≡ Trees (draft_of b.value))
 Awaits (Node tree reader) r = (above : List Frame) × IsNode tree.value above × IsReaderFor tree.value.draft.value.base.instance reader × (r ≡ Nodes (draft_of tree.value.draft.value) (counts_of tree.value.claimed) above)
 Awaits (Leaf tree reader is_closed) r = (above : List Frame) × IsInLeaf tree.value reader.value is_closed above r
-Awaits (End b claimed seen) r = (t : Written) × (counts_of seen ≡ counts_of_tree t) × (r ≡ EndDue (draft_of b.value) (counts_of claimed) t)
+Awaits (End tree seen) r = (t : Written) × (counts_of seen ≡ counts_of_tree t) × (r ≡ EndDue (draft_of tree.value.draft.value) (counts_of tree.value.claimed) t)
 
 -- what is kept stands for some state of the table
 abbrev pub IsAwaited : Due → Type 0

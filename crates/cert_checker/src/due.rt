@@ -71,8 +71,7 @@ pub enum Due {
         is_closed: bool,
     },
     End {
-        draft: Box<Draft>,
-        claimed: TreeCounts,
+        tree: Box<TreeDraft>,
         seen: TreeCounts,
     },
 }

@@ -59,10 +59,6 @@ pub fn judge(alloc: Global, due: Due, words: LineWords<'_>) -> Result<Step, Allo
             reader,
             is_closed,
         } => Ok(number_line(alloc, tree, reader, is_closed, words)),
-        Due::End {
-            draft,
-            claimed,
-            seen,
-        } => Ok(end_line(draft, claimed, seen, words)),
+        Due::End { tree, seen } => Ok(end_line(tree, seen, words)),
     }
 }

@@ -1,7 +1,7 @@
 // The lines of a leaf's numbers, and the line `end`.
 ghost use Rattle.cert_checker.specs.Due.{IsAwaited, IsStep};
 
-use crate::due::{Draft, Due, Ended, Step, TreeDraft};
+use crate::due::{Due, Ended, Step, TreeDraft};
 use crate::node::leave;
 use cert_format::{Expect, fault_is_refused, read_line};
 use dossier_terms::Reason;
@@ -44,20 +44,20 @@ pub fn number_line(
 }
 
 /// The line `end`.
-pub fn end_line(
-    draft: Box<Draft>,
-    claimed: TreeCounts,
-    seen: TreeCounts,
-    words: LineWords<'_>,
-) -> Step
-    requires { IsAwaited (Due.End draft claimed seen) }
-    ensures { IsStep (Due.End draft claimed seen) words.entry result }
+pub fn end_line(tree: Box<TreeDraft>, seen: TreeCounts, words: LineWords<'_>) -> Step
+    requires { IsAwaited (Due.End tree seen) }
+    ensures { IsStep (Due.End tree seen) words.entry result }
 {
     fault_is_refused();
     if let Err(fault) = read_line(Expect::End, words) {
         return Step::No(fault.reason());
     }
-    if seen == claimed {
+    if seen == tree.claimed {
+        let TreeDraft {
+            draft,
+            claimed: _,
+            walk: _,
+        } = Box::into_inner(tree);
         Step::Whole(Ended {
             draft,
             counts: seen,

@@ -58,16 +58,8 @@ pub fn leave(
     if !is_whole {
         return Due::Node { tree, reader };
     }
-    let TreeDraft {
-        draft,
-        claimed,
-        walk,
-    } = Box::into_inner(tree);
-    Due::End {
-        draft,
-        claimed,
-        seen: walk.seen(),
-    }
+    let seen = held.walk.seen();
+    Due::End { tree, seen }
 }
 
 /// A line `window`.

@@ -1,9 +1,8 @@
-use Rattle.std.proofs.Common.{◌≡◌, ◌∙◌, ap, subst, true, false}
+use Rattle.std.proofs.Common.{subst, true, false}
 use Rattle.std.specs.Box.{with_value}
 use Rattle.tree_walk.specs.Way.{LeavesLeaf}
-use Rattle.cert_checker.specs.Due.{draft_of}
 use Rattle.cert_checker.specs.declared.due.TreeDraft.{TreeDraft}
-use Rattle.cert_checker.proofs.NodeRows.{left_at, ended_at, moved, taken_woke, written_back}
+use Rattle.cert_checker.proofs.NodeRows.{left_at, ended_at, taken_woke, written_back}
 use Rattle.cert_checker.proofs.node.leave.Goals as goal
 
 pub returns-then-not-is_whole : goal.returns-then-not-is_whole
@@ -26,9 +25,9 @@ returns c =
     let held = c.deref_mut-held.result.now in
     let draft = c.deref_mut-draft.result.now in
     let woke = taken_woke tree held draft c.take.result c.wake-limits.result c.deref_mut-held.ensures.value c.deref_mut-draft.ensures.value c.take.ensures.taken c.wake-limits.ensures in
-    let is : c.into_inner-draft.result ≡ moved tree c.rest.result c.leave-is_whole.new.self = c.into_inner-draft.ensures
-    ∙ written_back tree held draft c.rest.result c.leave-is_whole.new.self c.deref_mut-held.ensures.value c.deref_mut-draft.ensures.value in
-    ended_at tree c.wake-limits.result c.leave-is_whole.new.limits c.leave-is_whole.new.self c.into_inner-draft.result.draft c.into_inner-draft.result.claimed c.seen.result c.args.is_closed
+    ended_at tree c.wake-limits.result c.leave-is_whole.new.limits c.leave-is_whole.new.self c.rest.result
+    (with_value c.args.tree (record held { draft = with_value held.draft (record draft { limits = c.rest.result }); walk = c.leave-is_whole.new.self }))
+    c.seen-seen.result c.args.is_closed
     woke (subst (λ (x : TreeDraft). LeavesLeaf c.args.is_closed c.wake-limits.result x.walk c.leave-is_whole.new.limits c.leave-is_whole.new.self true) c.deref_mut-held.ensures.value c.if-not-is_whole.ensures.leaves)
-    (ap (λ (t : TreeDraft). draft_of t.draft.value) is) (ap (λ (t : TreeDraft). t.claimed) is)
-    (c.seen.ensures ∙ ap (λ (t : TreeDraft). t.walk.seen) is)
+    (written_back tree held draft c.rest.result c.leave-is_whole.new.self c.deref_mut-held.ensures.value c.deref_mut-draft.ensures.value)
+    c.seen-seen.ensures
