@@ -68,7 +68,7 @@ pub fn first_line_is_first()
     read_is_good();
 }
 
-/// The entries of a day are taken exactly where the state refuses none of them that those before it come to.
+/// Entries of a day are taken exactly where none is refused by the state that those before it come to.
 pub fn entries_are_taken_in_turn()
     ensures { (entries : List Entry) → AreTaken start entries
         ↔ ((n : ℕ) (entry : Entry) → slice_get entries n ≡ Some entry → refusal_of (state_after (take n entries)) entry ≡ None) }
