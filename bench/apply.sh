@@ -4,7 +4,7 @@
 set -eu
 here=$(cd "$(dirname "${BASH_SOURCE[0]}")" && pwd)
 . "$here/timing.sh"
-crew="$here/../bin/crew"
+crew=$(built "$here")
 made=$(mktemp -d)
 trap 'rm -r "$made"' EXIT
 

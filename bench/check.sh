@@ -5,7 +5,7 @@
 set -eu
 here=$(cd "$(dirname "${BASH_SOURCE[0]}")" && pwd)
 . "$here/timing.sh"
-crew="$here/../bin/crew"
+crew=$(built "$here")
 made=$(mktemp -d)
 trap 'rm -r "$made"' EXIT
 
@@ -117,7 +117,6 @@ repeat() {
 }
 
 greatest >"$made/greatest"
-"$crew" check <"$made/greatest" >/dev/null
 repeat "$made/greatest" "$made/many-great"
 airport >"$made/airport"
 repeat "$made/airport" "$made/many-small"

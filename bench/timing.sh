@@ -1,27 +1,45 @@
 # Times commands over one file, for the scripts beside this one. Source it; it wants bash 5.
 
-# seconds FILE COMMAND..: the least of three times that the command takes with the file as its input, in seconds
-seconds() {
-  local file=$1 least='' from until
-  shift
-  for _ in 1 2 3; do
-    from=$EPOCHREALTIME
-    "$@" <"$file" >/dev/null || return 1
-    until=$EPOCHREALTIME
-    least=$(awk -v a="$from" -v b="$until" -v least="$least" 'BEGIN { t = b - a; print (least == "" || t < least) ? t : least }')
-  done
-  echo "$least"
+# How often each command is run. They take turns, and the least time of each is told: it is the least disturbed one.
+rounds=9
+
+# built HERE: has the program built, where it isn't, and prints its path. It is timed itself: bin/crew looks first whether
+# it is to be built anew, which would be timed with it.
+built() {
+  "$1/../bin/crew" check <"$1/../examples/first.dossier" >/dev/null || return 1
+  echo "$1/../crates/crew/out/crew"
 }
 
-# ratios TITLE FILE COMMAND..: the times of `wc -l`, of `sha256sum` and of the command over the file, and their ratios
+# once FILE COMMAND..: the seconds by the clock, and of the processor, that the command takes with the file as its input
+once() {
+  local file=$1 TIMEFORMAT='%R %U %S'
+  shift
+  { time "$@" <"$file" >/dev/null 2>&3; } 3>&2 2>&1 || return 1
+}
+
+# least WORD FILE..: the least of a word of all lines of these files
+least() {
+  local word=$1
+  shift
+  cat "$@" | awk -v word="$word" '{ t = word == 1 ? $1 : $2 + $3; if (NR == 1 || t < least) least = t } END { print least }'
+}
+
+# ratios TITLE FILE COMMAND..: the least times of `wc -l`, of `sha256sum` and of the command over the file, and their ratios
 ratios() {
-  local title=$1 file=$2 lines sum own
+  local title=$1 file=$2 times
   shift 2
-  lines=$(seconds "$file" wc -l) && sum=$(seconds "$file" sha256sum) && own=$(seconds "$file" "$@") || {
-    echo "$title: a command failed" >&2
-    return 1
-  }
-  awk -v title="$title" -v bytes="$(wc -c <"$file")" -v lines="$lines" -v sum="$sum" -v own="$own" 'BEGIN {
-    printf "%s, %.1f MB: wc -l %.3f s, sha256sum %.3f s, crew %.3f s; crew / sha256sum %.2f, crew / wc -l %.1f, %.0f MB/s\n",
-      title, bytes / 1e6, lines, sum, own, own / sum, own / lines, bytes / 1e6 / own }'
+  times=$(mktemp -d)
+  for _ in $(seq "$rounds"); do
+    once "$file" wc -l >>"$times/lines" && once "$file" sha256sum >>"$times/sum" && once "$file" "$@" >>"$times/own" || {
+      echo "$title: a command failed" >&2
+      rm -r "$times"
+      return 1
+    }
+  done
+  awk -v title="$title" -v bytes="$(wc -c <"$file")" \
+    -v lines="$(least 1 "$times/lines")" -v sum="$(least 1 "$times/sum")" -v own="$(least 1 "$times/own")" \
+    -v sum_work="$(least 2 "$times/sum")" -v own_work="$(least 2 "$times/own")" 'BEGIN {
+    printf "%s, %.1f MB: wc -l %.3f s, sha256sum %.3f s, crew %.3f s; crew / sha256sum %.2f, of processor time %.2f; crew / wc -l %.1f; %.0f MB/s\n",
+      title, bytes / 1e6, lines, sum, own, own / sum, own_work / sum_work, own / lines, bytes / 1e6 / own }'
+  rm -r "$times"
 }
