@@ -1,5 +1,6 @@
 // A small dossier line by line, with a pool, a split and closed leaves, and the ways in which lines end.
 use crate::{Checker, Reason, Said, Stop, Verdict};
+use crew_terms::PlanVerdict;
 use std::test::Fail;
 
 /// A good dossier: two teams do one task in two windows, split between them; its two leaves are closed.
@@ -140,6 +141,28 @@ fn reads_prices_behind_a_bare_leaf(rt: HostRuntime) -> Result<(), Fail> {
     let kept = read_all(&mut checker, &HALF_BARE[..19]);
     drop(checker);
     assert_eq!(rt; kept?, (HALF_BARE_SAYS, 1, 1, None));
+    Ok(())
+}
+
+/// What is said of nine teams for a task that needs two.
+fn said_of_nine_teams(checker: &mut Checker) -> Result<Said, Fail> {
+    read_most(checker, &HALF_BARE[..10])?;
+    read_most(checker, &[b"plan 0 0"])?;
+    said_of(checker, b"do 0 420 0 1 0 1 0 1 0 1 0")
+}
+
+#[test]
+fn refuses_nine_teams_for_a_task(rt: HostRuntime) -> Result<(), Fail> {
+    let mut checker = Checker::open(rt.alloc())?;
+    let said = said_of_nine_teams(&mut checker);
+    drop(checker);
+    assert_eq!(rt;
+        said?,
+        Said::No {
+            line: 12,
+            reason: Reason::Plan(PlanVerdict::Count(0))
+        }
+    );
     Ok(())
 }
 

@@ -96,7 +96,7 @@ pub fn met_bound_is_best()
     good_bounds();
 }
 
-/// A small dossier is good, and these are its lines.
+/// A small dossier with a bare leaf and no pool is good, and these are its lines.
 pub fn sheet_is_good()
     ensures { IsGood sheet × (lines_of sheet ≡ sheet_lines) }
 {}

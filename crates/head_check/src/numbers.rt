@@ -8,7 +8,7 @@ use cert_format::Rest;
 use smallvec::SmallVec;
 use std::alloc::{AllocError, Global};
 
-/// A task is done by at most so many teams, so that a list of them needs no memory of its own.
+/// A task of a legal plan has at most so many teams. A list of no more of them needs no memory of its own.
 pub const MOST_TEAMS_PER_TASK: usize = 8;
 
 /// The number at a place, which is a minute, a skill or a team.

@@ -8,7 +8,7 @@ use smallvec::SmallVec;
 use std::alloc::{AllocError, Global};
 use std::marker::Model;
 
-/// A task is done by at most so many teams, so that the list of a job's teams lies in the plan itself.
+/// A task of a legal plan has at most so many teams. A list of no more of them lies in the plan itself.
 const MOST_TEAMS_PER_TASK: usize = 8;
 
 // When a task is begun, and by which teams.

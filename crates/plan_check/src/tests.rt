@@ -148,6 +148,29 @@ fn takes_an_assignment_back(rt: HostRuntime) {
 }
 
 #[test]
+fn holds_more_teams_than_a_task_may_need(rt: HostRuntime) {
+    let nine: [u32; 9] = [8, 7, 6, 5, 4, 3, 2, 1, 0];
+    let jobs: [(u32, u32, &[u32]); 2] = [(1, 440, &nine[..8]), (2, 460, &nine)];
+    let mut plan = plan(&rt, rt.alloc(), &jobs).expect(&rt, "memory");
+    let copy = plan.copy().expect(&rt, "memory");
+    assert!(rt; 2 < plan.len());
+    assert_eq!(rt; plan.teams(1), &nine[..8]);
+    assert_eq!(rt; plan.teams(2), nine.as_slice());
+    plan.clear(2);
+    assert!(rt; 2 < copy.len());
+    assert_eq!(rt; copy.teams(1), &nine[..8]);
+    assert_eq!(rt; copy.teams(2), nine.as_slice());
+}
+
+#[test]
+fn tells_the_count_of_nine_teams(rt: HostRuntime) {
+    assert_eq!(rt;
+        verdict(&rt, rt.alloc(), &[(5, 600, &[0, 0, 0, 0, 0, 0, 0, 0, 0])]),
+        PlanVerdict::Count(5)
+    );
+}
+
+#[test]
 fn lists_what_a_team_does(rt: HostRuntime) {
     let jobs: [(u32, u32, &[u32]); 4] = [
         (0, 440, &[1]),
