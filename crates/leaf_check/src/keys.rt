@@ -57,8 +57,8 @@ pub fn required_count(limits: &Limits<'_>, j: u32) -> u32
     requires { j < tasks_in limits.now.limits }
     ensures { result ≡ length (required_teams limits.now.limits j) }
 {
-    // What holds of the limits: they have a row for each team.
-    let _day = limits.instance();
+    // What holds of the limits: they have a row of pairs for each team.
+    let _rows = limits.instance();
     limits.required(j)
 }
 

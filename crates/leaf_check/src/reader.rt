@@ -1,6 +1,6 @@
 // A reader of the lines of one leaf, from its prices to its last potentials.
 ghost use Rattle.std.specs.Prelude.{◌≡◌, ◌≤◌, ◌<◌, ◌+◌, ℕ, suc, ℤ, List, [], length, IfOk, IfSome};
-ghost use Rattle.crew_terms.specs.Limits.{Limits as Bounds, has_required, tasks_in, teams_in};
+ghost use Rattle.crew_terms.specs.Limits.{Limits as NodeLimits, has_required, tasks_in, teams_in};
 ghost use Rattle.dossier_terms.specs.Dossier.{Leaf, Potentials, minute_count};
 ghost use Rattle.dossier_terms.specs.Reading.{Place, Prices as PriceDue};
 ghost use Rattle.dossier_terms.specs.Table.{after_extra, after_phi, after_table, extra_row, phi_row, price_row, worth_row};
@@ -65,9 +65,11 @@ pub struct LeafReader {
 }
 
 impl LeafReader {
-    /// A reader with room for each leaf over the instance; no other call takes memory.
+    /// A reader with room for each leaf over the instance, at the line of prices of the first one; no other call takes
+    /// memory.
     pub fn open(alloc: Global, limits: &Limits<'_>) -> Result<LeafReader, AllocError>
-        ensures { IfOk result (IsReady limits.now.limits) }
+        ensures ready { IfOk result (IsReady limits.now.limits) }
+        ensures stands { IfOk result (λ r. (a : Place) → StandsFor a r (PriceDue a)) }
     {
         let prices = Prices::zero(alloc, limits)?;
         let table = Table::reserve(alloc, limits.instance())?;
@@ -84,7 +86,7 @@ impl LeafReader {
 
     /// Begins a leaf: its line of prices is due. The limits may be others than before, over the same instance.
     pub fn begin(&mut self)
-        ensures ready { (n m : Bounds) → m.instance ≡ n.instance → IsReady n self.old → IsReady m self.new }
+        ensures ready { (n m : NodeLimits) → m.instance ≡ n.instance → IsReady n self.old → IsReady m self.new }
         ensures stands { (a : Place) → StandsFor a self.new (PriceDue a) }
     {
         self.due = LeafDue::Price;
@@ -92,7 +94,8 @@ impl LeafReader {
 
     /// Judges the line that is due, by the table of lines. A team's rules are tested at its last line: `Potential` tells
     /// the first task whose potentials are too low, and then `Worth` that the worth is; `Bound` is told at the last line
-    /// of the leaf, where it does not prove what it has to.
+    /// of the leaf, where it does not prove what it has to. After `Done` and after `No` only `begin` goes on: what is said
+    /// of a line before that means nothing.
     pub fn line(&mut self, limits: &Limits<'_>, goal: Goal, words: LineWords<'_>) -> LeafStep
         requires { IsReady limits.now.limits self.old }
         ensures ready { IsReady limits.now.limits self.new }

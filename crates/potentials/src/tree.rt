@@ -8,18 +8,18 @@ use arrayvec::ArrayVec;
 use crew_terms::Choice;
 use std::marker::Model;
 
-/// What a leaf says of itself.
+/// What a leaf claims. No call of this crate tests it.
 #[derive(Clone, Copy, Debug, PartialEq, Eq)]
 pub enum LeafState {
-    /// It has no prices, and proves nothing.
+    /// It claims nothing, and its prices do not count.
     Bare,
-    /// Its prices prove the tree's bound.
+    /// It claims that its prices prove a bound.
     Open,
-    /// Its prices prove the tree's bound, and as many unassigned tasks as the plan has.
+    /// It claims that its prices prove the bound, and as many unassigned tasks as a plan has.
     Closed,
 }
 
-/// A node of a branch tree: a split, or a leaf with its prices.
+/// A node of a branch tree: a split, or a leaf with what it claims and its prices. A bare leaf has prices too.
 #[derive(Drop)]
 pub enum Node {
     Split(Choice),
@@ -36,7 +36,7 @@ struct Numbers {
 }
 
 /// A branch tree of at most 100,000 splits: its nodes in preorder, so that the first child of a split comes
-/// right behind it, and the second child behind all of the first.
+/// right behind it, and the second child behind all of the first. That its leaves claim something proves nothing.
 #[derive(Drop)]
 pub struct Tree {
     nodes: Vec<Node>,
@@ -73,7 +73,7 @@ impl Numbers {
     }
 }
 
-/// What the node says of itself, if it is a leaf.
+/// What the node claims, if it is a leaf.
 fn state_of(node: &Node) -> Option<LeafState>
     ensures { result ≡ state_of node.now }
 {
