@@ -221,8 +221,8 @@ impl Sink for SteadySink {
 }
 
 /// A sink over one of std's writers behind a buffer, which tells nothing of its bytes but those that it
-/// holds back. Each of the writer's errors is counted, and each write that takes nothing of a piece that is
-/// not empty.
+/// holds back. Each of the writer's errors is a fault, and each write that takes nothing of a piece that is
+/// not empty. Faults are counted.
 #[derive(Drop)]
 pub struct StdSink<W: Write + Drop> {
     inner: BufWriter<W>,
@@ -268,8 +268,9 @@ impl<W: Write + Drop> Sink for StdSink<W> {
         ensures later { write_faults self.old ≤ write_faults self.new }
         ensures cause { IsErr result → Rose (write_faults self.old) (write_faults self.new) }
 
-        // An Ok leaves the count and an Err adds one, and what it takes is passed on. That Err comes exactly
-        // where the writer failed or took nothing shows in the code and in tests: std says not when it fails.
+        // An Ok leaves the count, an Err adds one, and what is taken is passed on. That Err comes exactly where
+        // the writer's call failed, or took nothing of a piece that is not empty, shows in the code and in
+        // tests: std does not say when its calls fail.
         ensures uncounted { OnOk result (write_faults self.new ≡ write_faults self.old) }
         ensures counted { OnErr result (write_faults self.new ≡ one_more (write_faults self.old)) }
         ensures bytes { WriteAppends (writer_contents W.contents (writer_of self.old)) (writer_contents W.contents (writer_of self.new)) result piece.now }
@@ -286,7 +287,7 @@ impl<W: Write + Drop> Sink for StdSink<W> {
         ensures later { write_faults self.old ≤ write_faults self.new }
         ensures cause { IsErr result → Rose (write_faults self.old) (write_faults self.new) }
 
-        // An Ok leaves the count and an Err adds one. That Err comes exactly where the writer's flush failed
+        // An Ok leaves the count, and an Err adds one. That Err comes exactly where the writer's call failed
         // shows in the code and in tests.
         ensures uncounted { OnOk result (write_faults self.new ≡ write_faults self.old) }
         ensures counted { OnErr result (write_faults self.new ≡ one_more (write_faults self.old)) }
@@ -299,7 +300,8 @@ impl<W: Write + Drop> Sink for StdSink<W> {
     }
 }
 
-/// Writes all bytes. After a fault a front of them was written, which may be all of them. It takes no memory.
+/// Writes all bytes. After a fault the sink has taken a front of them, which may be all of them. It takes no
+/// memory.
 pub fn put_all<K: Sink>(sink: &mut K, bytes: &[u8]) -> Result<(), WriteFault>
     ensures all { OnOk result (Appended (K.got sink.old) (K.got sink.new) bytes.now) }
     ensures part { OnErr result (AppendedPart (K.got sink.old) (K.got sink.new) bytes.now) }

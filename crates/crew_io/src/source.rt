@@ -176,7 +176,7 @@ impl Source for SteadySource {
 }
 
 /// A source over one of std's readers, which tells nothing of its bytes. Each of the reader's errors
-/// is answered as a fault, and counted.
+/// is a fault, and faults are counted.
 #[derive(Drop)]
 pub struct StdSource<R> {
     inner: R,
@@ -208,8 +208,8 @@ impl<R: Read> Source for StdSource<R> {
         ensures later { read_faults self.old ≤ read_faults self.new }
         ensures cause { IsErr result → Rose (read_faults self.old) (read_faults self.new) }
 
-        // An Ok leaves the count and an Err adds one, and what it gives is the reader's. That Err comes exactly
-        // where the reader's read failed shows in the code and in tests: std says not when it fails.
+        // An Ok leaves the count, an Err adds one, and what is given is the reader's. That Err comes exactly
+        // where the reader's call failed shows in the code and in tests: std does not say when its calls fail.
         ensures uncounted { OnOk result (read_faults self.new ≡ read_faults self.old) }
         ensures counted { OnErr result (read_faults self.new ≡ one_more (read_faults self.old)) }
         ensures bytes { ReadConsumes (R.remaining (reader_of self.old)) (R.remaining (reader_of self.new)) result buf.new }
