@@ -2,4 +2,3 @@ pub mod Pieces
 pub mod Ranges
 pub mod Room
 pub mod Stream
-mod Texts

@@ -9,7 +9,7 @@ use Rattle.crew_io.specs.declared.sink.StdSink.{StdSink}
 abbrev pub reader_of : {R : Type 0} → StdSource R → R
 reader_of s = s.inner
 
--- how many of its reads have failed
+-- how many of its reads it answered with a fault
 abbrev pub read_faults : {R : Type 0} → StdSource R → ℕ
 read_faults s = s.failed
 
@@ -17,6 +17,6 @@ read_faults s = s.failed
 abbrev pub writer_of : {W : Type 0} → StdSink W → BufWriter W Global
 writer_of s = s.inner
 
--- how many of its writes and flushes have failed
+-- how many of its writes and flushes it answered with a fault
 abbrev pub write_faults : {W : Type 0} → StdSink W → ℕ
 write_faults s = s.failed

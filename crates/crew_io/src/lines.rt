@@ -95,7 +95,12 @@ fn move_to_front(room: &mut [u8], at: usize, end: usize)
 }
 
 /// Reads on behind what is held.
-fn read_on<S: Source>(src: &mut S, room: &mut [u8], at: usize, end: usize) -> Result<usize, Failed>
+pub(crate) fn read_on<S: Source>(
+    src: &mut S,
+    room: &mut [u8],
+    at: usize,
+    end: usize,
+) -> Result<usize, Failed>
     requires held { at ≤ end }
     requires within { end < length room.old }
     ensures fits { IfOk result (λ n. end + n ≤ length room.old) }

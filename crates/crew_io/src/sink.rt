@@ -43,7 +43,8 @@ pub trait Sink {
         ensures later { faults self.old ≤ faults self.new }
         ensures cause { IsErr result → Rose (faults self.old) (faults self.new) }
         ensures uncounted { OnOk result (faults self.new ≡ faults self.old) }
-        ensures steady { steady self.old → steady self.new × (IsErr result → full self.new) };
+        ensures steady { steady self.old → steady self.new × (IsErr result → full self.new) }
+        ensures full { full self.old → full self.new };
 
     /// Passes on what the sink holds back. A flush that fails is counted.
     fn flush(&mut self) -> Result<(), Failed>
@@ -142,6 +143,7 @@ impl Sink for MemSink {
         ensures cause { IsErr result → Rose self.old.faults self.new.faults }
         ensures uncounted { OnOk result (self.new.faults ≡ self.old.faults) }
         ensures steady { self.old.fails ≡ [] → (self.new.fails ≡ []) × (IsErr result → length self.new.got ≡ self.new.room) }
+        ensures full { length self.old.got ≡ self.old.room → length self.new.got ≡ self.new.room }
 
         // It fails exactly where the call is due to fail or the room is full, and takes as much as it may.
         ensures due { IsErr result ↔ IsRefused self.old piece.now }
@@ -219,8 +221,8 @@ impl Sink for SteadySink {
 }
 
 /// A sink over one of std's writers behind a buffer, which tells nothing of its bytes but those that it
-/// holds back. Each of the writer's errors is counted, and each write that takes nothing of a piece that is
-/// not empty.
+/// holds back. Each of the writer's errors is a fault, and each write that takes nothing of a piece that is
+/// not empty. Faults are counted.
 #[derive(Drop)]
 pub struct StdSink<W: Write + Drop> {
     inner: BufWriter<W>,
@@ -266,7 +268,9 @@ impl<W: Write + Drop> Sink for StdSink<W> {
         ensures later { write_faults self.old ≤ write_faults self.new }
         ensures cause { IsErr result → Rose (write_faults self.old) (write_faults self.new) }
 
-        // It counts exactly the writes that fail, and passes on what it takes.
+        // An Ok leaves the count, an Err adds one, and what is taken is passed on. That Err comes exactly where
+        // the writer's call failed, or took nothing of a piece that is not empty, shows in the code and in
+        // tests: std does not say when its calls fail.
         ensures uncounted { OnOk result (write_faults self.new ≡ write_faults self.old) }
         ensures counted { OnErr result (write_faults self.new ≡ one_more (write_faults self.old)) }
         ensures bytes { WriteAppends (writer_contents W.contents (writer_of self.old)) (writer_contents W.contents (writer_of self.new)) result piece.now }
@@ -283,7 +287,8 @@ impl<W: Write + Drop> Sink for StdSink<W> {
         ensures later { write_faults self.old ≤ write_faults self.new }
         ensures cause { IsErr result → Rose (write_faults self.old) (write_faults self.new) }
 
-        // It counts exactly the flushes that fail.
+        // An Ok leaves the count, and an Err adds one. That Err comes exactly where the writer's call failed
+        // shows in the code and in tests.
         ensures uncounted { OnOk result (write_faults self.new ≡ write_faults self.old) }
         ensures counted { OnErr result (write_faults self.new ≡ one_more (write_faults self.old)) }
         ensures bytes { Keeps (writer_contents W.contents (writer_of self.old)) (writer_contents W.contents (writer_of self.new)) }
@@ -295,7 +300,8 @@ impl<W: Write + Drop> Sink for StdSink<W> {
     }
 }
 
-/// Writes all bytes, or a front of them after which a write failed. It takes no memory.
+/// Writes all bytes. After a fault the sink has taken a front of them, which may be all of them. It takes no
+/// memory.
 pub fn put_all<K: Sink>(sink: &mut K, bytes: &[u8]) -> Result<(), WriteFault>
     ensures all { OnOk result (Appended (K.got sink.old) (K.got sink.new) bytes.now) }
     ensures part { OnErr result (AppendedPart (K.got sink.old) (K.got sink.new) bytes.now) }
@@ -303,6 +309,7 @@ pub fn put_all<K: Sink>(sink: &mut K, bytes: &[u8]) -> Result<(), WriteFault>
     ensures cause { IsErr result → Rose (K.faults sink.old) (K.faults sink.new) }
     ensures told { OnOk result (K.faults sink.new ≡ K.faults sink.old) }
     ensures steady { K.steady sink.old → K.steady sink.new × (IsErr result → K.full sink.new) }
+    ensures full { K.full sink.old → K.full sink.new }
 {
     let mut at = 0;
     while at < bytes.len() {

@@ -25,7 +25,8 @@ pub trait Source {
     ghost steady: { Self → Type 0 };
 
     /// Puts the next bytes at the front of the buffer, and says how many: none only at the end, or
-    /// where the buffer is empty. A read that fails takes nothing, and is counted.
+    /// where the buffer is empty. A read that fails takes nothing, and is counted; what the buffer then
+    /// holds is not said.
     fn read(&mut self, buf: &mut [u8]) -> Result<usize, Failed>
         ensures fits { IfOk result (λ n. n ≤ length buf.old) }
         ensures gave { IfOk result (λ n. Gave (left self.old) (left self.new) n buf.old buf.new) }
@@ -175,7 +176,7 @@ impl Source for SteadySource {
 }
 
 /// A source over one of std's readers, which tells nothing of its bytes. Each of the reader's errors
-/// is counted.
+/// is a fault, and faults are counted.
 #[derive(Drop)]
 pub struct StdSource<R> {
     inner: R,
@@ -207,7 +208,8 @@ impl<R: Read> Source for StdSource<R> {
         ensures later { read_faults self.old ≤ read_faults self.new }
         ensures cause { IsErr result → Rose (read_faults self.old) (read_faults self.new) }
 
-        // It counts exactly the reads that fail, and gives what the reader gives.
+        // An Ok leaves the count, an Err adds one, and what is given is the reader's. That Err comes exactly
+        // where the reader's call failed shows in the code and in tests: std does not say when its calls fail.
         ensures uncounted { OnOk result (read_faults self.new ≡ read_faults self.old) }
         ensures counted { OnErr result (read_faults self.new ≡ one_more (read_faults self.old)) }
         ensures bytes { ReadConsumes (R.remaining (reader_of self.old)) (R.remaining (reader_of self.new)) result buf.new }

@@ -3,8 +3,49 @@ use crate::lines::{Got, LineReader, Progress};
 use crate::sink::{MemSink, Sink, StdSink, SteadySink, WriteFault, put_all};
 use crate::source::{Failed, MemSource, Source, StdSource, SteadySource};
 use crate::text::{Text, read_text};
-use std::io::BufWriter;
+use std::io;
+use std::io::{BufWriter, ErrorKind, Read, Write};
 use std::test::Fail;
+
+/// A reader or a writer of std, each third call of which fails. The others take at most one byte.
+#[derive(Drop)]
+struct Halting<T> {
+    inner: T,
+    calls: u8,
+    kind: ErrorKind,
+}
+
+impl<T> Halting<T> {
+    fn call(&mut self) -> io::Result<()> {
+        self.calls = self.calls % 3 + 1;
+        if self.calls == 3 {
+            return Err(io::Error::from(self.kind));
+        }
+        Ok(())
+    }
+}
+
+impl<R: Read> Read for Halting<R> {
+    fn read(&mut self, buf: &mut [u8]) -> io::Result<usize> {
+        self.call()?;
+        let len = buf.len().min(1);
+        self.inner.read(&mut buf[..len])
+    }
+}
+
+impl<W: Write> Write for Halting<W> {
+    fn write(&mut self, buf: &[u8]) -> io::Result<usize> {
+        self.call()?;
+        self.inner.write(&buf[..buf.len().min(1)])
+    }
+
+    fn flush(&mut self) -> io::Result<()> {
+        self.call()
+    }
+}
+
+/// Kinds of errors: one that std's own loops pass over, and one that they tell.
+const KINDS: [ErrorKind; 2] = [ErrorKind::Interrupted, ErrorKind::BrokenPipe];
 
 #[test]
 fn hands_out_as_much_as_it_may(rt: HostRuntime) -> Result<(), Fail> {
@@ -78,6 +119,44 @@ fn writes_through_to_std(rt: HostRuntime) -> Result<(), Fail> {
     assert_eq!(rt; sink.flush(), Ok(()));
     drop(sink);
     assert_eq!(rt; bytes.as_slice(), b"abc".as_slice());
+    Ok(())
+}
+
+#[test]
+fn tells_each_fault_of_a_reader_of_std(rt: HostRuntime) {
+    for kind in KINDS {
+        let (inner, calls) = (b"abcde".as_slice(), 0);
+        let mut src = StdSource::new(Halting { inner, calls, kind });
+        let mut buf = [0u8; 4];
+        for _ in 0..2 {
+            assert_eq!(rt; src.read(&mut buf), Ok(1));
+            assert_eq!(rt; src.read(&mut buf), Ok(1));
+            assert_eq!(rt; src.read(&mut buf), Err(Failed));
+        }
+        assert_eq!(rt; src.read(&mut buf), Ok(1));
+        assert_eq!(rt; src.read(&mut buf), Ok(0));
+        assert_eq!(rt; src.read(&mut buf), Err(Failed));
+    }
+}
+
+#[test]
+fn tells_each_fault_of_a_writer_of_std(rt: HostRuntime) -> Result<(), Fail> {
+    for kind in KINDS {
+        let mut bytes = Vec::new(rt.alloc());
+        let (inner, calls) = (&mut bytes, 0);
+        let writer = BufWriter::with_capacity(rt.alloc(), 0, Halting { inner, calls, kind })?;
+        let mut sink = StdSink::new(writer);
+        for piece in [b"ab".as_slice(), b"cd".as_slice()] {
+            assert_eq!(rt; sink.write(piece), Ok(1));
+            assert_eq!(rt; sink.flush(), Ok(()));
+            assert_eq!(rt; sink.write(piece), Err(Failed));
+            assert_eq!(rt; sink.write(piece), Ok(1));
+            assert_eq!(rt; sink.write(piece), Ok(1));
+            assert_eq!(rt; sink.flush(), Err(Failed));
+        }
+        drop(sink);
+        assert_eq!(rt; bytes.as_slice(), b"aaaccc".as_slice());
+    }
     Ok(())
 }
 

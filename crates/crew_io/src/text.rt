@@ -1,10 +1,11 @@
 // All the bytes of a source, up to a limit.
-ghost use Rattle.std.specs.Prelude.{◌≡◌, ◌≢◌, ◌≤◌, ◌<◌, ◌+◌, Ok, length, take, vec_len, IfOk, OnOk, OnErr, IsOk, IsErr};
-ghost use Rattle.crew_io.specs.Io.{Rose, HasEnded};
+ghost use Rattle.std.specs.Prelude.{◌≡◌, ◌≢◌, ◌≤◌, ◌<◌, Ok, length, slice_range, vec_len, IfOk, OnOk, OnErr, IsOk, IsErr};
+ghost use Rattle.crew_io.specs.Io.{Rose};
 ghost use Rattle.crew_io.specs.Lines.{with_left};
 ghost use Rattle.crew_io.specs.Text.{HasAtMost, TookAtMost, ReadsText};
 
-use crate::source::{Failed, Source};
+use crate::lines::read_on;
+use crate::source::Source;
 use std::alloc::{AllocError, Global};
 use std::marker::Model;
 
@@ -59,28 +60,13 @@ fn make_room(room: &mut Vec<u8>, len: usize, most: usize) -> Result<(), AllocErr
     requires within { vec_len room.old ≤ most }
     ensures more { OnOk result (len < vec_len room.new) }
     ensures within { vec_len room.new ≤ most }
-    ensures same { take len room.new.items ≡ take len room.old.items }
+    ensures same { slice_range room.new.items 0 len ≡ slice_range room.old.items 0 len }
 {
     if len < room.len() {
         return Ok(());
     }
     let more = room.len().max(FIRST).min(most - room.len());
     room.resize(room.len() + more, 0)
-}
-
-/// Reads on behind the first `len` bytes of the room.
-fn read_behind<S: Source>(src: &mut S, room: &mut [u8], len: usize) -> Result<usize, Failed>
-    requires { len < length room.old }
-    ensures fits { IfOk result (λ n. len + n ≤ length room.old) }
-    ensures rest { IfOk result (λ n. with_left (take (len + n) room.new) (S.left src.new) ≡ with_left (take len room.old) (S.left src.old)) }
-    ensures nothing { OnErr result (S.left src.new ≡ S.left src.old) }
-    ensures end { result ≡ Ok 0 → HasEnded (S.left src.new) }
-    ensures later { S.faults src.old ≤ S.faults src.new }
-    ensures cause { IsErr result → Rose (S.faults src.old) (S.faults src.new) }
-    ensures uncounted { OnOk result (S.faults src.new ≡ S.faults src.old) }
-    ensures steady { S.steady src.old → IsOk result × S.steady src.new }
-{
-    src.read(&mut room[len..])
 }
 
 /// Whether a byte comes behind the most that a text may have.
@@ -116,7 +102,7 @@ pub fn read_text<S: Source>(alloc: Global, src: &mut S, most: usize) -> Result<T
     let mut len = 0;
     while len < most {
         make_room(&mut room, len, most)?;
-        let Ok(n) = read_behind(src, &mut room, len) else {
+        let Ok(n) = read_on(src, &mut room, 0, len) else {
             return Ok(Text::ReadFault);
         };
         if n == 0 {
