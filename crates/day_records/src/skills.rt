@@ -1,5 +1,5 @@
 // Lists of skills.
-ghost use Rattle.std.specs.Prelude.{◌≡◌, ◌≤◌, ◌<◌, ◌↔◌, ◌⊎◌, ◌≤ℤ◌, ℕ, pos, length, MatchResult};
+ghost use Rattle.std.specs.Prelude.{◌≡◌, ◌<◌, ◌↔◌, ◌⊎◌, ◌≤ℤ◌, ℕ, pos, length, MatchResult};
 ghost use Rattle.std.specs.Int.{bit_at};
 ghost use Rattle.day_terms.specs.Forms.{Skilled};
 ghost use Rattle.day_terms.specs.Fields.{ListsSet, IsBad};

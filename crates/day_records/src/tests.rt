@@ -82,23 +82,33 @@ fn reads_whole_days(rt: HostRuntime) -> Result<(), Fail> {
 }
 
 #[test]
-fn stops_at_the_first_bad_record(rt: HostRuntime) -> Result<(), Fail> {
+fn stops_at_a_wrong_kind_or_count(rt: HostRuntime) -> Result<(), Fail> {
     let alloc = rt.alloc();
     let kind = Some(Refused {
         number: 1,
         cause: DayCause::Kind,
     });
-    assert!(rt; is_day(&read_day(alloc, b"plaice,X\nplace,X\n")?, 0, kind));
     let cases = [
-        (b"place\n".as_slice(), 0, refused(1, 1, Cause::Count)),
+        (b"plaice,X\nplace,X\n".as_slice(), 0, kind),
+        (b"place\n", 0, refused(1, 1, Cause::Count)),
         (b"place,X,Y", 0, refused(1, 3, Cause::Count)),
-        (b"place,", 0, refused(1, 1, Cause::Spelling)),
+    ];
+    for (text, count, stop) in cases {
+        assert!(rt; is_day(&read_day(alloc, text)?, count, stop));
+    }
+    Ok(())
+}
+
+#[test]
+fn stops_at_a_misspelled_field(rt: HostRuntime) -> Result<(), Fail> {
+    let alloc = rt.alloc();
+    let cases = [
+        (b"place,".as_slice(), 0, refused(1, 1, Cause::Spelling)),
         (
             b"place,A\nplace,G1\nplan,1\ntask,A,G1,07:60,08:00,30,1,\nplaice\n",
             3,
             refused(4, 3, Cause::Spelling),
         ),
-        (b"skill,T,64", 0, refused(1, 2, Cause::Range)),
         (
             b"team,T,B,06:00,14:00,0  1",
             0,
@@ -109,17 +119,29 @@ fn stops_at_the_first_bad_record(rt: HostRuntime) -> Result<(), Fail> {
             0,
             refused(1, 5, Cause::Spelling),
         ),
-        (b"task,A,G,07:00,08:00,0,1,", 0, refused(1, 5, Cause::Range)),
-        (b"plan,100001", 0, refused(1, 1, Cause::Range)),
-        (b"move,A,48:00,48:01", 0, refused(1, 3, Cause::Range)),
-        (b"move,A,48:01,07:60", 0, refused(1, 2, Cause::Range)),
-        (b"plan,9223372036854775807", 0, refused(1, 1, Cause::Range)),
         (
             b"plan,9223372036854775808",
             0,
             refused(1, 1, Cause::Spelling),
         ),
         (b"plan,1\nplace,\xff\xfe", 1, refused(2, 1, Cause::Spelling)),
+    ];
+    for (text, count, stop) in cases {
+        assert!(rt; is_day(&read_day(alloc, text)?, count, stop));
+    }
+    Ok(())
+}
+
+#[test]
+fn stops_at_a_field_out_of_range(rt: HostRuntime) -> Result<(), Fail> {
+    let alloc = rt.alloc();
+    let cases = [
+        (b"skill,T,64".as_slice(), 0, refused(1, 2, Cause::Range)),
+        (b"task,A,G,07:00,08:00,0,1,", 0, refused(1, 5, Cause::Range)),
+        (b"plan,100001", 0, refused(1, 1, Cause::Range)),
+        (b"move,A,48:00,48:01", 0, refused(1, 3, Cause::Range)),
+        (b"move,A,48:01,07:60", 0, refused(1, 2, Cause::Range)),
+        (b"plan,9223372036854775807", 0, refused(1, 1, Cause::Range)),
     ];
     for (text, count, stop) in cases {
         assert!(rt; is_day(&read_day(alloc, text)?, count, stop));
@@ -156,7 +178,7 @@ enum Shape {
     Skills,
 }
 
-/// The ends of the range of each shape, and what lies one past them, with the cause.
+/// The ends of the range of each shape.
 fn good(shape: Shape) -> (&'static [u8], &'static [u8]) {
     match shape {
         Shape::Name => (b"N", b"abcdefghijklmnopqrstuvwxyz_.:/-9"),
@@ -170,48 +192,31 @@ fn good(shape: Shape) -> (&'static [u8], &'static [u8]) {
     }
 }
 
-fn bad(shape: Shape) -> [(&'static [u8], Cause); 3] {
+/// What lies past the ends of each shape's range; a name has no range.
+fn out_of_range(shape: Shape) -> &'static [&'static [u8]] {
     match shape {
-        Shape::Name => [
-            (b"", Cause::Spelling),
-            (b"abcdefghijklmnopqrstuvwxyz_.:/-98", Cause::Spelling),
-            (b"a b", Cause::Spelling),
-        ],
-        Shape::Minutes => [
-            (b"-1", Cause::Range),
-            (b"2881", Cause::Range),
-            (b"00", Cause::Spelling),
-        ],
-        Shape::Duration => [
-            (b"0", Cause::Range),
-            (b"2881", Cause::Range),
-            (b"", Cause::Spelling),
-        ],
-        Shape::Time => [
-            (b"48:01", Cause::Range),
-            (b"99:59", Cause::Range),
-            (b"7:00", Cause::Spelling),
-        ],
-        Shape::Count => [
-            (b"-1", Cause::Range),
-            (b"100", Cause::Range),
-            (b"+1", Cause::Spelling),
-        ],
-        Shape::Skill => [
-            (b"-1", Cause::Range),
-            (b"64", Cause::Range),
-            (b"06", Cause::Spelling),
-        ],
-        Shape::Nodes => [
-            (b"-1", Cause::Range),
-            (b"100001", Cause::Range),
-            (b"1 ", Cause::Spelling),
-        ],
-        Shape::Skills => [
-            (b"0 64", Cause::Range),
-            (b"-1", Cause::Range),
-            (b" 1", Cause::Spelling),
-        ],
+        Shape::Name => &[],
+        Shape::Minutes => &[b"-1", b"2881"],
+        Shape::Duration => &[b"0", b"2881"],
+        Shape::Time => &[b"48:01", b"99:59"],
+        Shape::Count => &[b"-1", b"100"],
+        Shape::Skill => &[b"-1", b"64"],
+        Shape::Nodes => &[b"-1", b"100001"],
+        Shape::Skills => &[b"0 64", b"-1"],
+    }
+}
+
+/// What spells nothing of each shape.
+fn misspelled(shape: Shape) -> &'static [&'static [u8]] {
+    match shape {
+        Shape::Name => &[b"", b"abcdefghijklmnopqrstuvwxyz_.:/-98", b"a b"],
+        Shape::Minutes => &[b"00"],
+        Shape::Duration => &[b""],
+        Shape::Time => &[b"7:00"],
+        Shape::Count => &[b"+1"],
+        Shape::Skill => &[b"06"],
+        Shape::Nodes => &[b"1 "],
+        Shape::Skills => &[b" 1"],
     }
 }
 
@@ -274,6 +279,24 @@ fn record_with(
     Ok(text)
 }
 
+/// Whether the record is refused with this cause where the field with this number has each of these values.
+fn refuses_each(
+    alloc: Global,
+    key: &[u8],
+    shapes: &[Shape],
+    place: usize,
+    values: &[&[u8]],
+    cause: Cause,
+) -> Result<bool, AllocError> {
+    for value in values {
+        let text = record_with(alloc, key, shapes, place, value)?;
+        if !is_day(&read_day(alloc, &text)?, 0, refused(1, place, cause)) {
+            return Ok(false);
+        }
+    }
+    Ok(true)
+}
+
 /// Whether the record is read where the field with this number has each good value, and refused where it has
 /// each bad one.
 fn has_ends(
@@ -290,13 +313,16 @@ fn has_ends(
             return Ok(false);
         }
     }
-    for (value, cause) in bad(shape) {
-        let text = record_with(alloc, key, shapes, place, value)?;
-        if !is_day(&read_day(alloc, &text)?, 0, refused(1, place, cause)) {
-            return Ok(false);
-        }
-    }
-    Ok(true)
+    let by_range = refuses_each(alloc, key, shapes, place, out_of_range(shape), Cause::Range)?;
+    let by_spelling = refuses_each(
+        alloc,
+        key,
+        shapes,
+        place,
+        misspelled(shape),
+        Cause::Spelling,
+    )?;
+    Ok(by_range && by_spelling)
 }
 
 /// Whether this holds of each field of the record.

@@ -2,6 +2,9 @@ pub mod ByTest
 pub mod Places
 pub mod Fields
 pub mod Times
+pub mod Named
+pub mod Numbers
+pub mod Skills
 pub mod Minutes
 pub mod Rounds
 pub mod Conditions

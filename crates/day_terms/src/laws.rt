@@ -1,18 +1,21 @@
-// Laws of a day: what its fields and records say, place by place; what an entry changes of the state, of its
-// times and of the rounds; and which refusal and which missing time is the first.
-ghost use Rattle.std.specs.Prelude.{◌≡◌, ◌≢◌, ◌⊎◌, ◌↔◌, ◌++◌, ℕ, ℤ, Bool, true, false, List, [], ◌∷◌, All, Some, None, Ok, count_by, length, slice_get};
+// Laws of a day: what its fields and records say, place by place; who has a name, and what an entry changes of
+// the state, of its teams, tasks and times and of the rounds; and which refusal and which missing time is the first.
+ghost use Rattle.std.specs.Prelude.{◌≡◌, ◌≢◌, ◌<◌, ◌^◌, ◌⊎◌, ◌↔◌, ◌++◌, ℕ, ℤ, Bool, true, false, List, [], ◌∷◌, All, Any, Contains, Some, None, Ok, count_by, length, slice_get, take};
+ghost use Rattle.std.specs.Int.{bit_at};
+ghost use Rattle.crew_terms.specs.declared.Team.{Team};
+ghost use Rattle.crew_terms.specs.declared.Task.{Task};
 ghost use Rattle.crew_terms.specs.Instance.{minutes_between};
 ghost use Rattle.crew_terms.specs.Words.{Words};
 ghost use Rattle.field_table.specs.Fields.{Spells};
 ghost use Rattle.field_table.specs.declared.fields.FieldFault.{FieldFault};
 ghost use Rattle.field_table.specs.declared.fields.Kind.TheVariants.{Number};
 ghost use Rattle.day_terms.specs.declared.Entry.{Entry};
-ghost use Rattle.day_terms.specs.declared.Entry.TheVariants.{Plan, Travel};
+ghost use Rattle.day_terms.specs.declared.Entry.TheVariants.{Cancel, Plan, Sick, Skill, Travel, Unskill};
 ghost use Rattle.day_terms.specs.Forms.{Slot, Maker};
 ghost use Rattle.day_terms.specs.Fields.{AllGive, IsFirstBad, SpellAll};
 ghost use Rattle.day_terms.specs.Days.{ReadsRecord, SayEntries};
-ghost use Rattle.day_terms.specs.State.{State, start, with_time, after_entry, state_after};
-ghost use Rattle.day_terms.specs.Rounds.{Round, first_missing, instance_of, lacks_time, minutes_from, minutes_given, round_at, rounds_from, rounds_of};
+ghost use Rattle.day_terms.specs.State.{State, start, has_place, has_team, has_task, place_number, with_time, with_team, with_task, after_entry, state_after};
+ghost use Rattle.day_terms.specs.Rounds.{first_missing, instance_of, lacks_time, minutes_from, minutes_given, round_at, rounds_from, rounds_of};
 ghost use Rattle.day_terms.specs.Refusal.{Refusal, first_of};
 ghost use Rattle.day_terms.specs.Laws.{HasGood, IsBadAt, IsFirstLack, is_plan};
 
@@ -40,6 +43,70 @@ pub fn good_fields_make_an_entry()
 pub fn first_bad_is_first()
     ensures { (slots : List Slot) (fields : Words) (place : ℕ) (fault : FieldFault)
         → IsFirstBad slots fields place fault ↔ ((n : ℕ) × IsBadAt slots fields place fault n) }
+{}
+
+/// A law: a place is known exactly where its name is among the places; a team, and a task, where one of them has
+/// the name.
+pub fn names_are_known()
+    ensures place { (s : State) (name : List ℕ) → (has_place s name ≡ true) ↔ Contains s.places name }
+    ensures team { (s : State) (name : List ℕ) → (has_team s name ≡ true) ↔ Any (λ t. t.name ≡ name) s.teams }
+    ensures task { (s : State) (name : List ℕ) → (has_task s name ≡ true) ↔ Any (λ t. t.name ≡ name) s.tasks }
+{}
+
+/// A law: a place that is known has the number at which it stands, the first such; one that is not known would
+/// have number 0.
+pub fn places_are_numbered()
+    ensures known { (s : State) (name : List ℕ) → has_place s name ≡ true → slice_get s.places (place_number s name) ≡ Some name }
+    ensures first { (s : State) (name : List ℕ) → All (λ place. place ≢ name) (take (place_number s name) s.places) }
+    ensures unknown { (s : State) (name : List ℕ) → has_place s name ≡ false → place_number s name ≡ 0 }
+{}
+
+/// A law: where the team of a name is changed there are as many teams as before, each at its place: one that has
+/// the name is changed, and one of another name is as before.
+pub fn team_changes_by_name()
+    ensures count { (s : State) (name : List ℕ) (change : Team → Team) → length (with_team s name change).teams ≡ length s.teams }
+    ensures named { (s : State) (name : List ℕ) (change : Team → Team) (k : ℕ) (t : Team) → slice_get s.teams k ≡ Some t → t.name ≡ name
+        → slice_get (with_team s name change).teams k ≡ Some (change t) }
+    ensures others { (s : State) (name : List ℕ) (change : Team → Team) (k : ℕ) (t : Team) → slice_get s.teams k ≡ Some t → t.name ≢ name
+        → slice_get (with_team s name change).teams k ≡ Some t }
+{}
+
+/// A law: where the task of a name is changed there are as many tasks as before, each at its place: one that has
+/// the name is changed, and one of another name is as before.
+pub fn task_changes_by_name()
+    ensures count { (s : State) (name : List ℕ) (change : Task → Task) → length (with_task s name change).tasks ≡ length s.tasks }
+    ensures named { (s : State) (name : List ℕ) (change : Task → Task) (j : ℕ) (t : Task) → slice_get s.tasks j ≡ Some t → t.name ≡ name
+        → slice_get (with_task s name change).tasks j ≡ Some (change t) }
+    ensures others { (s : State) (name : List ℕ) (change : Task → Task) (j : ℕ) (t : Task) → slice_get s.tasks j ≡ Some t → t.name ≢ name
+        → slice_get (with_task s name change).tasks j ≡ Some t }
+{}
+
+/// A law: after an entry that a team is sick, the teams are those that were there and have another name. Where one
+/// team alone has the name, those before and behind it are left, in their order; where none has it, all are left.
+pub fn sick_team_goes()
+    ensures stays { (s : State) (name : List ℕ) (t : Team) → Contains (after_entry s (Sick name)).teams t ↔ (Contains s.teams t × (t.name ≢ name)) }
+    ensures known { (s : State) (front back : List Team) (t : Team) → s.teams ≡ front ++ t ∷ back
+        → All (λ other. other.name ≢ t.name) front → All (λ other. other.name ≢ t.name) back → (after_entry s (Sick t.name)).teams ≡ front ++ back }
+    ensures unknown { (s : State) (name : List ℕ) → All (λ other. other.name ≢ name) s.teams → (after_entry s (Sick name)).teams ≡ s.teams }
+{}
+
+/// A law: after an entry that cancels a task, the tasks are those that were there and have another name. Where one
+/// task alone has the name, those before and behind it are left, in their order; where none has it, all are left.
+pub fn cancelled_task_goes()
+    ensures stays { (s : State) (name : List ℕ) (t : Task) → Contains (after_entry s (Cancel name)).tasks t ↔ (Contains s.tasks t × (t.name ≢ name)) }
+    ensures known { (s : State) (front back : List Task) (t : Task) → s.tasks ≡ front ++ t ∷ back
+        → All (λ other. other.name ≢ t.name) front → All (λ other. other.name ≢ t.name) back → (after_entry s (Cancel t.name)).tasks ≡ front ++ back }
+    ensures unknown { (s : State) (name : List ℕ) → All (λ other. other.name ≢ name) s.tasks → (after_entry s (Cancel name)).tasks ≡ s.tasks }
+{}
+
+/// A law: after an entry of a skill a team of its name has that skill, and those that it had; after an entry that
+/// takes a skill away, those that it had but for that one.
+pub fn one_skill_changes()
+    ensures skill { (s : State) (name : List ℕ) (n k m : ℕ) (before after : Team) → slice_get s.teams k ≡ Some before → before.name ≡ name
+        → slice_get (after_entry s (Skill name n)).teams k ≡ Some after → (bit_at after.skills m ≡ 1) ↔ ((m ≡ n) ⊎ (bit_at before.skills m ≡ 1)) }
+    ensures unskill { (s : State) (name : List ℕ) (n k m : ℕ) (before after : Team) → slice_get s.teams k ≡ Some before → before.name ≡ name
+        → slice_get (after_entry s (Unskill name n)).teams k ≡ Some after → n < 64 → before.skills < 2 ^ 64
+        → (bit_at after.skills m ≡ 1) ↔ ((m ≢ n) × (bit_at before.skills m ≡ 1)) }
 {}
 
 /// A law: where a time is given from one place to another, it is the one that is given between them; between
