@@ -65,12 +65,6 @@ line_front : (ws : Words) → IsFront (join_with_byte 32 ws) (line_text ws)
 line_front ws = record { rest = 10 ∷ []; is = refl }
 
 module _ {A : Type 0} (text : A → List ℕ) (parts : List A) (i : ℕ) (d : A) (below : i < length parts) where
-  so_far : Words
-  so_far = map text (take i parts)
-
-  next : List ℕ
-  next = text (get_or parts i d)
-
   pub joined : join_with_byte 32 (map text (take (i + 1) parts)) ≡ (join_with_byte 32 (map text (take i parts)) ++ gap_after (map text (take i parts))) ++ text (get_or parts i d)
   joined =
       ap (λ ps. join_with_byte 32 (map text ps)) (take_more parts i d below) ∙ ap (join_with_byte 32) (map-append text (take i parts) (get_or parts i d ∷ []))

@@ -15,7 +15,7 @@ pub(crate) fn read_pool<'a>(words: LineWords<'a>) -> Result<LineKind<'a>, LineFa
         return Err(LineFault::Shape);
     }
     fields!(
-        &words, "pool" => kept: Number(0, i64::MAX), routes: Number(0, i64::MAX);
+        &words, kept: Number(0, i64::MAX), routes: Number(0, i64::MAX);
         else fault => LineFault::Number
     );
     Ok(LineKind::Pool { kept, routes })
@@ -33,7 +33,7 @@ pub(crate) fn read_route<'a>(
         return Err(LineFault::Shape);
     }
     let last = teams as i64 - 1;
-    fields!(&words, "route" => team: Number(0, last); else fault => LineFault::Number);
+    fields!(&words, team: Number(0, last); else fault => LineFault::Number);
     let visits = read_visits(words, 2, tasks)?;
     Ok(LineKind::Route {
         team: team as u32,
@@ -49,7 +49,7 @@ pub(crate) fn read_plan<'a>(words: LineWords<'a>, tasks: u32) -> Result<LineKind
         return Err(LineFault::Shape);
     }
     let most = tasks as i64;
-    fields!(&words, "plan" => unassigned: Number(0, most), bound: Number(0, most); else fault => LineFault::Number);
+    fields!(&words, unassigned: Number(0, most), bound: Number(0, most); else fault => LineFault::Number);
     Ok(LineKind::Plan {
         unassigned: unassigned as u32,
         bound: bound as u32,
@@ -68,7 +68,7 @@ pub(crate) fn read_job<'a>(
         return Err(LineFault::Shape);
     }
     let last = tasks as i64 - 1;
-    fields!(&words, "do" => task: Number(0, last), start: MINUTE; else fault => LineFault::Number);
+    fields!(&words, task: Number(0, last), start: MINUTE; else fault => LineFault::Number);
     let teams = read_below(words, 3, teams)?;
     Ok(LineKind::Job {
         task: task as u32,
@@ -85,7 +85,7 @@ pub(crate) fn read_tree<'a>(words: LineWords<'a>) -> Result<LineKind<'a>, LineFa
         return Err(LineFault::Shape);
     }
     fields!(
-        &words, "tree" => splits: Number(0, 100_000), closed: Number(0, 100_000), left_open: Number(0, 100_001), depth: Number(0, 100_000);
+        &words, splits: Number(0, 100_000), closed: Number(0, 100_000), left_open: Number(0, 100_001), depth: Number(0, 100_000);
         else fault => LineFault::Number
     );
     Ok(LineKind::Tree {

@@ -28,7 +28,7 @@ pub(crate) fn read_size<'a>(words: LineWords<'a>) -> Result<LineKind<'a>, LineFa
         return Err(LineFault::Shape);
     }
     fields!(
-        &words, "size" => teams: Number(0, 64), tasks: Number(0, 400), places: Number(0, 200), nodes: Number(0, 100_000);
+        &words, teams: Number(0, 64), tasks: Number(0, 400), places: Number(0, 200), nodes: Number(0, 100_000);
         else fault => LineFault::Number
     );
     Ok(LineKind::Size {

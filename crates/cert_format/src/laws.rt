@@ -30,8 +30,9 @@ pub fn fault_is_refused()
     ensures { (due : Reading) (words : Words) (fault : LineFault) → IsFaultOf (expect_of due) words fault → Says due words (No (reason_for fault)) }
 {}
 
-/// A law: `read_line` reads each line that `write_head` writes as exactly what was written, where that kind of
-/// line is due; and the skills that it reads make the set of the team or the task.
+/// A law: `read_line` reads each line that `write_instance` writes as exactly what was written, where that kind of
+/// line is due; of the line `size` this holds for a node budget of at most 100,000, as a greater one is refused. And
+/// the skills that it reads make the set of the team or the task.
 pub fn instance_is_read_back()
     ensures size { (i : Instance) (budget : ℕ) → IsInstance i → budget ≤ 100000 → IsReadAs expected.Size (size_line (size_of i budget)) (size_kind (size_of i budget)) }
     ensures places { (i : Instance) → IsInstance i → All (λ name. IsReadAs expected.Place (place_line name) (place_kind name)) i.places }

@@ -40,7 +40,7 @@ pub(crate) fn read_worth<'a>(words: LineWords<'a>) -> Result<LineKind<'a>, LineF
     if !has_shape(&words, b"worth", 1) {
         return Err(LineFault::Shape);
     }
-    fields!(&words, "worth" => worth: Number(0, i64::MAX); else fault => LineFault::Number);
+    fields!(&words, worth: Number(0, i64::MAX); else fault => LineFault::Number);
     Ok(LineKind::Worth { worth })
 }
 

@@ -5,7 +5,7 @@ ghost use Rattle.cert_format.specs.Lines.{ReadsLine};
 
 mod body;
 mod head;
-pub mod head_out;
+pub mod instance_out;
 pub mod kinds;
 mod laws;
 mod leaves;
@@ -18,7 +18,7 @@ mod shape;
 mod tests;
 
 use field_table::LineWords;
-pub use head_out::write_head;
+pub use instance_out::write_instance;
 pub use kinds::{Expect, LineFault, LineKind};
 pub use laws::{fault_is_refused, instance_is_read_back, line_has_one_answer};
 pub use lines_out::{Part, put_line};

@@ -26,7 +26,7 @@ fn read_window<'a>(words: LineWords<'a>, tasks: u32) -> Result<LineKind<'a>, Lin
         return Err(LineFault::Shape);
     }
     let last = tasks as i64 - 1;
-    fields!(&words, "window" => task: Number(0, last), cut: MINUTE; else fault => LineFault::Number);
+    fields!(&words, task: Number(0, last), cut: MINUTE; else fault => LineFault::Number);
     Ok(LineKind::Window {
         task: task as u32,
         cut: cut as u32,
@@ -43,7 +43,7 @@ fn read_pair<'a>(words: LineWords<'a>, teams: u32, tasks: u32) -> Result<LineKin
     let last_team = teams as i64 - 1;
     let last_task = tasks as i64 - 1;
     fields!(
-        &words, "pair" => team: Number(0, last_team), task: Number(0, last_task);
+        &words, team: Number(0, last_team), task: Number(0, last_task);
         else fault => LineFault::Number
     );
     Ok(LineKind::Pair {

@@ -1,5 +1,5 @@
 // Tests of lines in and out.
-use crate::{Expect, LineFault, LineKind, Part, put_line, read_line, write_head};
+use crate::{Expect, LineFault, LineKind, Part, put_line, read_line, write_instance};
 use crew_instance::{Builder, Instance};
 use crew_io::sink::{MemSink, WriteFault};
 use crew_terms::{Name, Task, Team};
@@ -248,11 +248,11 @@ fn writes_an_instance(rt: HostRuntime) -> Result<(), Fail> {
     let text =
         b"size 1 1 2 5\nplace BASE\nplace G1\ntravel 0 10\ntravel 15 0\nteam T1 0 360 840 0 63\ntask A 1 420 450 30 2 7\n".as_slice();
     let mut out = MemSink::new(alloc, 200, 3, Vec::new(alloc))?;
-    assert_eq!(rt; write_head(&mut out, &instance, 5), Ok(()));
+    assert_eq!(rt; write_instance(&mut out, &instance, 5), Ok(()));
     assert!(rt; out.got() == text);
     for room in 0..text.len() {
         let mut out = MemSink::new(alloc, room, 3, Vec::new(alloc))?;
-        assert_eq!(rt; write_head(&mut out, &instance, 5), Err(WriteFault));
+        assert_eq!(rt; write_instance(&mut out, &instance, 5), Err(WriteFault));
         assert!(rt; out.got().len() == room && text.starts_with(out.got()));
     }
     Ok(())

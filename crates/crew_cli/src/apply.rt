@@ -11,7 +11,7 @@ ghost use Rattle.crew_cli.specs.declared.run.Command.TheVariants as command;
 
 use crate::refused::{DayFault, put_refused};
 use crate::status::Status;
-use cert_format::write_head;
+use cert_format::write_instance;
 use crew_instance::Instance;
 use crew_io::sink::{Sink, WriteFault};
 use crew_io::source::Source;
@@ -60,7 +60,7 @@ fn put_round<K: Sink>(instance: &Instance, nodes: u32, out: &mut K) -> Applied
     ensures later { K.faults out.old ≤ K.faults out.new }
     ensures steady { K.steady out.old → K.steady out.new × (result ≡ Applied.WriteFault → K.full out.new) }
 {
-    match write_head(out, instance, nodes) {
+    match write_instance(out, instance, nodes) {
         Ok(()) => Applied::Taken,
         Err(WriteFault) => Applied::WriteFault,
     }

@@ -66,7 +66,7 @@ fn read_place(words: &RecordWords<'_>) -> Result<Entry, FieldFault>
     requires { length words.now ≡ 2 }
     ensures { ReadsFields place_form words.now result }
 {
-    fields!(words, "place" => _name: NAME; else fault => fault);
+    fields!(words, _name: NAME; else fault => fault);
     Ok(Entry::Place {
         name: name_at(words, 1),
     })
@@ -76,7 +76,7 @@ fn read_travel(words: &RecordWords<'_>) -> Result<Entry, FieldFault>
     requires { length words.now ≡ 4 }
     ensures { ReadsFields travel_form words.now result }
 {
-    fields!(words, "travel" => _from: NAME, _to: NAME, minutes: MINUTES; else fault => fault);
+    fields!(words, _from: NAME, _to: NAME, minutes: MINUTES; else fault => fault);
     Ok(Entry::Travel {
         from: name_at(words, 1),
         to: name_at(words, 2),
@@ -88,7 +88,7 @@ fn read_route_time(words: &RecordWords<'_>) -> Result<Entry, FieldFault>
     requires { length words.now ≡ 4 }
     ensures { ReadsFields route_time_form words.now result }
 {
-    fields!(words, "route_time" => _from: NAME, _to: NAME, minutes: MINUTES; else fault => fault);
+    fields!(words, _from: NAME, _to: NAME, minutes: MINUTES; else fault => fault);
     Ok(Entry::RouteTime {
         from: name_at(words, 1),
         to: name_at(words, 2),
@@ -100,7 +100,7 @@ fn read_default_travel(words: &RecordWords<'_>) -> Result<Entry, FieldFault>
     requires { length words.now ≡ 2 }
     ensures { ReadsFields default_travel_form words.now result }
 {
-    fields!(words, "default_travel" => minutes: MINUTES; else fault => fault);
+    fields!(words, minutes: MINUTES; else fault => fault);
     Ok(Entry::DefaultTravel {
         minutes: minutes as u32,
     })
@@ -110,7 +110,7 @@ fn read_team(words: &RecordWords<'_>) -> Result<Entry, FieldFault>
     requires { length words.now ≡ 6 }
     ensures { ReadsFields team_form words.now result }
 {
-    fields!(words, "team" => _name: NAME, _home: NAME, from: TIME, until: TIME; else fault => fault);
+    fields!(words, _name: NAME, _home: NAME, from: TIME, until: TIME; else fault => fault);
     let skills = read_skills(words, 5)?;
     Ok(Entry::Team {
         name: name_at(words, 1),
@@ -125,7 +125,7 @@ fn read_task(words: &RecordWords<'_>) -> Result<Entry, FieldFault>
     requires { length words.now ≡ 8 }
     ensures { ReadsFields task_form words.now result }
 {
-    fields!(words, "task" => _name: NAME, _place: NAME, earliest: TIME, latest: TIME, minutes: DURATION, teams: COUNT; else fault => fault);
+    fields!(words, _name: NAME, _place: NAME, earliest: TIME, latest: TIME, minutes: DURATION, teams: COUNT; else fault => fault);
     let skills = read_skills(words, 7)?;
     Ok(Entry::Task {
         name: name_at(words, 1),
@@ -142,7 +142,7 @@ fn read_cancel(words: &RecordWords<'_>) -> Result<Entry, FieldFault>
     requires { length words.now ≡ 2 }
     ensures { ReadsFields cancel_form words.now result }
 {
-    fields!(words, "cancel" => _task: NAME; else fault => fault);
+    fields!(words, _task: NAME; else fault => fault);
     Ok(Entry::Cancel {
         task: name_at(words, 1),
     })
@@ -152,7 +152,7 @@ fn read_move(words: &RecordWords<'_>) -> Result<Entry, FieldFault>
     requires { length words.now ≡ 4 }
     ensures { ReadsFields move_form words.now result }
 {
-    fields!(words, "move" => _task: NAME, earliest: TIME, latest: TIME; else fault => fault);
+    fields!(words, _task: NAME, earliest: TIME, latest: TIME; else fault => fault);
     Ok(Entry::Move {
         task: name_at(words, 1),
         earliest: earliest as u32,
@@ -164,7 +164,7 @@ fn read_longer(words: &RecordWords<'_>) -> Result<Entry, FieldFault>
     requires { length words.now ≡ 3 }
     ensures { ReadsFields longer_form words.now result }
 {
-    fields!(words, "longer" => _task: NAME, minutes: DURATION; else fault => fault);
+    fields!(words, _task: NAME, minutes: DURATION; else fault => fault);
     Ok(Entry::Longer {
         task: name_at(words, 1),
         minutes: minutes as u32,
@@ -175,7 +175,7 @@ fn read_needs(words: &RecordWords<'_>) -> Result<Entry, FieldFault>
     requires { length words.now ≡ 3 }
     ensures { ReadsFields needs_form words.now result }
 {
-    fields!(words, "needs" => _task: NAME, teams: COUNT; else fault => fault);
+    fields!(words, _task: NAME, teams: COUNT; else fault => fault);
     Ok(Entry::Needs {
         task: name_at(words, 1),
         teams: teams as u32,
@@ -186,7 +186,7 @@ fn read_sick(words: &RecordWords<'_>) -> Result<Entry, FieldFault>
     requires { length words.now ≡ 2 }
     ensures { ReadsFields sick_form words.now result }
 {
-    fields!(words, "sick" => _team: NAME; else fault => fault);
+    fields!(words, _team: NAME; else fault => fault);
     Ok(Entry::Sick {
         team: name_at(words, 1),
     })
@@ -196,7 +196,7 @@ fn read_shift(words: &RecordWords<'_>) -> Result<Entry, FieldFault>
     requires { length words.now ≡ 4 }
     ensures { ReadsFields shift_form words.now result }
 {
-    fields!(words, "shift" => _team: NAME, from: TIME, until: TIME; else fault => fault);
+    fields!(words, _team: NAME, from: TIME, until: TIME; else fault => fault);
     Ok(Entry::Shift {
         team: name_at(words, 1),
         from: from as u32,
@@ -208,7 +208,7 @@ fn read_skill(words: &RecordWords<'_>) -> Result<Entry, FieldFault>
     requires { length words.now ≡ 3 }
     ensures { ReadsFields skill_form words.now result }
 {
-    fields!(words, "skill" => _team: NAME, skill: SKILL; else fault => fault);
+    fields!(words, _team: NAME, skill: SKILL; else fault => fault);
     Ok(Entry::Skill {
         team: name_at(words, 1),
         skill: skill as u32,
@@ -219,7 +219,7 @@ fn read_unskill(words: &RecordWords<'_>) -> Result<Entry, FieldFault>
     requires { length words.now ≡ 3 }
     ensures { ReadsFields unskill_form words.now result }
 {
-    fields!(words, "unskill" => _team: NAME, skill: SKILL; else fault => fault);
+    fields!(words, _team: NAME, skill: SKILL; else fault => fault);
     Ok(Entry::Unskill {
         team: name_at(words, 1),
         skill: skill as u32,
@@ -230,7 +230,7 @@ fn read_plan(words: &RecordWords<'_>) -> Result<Entry, FieldFault>
     requires { length words.now ≡ 2 }
     ensures { ReadsFields plan_form words.now result }
 {
-    fields!(words, "plan" => nodes: NODES; else fault => fault);
+    fields!(words, nodes: NODES; else fault => fault);
     Ok(Entry::Plan {
         nodes: nodes as u32,
     })

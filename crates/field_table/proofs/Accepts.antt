@@ -1,5 +1,5 @@
 -- one more word of a row is accepted
-use Rattle.std.proofs.Common.{◌≡◌, ◌<◌, ◌+◌, [], ◌∷◌, ℕ, zero, suc, ℤ, List, length, take, get_or, set, subst, arith, Some, slice_get}
+use Rattle.std.proofs.Common.{◌≡◌, ◌<◌, ◌+◌, [], ◌∷◌, ℕ, zero, suc, ℤ, List, length, take, get_or, set, subst, arith}
 use Rattle.crew_terms.specs.Words.{Words}
 use Rattle.field_table.specs.Fields.{Accepts, AllAccept}
 use Rattle.field_table.specs.declared.fields.Field.{Field}
@@ -21,8 +21,3 @@ pub accept_more : (fields : List Field) (words : Words) (values : List ℤ) (i :
 accept_more fields words values i d z a b c all here =
     let e : suc i ≡ i + 1 = omega arith in
     subst (λ n. AllAccept (take n fields) (take n words) (take n (set values i z))) e (accept_next fields words values i d z a b c all here)
-
-pub word_at : (words : Words) (n : ℕ) (word : List ℕ) → slice_get words n ≡ Some word → get_or words n [] ≡ word
-word_at [] n word h = cc
-word_at (w ∷ ws) zero word h = cc
-word_at (w ∷ ws) (suc n) word h = word_at ws n word h

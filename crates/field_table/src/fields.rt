@@ -44,10 +44,10 @@ pub struct FieldFault {
     pub cause: Cause,
 }
 
-/// A first word, and the fields of the words that follow it.
+/// The fields of the words after the first. The first word tells which row a line has: the caller looks at it, and
+/// `read` does not.
 #[derive(Clone, Copy)]
 pub struct Row<const N: usize> {
-    pub key: &'static str,
     pub fields: [Field; N],
 }
 
@@ -143,29 +143,28 @@ impl Schema {
     }
 }
 
-/// Reads the words after the first by a row of fields, and gives each number its field's name. With a `MINUTE` that
-/// is a constant field, `fields!(&words, "do" => task: Number(0, last), start: MINUTE)` makes the variables `task` and
-/// `start`, both `i64`. A fault is returned from the function by `?`, or, after `; else fault =>`, as the error that is
-/// written there.
+/// Reads the words after the first by a row of fields, and gives each number its field's name. It does not look at the
+/// first word. With a `MINUTE` that is a constant field, `fields!(&words, task: Number(0, last), start: MINUTE)` makes
+/// the variables `task` and `start`, both `i64`. A fault is returned from the function by `?`, or, after
+/// `; else fault =>`, as the error that is written there.
 #[macro_export]
 macro_rules! fields {
-    ($words:expr, $key:literal => $($name:ident: $kind:ident $(($low:expr, $high:expr))?),+ $(,)?) => {
-        let [$($name),+] = $crate::row!($key => $($kind $(($low, $high))?),+).read($words)?;
+    ($words:expr, $($name:ident: $kind:ident $(($low:expr, $high:expr))?),+ $(,)?) => {
+        let [$($name),+] = $crate::row!($($kind $(($low, $high))?),+).read($words)?;
     };
-    ($words:expr, $key:literal => $($name:ident: $kind:ident $(($low:expr, $high:expr))?),+ $(,)?; else $fault:ident => $answer:expr) => {
-        let [$($name),+] = match $crate::row!($key => $($kind $(($low, $high))?),+).read($words) {
+    ($words:expr, $($name:ident: $kind:ident $(($low:expr, $high:expr))?),+ $(,)?; else $fault:ident => $answer:expr) => {
+        let [$($name),+] = match $crate::row!($($kind $(($low, $high))?),+).read($words) {
             Ok(values) => values,
             Err($fault) => return Err($answer),
         };
     };
 }
 
-/// A row: `row!("do" => Number(0, last), MINUTE)`.
+/// A row: `row!(Number(0, last), MINUTE)`.
 #[macro_export]
 macro_rules! row {
-    ($key:literal => $($kind:ident $(($low:expr, $high:expr))?),+ $(,)?) => {
+    ($($kind:ident $(($low:expr, $high:expr))?),+ $(,)?) => {
         $crate::Row {
-            key: $key,
             fields: [$($crate::field!($kind $(($low, $high))?)),+],
         }
     };

@@ -202,7 +202,6 @@ const LEVEL: Field = Field {
 };
 
 const TRIP: Row<3> = Row {
-    key: "trip",
     fields: [NAME, MINUTE, LEVEL],
 };
 
@@ -275,12 +274,12 @@ fn reads_a_word_alone(rt: HostRuntime) -> Result<(), Fail> {
 }
 
 fn task_and_start(words: &impl Words, past: i64) -> Result<(i64, i64), FieldFault> {
-    fields!(words, "do" => task: Number(0, if past > i64::MIN { past - 1 } else { past }), start: MINUTE);
+    fields!(words, task: Number(0, if past > i64::MIN { past - 1 } else { past }), start: MINUTE);
     Ok((task, start))
 }
 
 fn start_or_place(words: &impl Words) -> Result<i64, usize> {
-    fields!(words, "do" => task: Number(0, 4), start: MINUTE; else fault => fault.place);
+    fields!(words, task: Number(0, 4), start: MINUTE; else fault => fault.place);
     Ok(task + start)
 }
 

@@ -2,7 +2,7 @@ use Rattle.std.proofs.Common.{◌≡◌, take}
 use Rattle.crew_io.specs.Io.{Appended}
 use Rattle.dossier_terms.specs.Lines.{travel_line}
 use Rattle.cert_format.proofs.Heads.{text_of_lines}
-use Rattle.cert_format.proofs.head_out.put_travels.Given as goal
+use Rattle.cert_format.proofs.instance_out.put_travels.Given as goal
 
 abbrev pub invariant-loop-a : goal.invariant-loop-a
 invariant-loop-a g l = record {

@@ -3,7 +3,7 @@ use Rattle.std.specs.Fmt.{decimal}
 use Rattle.arrayvec.specs.ArrayVec.{array_vec_len}
 use Rattle.cert_format.specs.Parts.{text_of}
 use Rattle.cert_format.proofs.Heads.{skills_below}
-use Rattle.cert_format.proofs.head_out.push_skills.Given as goal
+use Rattle.cert_format.proofs.instance_out.push_skills.Given as goal
 
 abbrev pub invariant-loop-s : goal.invariant-loop-s
 invariant-loop-s l = record {

@@ -3,7 +3,7 @@ use Rattle.std.specs.Prelude.{codes, slice_index_or}
 use Rattle.std.specs.Fmt.{decimal}
 use Rattle.arrayvec.specs.ArrayVec.{array_vec_len}
 use Rattle.cert_format.specs.Parts.{text_of}
-use Rattle.cert_format.proofs.head_out.put_travel.Given as goal
+use Rattle.cert_format.proofs.instance_out.put_travel.Given as goal
 
 abbrev pub invariant-loop-b : goal.invariant-loop-b
 invariant-loop-b g l = record {

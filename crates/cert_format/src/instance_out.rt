@@ -169,7 +169,11 @@ fn put_tasks<K: Sink>(out: &mut K, instance: &Instance) -> Result<(), WriteFault
 
 /// Writes the lines of an instance, from `size` with its node budget to the last `task`; it takes no memory.
 /// After a fault, a front of them was written.
-pub fn write_head<K: Sink>(out: &mut K, instance: &Instance, nodes: u32) -> Result<(), WriteFault>
+pub fn write_instance<K: Sink>(
+    out: &mut K,
+    instance: &Instance,
+    nodes: u32,
+) -> Result<(), WriteFault>
     ensures all { OnOk result (Appended (K.got out.old) (K.got out.new) (instance_text instance.now nodes)) }
     ensures part { OnErr result (AppendedPart (K.got out.old) (K.got out.new) (instance_text instance.now nodes)) }
     ensures later { K.faults out.old ≤ K.faults out.new }

@@ -4,8 +4,8 @@ use Rattle.std.proofs.lemmas.Nat.Bits.{shr_and_one}
 use Rattle.arrayvec.specs.ArrayVec.{array_vec_len}
 use Rattle.cert_format.specs.Parts.{text_of}
 use Rattle.cert_format.proofs.Heads.{skills_below, skill_not, skill_pushed}
-use Rattle.cert_format.proofs.head_out.push_skills.Goals as goal
-use Rattle.cert_format.proofs.head_out.push_skills.Goals.{then-skills-s-eq1, else-skills-s-eq1}
+use Rattle.cert_format.proofs.instance_out.push_skills.Goals as goal
+use Rattle.cert_format.proofs.instance_out.push_skills.Goals.{then-skills-s-eq1, else-skills-s-eq1}
 
 pub loop-s-preserved : goal.loop-s-preserved
 loop-s-preserved c =

@@ -2,7 +2,7 @@ use Rattle.std.proofs.Common.{◌<◌, length, ap, ◌∙◌, arith}
 use Rattle.dossier_terms.specs.Lines.{task_line}
 use Rattle.cert_format.proofs.Fronts.{on_err}
 use Rattle.cert_format.proofs.Heads.{line_written, line_part}
-use Rattle.cert_format.proofs.head_out.put_tasks.Goals as goal
+use Rattle.cert_format.proofs.instance_out.put_tasks.Goals as goal
 
 pub returns-in_err-put_task-clause-part : goal.returns-in_err-put_task-clause-part
 returns-in_err-put_task-clause-part g c =

@@ -1,6 +1,6 @@
 use Rattle.std.proofs.Common.{◌<◌, length, arith}
 use Rattle.cert_format.proofs.Heads.{time_pushed}
-use Rattle.cert_format.proofs.head_out.put_travel.Goals as goal
+use Rattle.cert_format.proofs.instance_out.put_travel.Goals as goal
 
 pub loop-b-preserved : goal.loop-b-preserved
 loop-b-preserved g c =

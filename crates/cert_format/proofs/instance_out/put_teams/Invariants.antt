@@ -2,7 +2,7 @@ use Rattle.std.proofs.Common.{◌≡◌, take}
 use Rattle.crew_io.specs.Io.{Appended}
 use Rattle.dossier_terms.specs.Lines.{team_line}
 use Rattle.cert_format.proofs.Heads.{text_of_lines}
-use Rattle.cert_format.proofs.head_out.put_teams.Given as goal
+use Rattle.cert_format.proofs.instance_out.put_teams.Given as goal
 
 abbrev pub invariant-loop-k : goal.invariant-loop-k
 invariant-loop-k g l = record {

@@ -4,7 +4,7 @@ use Rattle.crew_io.specs.Io.{Appended, AppendedPart}
 use Rattle.dossier_terms.specs.Lines.{instance_text, place_line, travel_line, team_line, task_line}
 use Rattle.cert_format.proofs.Fronts.{on_err, appended_both, part_after}
 use Rattle.cert_format.proofs.Heads.{size_text, text_of_lines, instance_parts, part_first, part_next}
-use Rattle.cert_format.proofs.head_out.write_head.Goals as goal
+use Rattle.cert_format.proofs.instance_out.write_instance.Goals as goal
 
 pub returns-in_err-put_size-clause-part : goal.returns-in_err-put_size-clause-part
 returns-in_err-put_size-clause-part g c =
