@@ -16,14 +16,14 @@ use Rattle.dossier_terms.specs.Table.{IsCounts, HasRoom, Says, node_row, after_b
 use Rattle.node_limits.specs.Trail.{Trail}
 use Rattle.node_limits.specs.Rest.{Rest, IsRestOver, trail_over}
 use Rattle.tree_walk.specs.Splits.{IsCut, IsFreePair}
-use Rattle.tree_walk.specs.Way.{Walked, IsAt, IsLeaf, LeavesLeaf, Enters, counts_of, split_of}
+use Rattle.tree_walk.specs.Way.{Walked, IsAt, IsSomewhere, IsLeaf, LeavesLeaf, Enters, counts_of, split_of}
 use Rattle.tree_walk.specs.declared.walk.TreeCounts.{TreeCounts}
 use Rattle.cert_format.specs.Expected.{expect_of}
 use Rattle.cert_format.specs.Lines.{IsFaultOf}
 use Rattle.cert_format.specs.declared.kinds.Expect.TheVariants as expected
 use Rattle.cert_format.specs.declared.kinds.LineFault.{LineFault}
 use Rattle.leaf_check.specs.declared.reader.LeafReader.{LeafReader}
-use Rattle.cert_checker.specs.Due.{Awaits, HasLeafRoom, HasSplitRoom, IsNode, IsReaderFor, IsStep, Tells, draft_of}
+use Rattle.cert_checker.specs.Due.{Awaits, HasLeafRoom, HasSplitRoom, IsInTree, IsNode, IsReaderFor, IsStep, Tells, draft_of}
 use Rattle.cert_checker.specs.declared.due.Draft.{Draft as Held}
 use Rattle.cert_checker.specs.declared.due.TreeDraft.{TreeDraft}
 use Rattle.cert_checker.specs.declared.due.Due.TheVariants.{Node as NodeDue, End as EndDue}
@@ -58,6 +58,13 @@ pub taken_woke : (tree held : TreeDraft) (draft : Held) (taken : Rest) (t : Trai
     → t ≡ trail_over draft.base.instance taken → t ≡ trail_over tree.draft.value.base.instance tree.draft.value.limits
 taken_woke tree held draft taken t e f took woke =
     woke ∙ ap (trail_over draft.base.instance) took ∙ ap (λ (d : Held). trail_over d.base.instance d.limits) (f ∙ ap (λ (x : TreeDraft). x.draft.value) e)
+
+-- the walk that was taken out of its box stands at a node, by the limits that woke
+pub somewhere : (tree held : TreeDraft) (t : Trail) → held ≡ tree → t ≡ trail_over tree.draft.value.base.instance tree.draft.value.limits → IsInTree tree → IsSomewhere t held.walk
+somewhere tree held t same woke (above, node) =
+    let root = root_limits tree.draft.value.base.instance in
+    let at : IsAt root t tree.walk above = subst (λ x. IsAt root x tree.walk above) (sym woke) node.at in
+    (root, above, subst (λ (x : TreeDraft). IsAt root t x.walk above) (sym same) at)
 
 -- a node of the tree is due, and this is the state of the table
 abbrev pub IsDueAt : TreeDraft → Option (Box LeafReader) → Reading → Type 0

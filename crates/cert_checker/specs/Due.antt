@@ -3,7 +3,7 @@ use Rattle.std.specs.Prelude.{◌≡◌, ◌<◌, List, [], Bool, Option, IfSome
 use Rattle.std.specs.Global.{Box}
 use Rattle.crew_terms.specs.Words.{Words}
 use Rattle.crew_terms.specs.Instance.{Instance}
-use Rattle.crew_terms.specs.Limits.{Limits as Bounds, root_limits}
+use Rattle.crew_terms.specs.Limits.{Limits as NodeLimits, root_limits}
 use Rattle.crew_terms.specs.Verdict.{IsPlanOf}
 use Rattle.dossier_terms.specs.Dossier.{Dossier, Written}
 use Rattle.dossier_terms.specs.Reading.{Reading, Said, More as Goes, Whole as Ends, No as Refuses, Draft as Read, Frame, Place, whole, limits_of, Pools, Routes, Plans, Jobs, Trees, Nodes, Ends as EndDue}
@@ -47,7 +47,7 @@ IsInTree tree = (above : List Frame) × IsNode tree above
 
 -- a reader that is there has room for the leaves of the instance
 abbrev pub IsReaderFor : Instance → Option (Box LeafReader) → Type 0
-IsReaderFor i reader = IfSome reader (λ r. (n : Bounds) × (n.instance ≡ i) × IsReady n r.value)
+IsReaderFor i reader = IfSome reader (λ r. (n : NodeLimits) × (n.instance ≡ i) × IsReady n r.value)
 
 -- the numbers that are claimed have room for one more split of the node, and for one more leaf of a kind
 pub record HasSplitRoom (tree : TreeDraft) : Type 0 where

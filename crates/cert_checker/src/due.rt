@@ -11,67 +11,86 @@ use tree_walk::{TreeCounts, Walk};
 /// A dossier without its tree. The routes of the pool and the jobs of the plan may not all be read yet.
 #[derive(Drop)]
 pub struct Draft {
+    /// The instance and the node budget.
     pub base: Base,
     /// How many routes of the pool come from the round before.
     pub kept: u64,
     /// The limits of the node that is due; before the tree is read, those of its root.
     pub limits: Held,
+    /// The routes that are read so far.
     pub pool: Pool,
+    /// The plan, with the jobs that are read so far.
     pub plan: Plan,
+    /// The bound of the line `plan`; 0 before that line.
     pub bound: u32,
 }
 
 /// A dossier whose tree is being read.
 #[derive(Drop)]
 pub struct TreeDraft {
+    /// All that came before the line `tree`.
     pub draft: Box<Draft>,
     /// The numbers of the line `tree`.
     pub claimed: TreeCounts,
+    /// The way to the node that is due, and the numbers of what came before it.
     pub walk: Walk,
 }
 
 /// A whole dossier: all but its tree, of which it has the numbers.
 #[derive(Drop)]
 pub struct Ended {
+    /// All that came before the line `tree`.
     pub draft: Box<Draft>,
+    /// The numbers of the tree.
     pub counts: TreeCounts,
 }
 
 /// The line that is due, with what was read; `more` lines of its kind come after it.
 #[derive(Drop)]
 pub enum Due {
+    /// A line of the head.
     Head(HeadDue),
+    /// The line `pool`.
     Pool {
         base: Box<Base>,
     },
+    /// A line `route`.
     Route {
         draft: Box<Draft>,
         more: u64,
     },
+    /// The line `plan`.
     Plan {
         draft: Box<Draft>,
     },
+    /// A line `do`.
     Job {
         draft: Box<Draft>,
         more: u32,
         /// The least task that the line may be of: the one after that of the line before.
         from: u32,
     },
+    /// The line `tree`.
     Tree {
         draft: Box<Draft>,
     },
+    /// The line of a node: `window`, `pair` or `leaf`.
     Node {
         tree: Box<TreeDraft>,
         /// What read the leaves with prices so far; none before the first one.
         reader: Option<Box<LeafReader>>,
     },
+    /// A line of a leaf that has prices: `price`, `extra`, `worth` or `phi`.
     Leaf {
         tree: Box<TreeDraft>,
         reader: Box<LeafReader>,
+        /// Whether the leaf began with the line `leaf closed`.
         is_closed: bool,
     },
+    /// The line `end`.
     End {
         tree: Box<TreeDraft>,
+        /// The numbers of the tree that was read.
         seen: TreeCounts,
     },
 }

@@ -4,7 +4,7 @@
 pub mod checker;
 mod due;
 mod judge;
-mod laws;
+pub mod laws;
 mod leaf;
 mod node;
 mod plan;

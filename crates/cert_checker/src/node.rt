@@ -17,7 +17,7 @@ use field_table::LineWords;
 use leaf_check::LeafReader;
 use node_limits::Limits;
 use std::alloc::{AllocError, Global};
-use tree_walk::is_inside;
+use tree_walk::is_cut;
 
 /// Whether the numbers that are claimed have room for a split of the node that is due.
 fn has_split_room(tree: &TreeDraft) -> bool
@@ -81,7 +81,7 @@ fn window_line(
     let held = &mut *tree;
     let draft = &mut *held.draft;
     let mut limits = Limits::wake(&draft.base.instance, draft.limits.take(alloc));
-    if !is_inside(&limits, task, cut) {
+    if !is_cut(&limits, task, cut) {
         return Ok(Step::No(Reason::Cut));
     }
     held.walk.enter_window(&mut limits, task, cut)?;

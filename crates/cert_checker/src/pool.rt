@@ -1,5 +1,5 @@
 // The lines of a pool: `pool`, and each `route`.
-ghost use Rattle.std.specs.Prelude.{◌≡◌, ◌<◌, ℕ, pos, IfOk};
+ghost use Rattle.std.specs.Prelude.{◌≡◌, ℕ, pos, IfOk};
 ghost use Rattle.dossier_terms.specs.Reading.{routes_due};
 ghost use Rattle.dossier_terms.specs.Table.{draft};
 ghost use Rattle.cert_checker.specs.Due.{Awaits, IsAwaited, IsBegun, IsStep, draft_of};

@@ -7,5 +7,5 @@ mod tests;
 mod walk;
 
 pub use node_limits::Limits;
-pub use split::{Split, is_inside};
+pub use split::{Split, is_cut};
 pub use walk::{TreeCounts, Walk};

@@ -21,7 +21,7 @@ pub enum Split {
 }
 
 /// Whether the window of the task can be split at the minute: it begins at the minute or before it, and ends after it.
-pub fn is_inside(limits: &Limits<'_>, task: u32, cut: u32) -> bool
+pub fn is_cut(limits: &Limits<'_>, task: u32, cut: u32) -> bool
     requires { task < tasks_in limits.now.limits }
     ensures { IsTrue result ↔ IsCut limits.now.limits task cut }
 {
@@ -30,7 +30,7 @@ pub fn is_inside(limits: &Limits<'_>, task: u32, cut: u32) -> bool
 }
 
 /// The same split with its second child; None where the split is in it already.
-pub fn second(split: Split) -> Option<Split>
+pub(crate) fn second(split: Split) -> Option<Split>
     ensures { result ≡ second_of split }
 {
     match split {
@@ -41,7 +41,7 @@ pub fn second(split: Split) -> Option<Split>
 }
 
 /// Changes the limits of a node to those of the child that the split is in.
-pub fn narrow(limits: &mut Limits<'_>, split: Split)
+pub(crate) fn narrow(limits: &mut Limits<'_>, split: Split)
     requires split { IsSplitOf limits.old.limits split }
     requires spare { 1 ≤ limits.old.spare }
     ensures { limits.new ≡ changed limits.old (limits_in limits.old.limits split) }

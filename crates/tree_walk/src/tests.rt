@@ -2,7 +2,7 @@
 ghost use Rattle.std.specs.Prelude.{◌≡◌, ◌≤◌, false, IfOk, OnOk};
 ghost use Rattle.tree_walk.specs.Way.{IsSomewhere};
 
-use crate::{Limits, TreeCounts, Walk, is_inside};
+use crate::{Limits, TreeCounts, Walk, is_cut};
 use crew_instance::{Builder, Instance, Name, Task, Team};
 use crew_terms::Pair;
 use std::alloc::Global;
@@ -59,7 +59,7 @@ fn split_window(walk: &mut Walk, limits: &mut Limits<'_>, task: u32, cut: u32) -
     requires { IsSomewhere limits.old walk.old }
     ensures { OnOk result (IsSomewhere limits.new walk.new) }
 {
-    if task as usize >= limits.instance().tasks() || !is_inside(limits, task, cut) {
+    if task as usize >= limits.instance().tasks() || !is_cut(limits, task, cut) {
         return Err("cut")?;
     }
     if walk.seen().splits > 100000 {
@@ -135,10 +135,10 @@ fn tells_where_a_window_can_be_split(rt: HostRuntime) -> Result<(), Fail> {
     assert!(rt; limits.instance().tasks() == 2);
     assert_eq!(rt;
         [
-            is_inside(&limits, 0, 419),
-            is_inside(&limits, 0, 420),
-            is_inside(&limits, 0, 1139),
-            is_inside(&limits, 0, 1140)
+            is_cut(&limits, 0, 419),
+            is_cut(&limits, 0, 420),
+            is_cut(&limits, 0, 1139),
+            is_cut(&limits, 0, 1140)
         ],
         [false, true, true, false]
     );

@@ -73,14 +73,15 @@ impl Walk {
         self.above.len()
     }
 
-    /// Splits the window of the task at the minute, and goes into the child that begins it by then. An `Err` changes
-    /// nothing.
+    /// Splits the node that is due by the window of the task, at the minute, and goes into the child that begins the task
+    /// by then. An `Err` changes nothing.
     pub fn enter_window(
         &mut self,
         limits: &mut Limits<'_>,
         task: u32,
         cut: u32,
     ) -> Result<(), AllocError>
+        requires somewhere { IsSomewhere limits.old self.old }
         requires split { IsCut limits.old.limits task cut }
         requires room { self.old.seen.splits + 1 < 2 ^ 32 }
         ensures ok { OnOk result (Enters (Lower task cut) limits.old self.old limits.new self.new) }
@@ -92,13 +93,15 @@ impl Walk {
         Ok(())
     }
 
-    /// Splits by whether the team does the task, and goes into the child where it doesn't. An `Err` changes nothing.
+    /// Splits the node that is due by whether the team does the task, and goes into the child where it doesn't. An `Err`
+    /// changes nothing.
     pub fn enter_pair(
         &mut self,
         limits: &mut Limits<'_>,
         team: u32,
         task: u32,
     ) -> Result<(), AllocError>
+        requires somewhere { IsSomewhere limits.old self.old }
         requires split { IsFreePair limits.old.limits team task }
         requires room { self.old.seen.splits + 1 < 2 ^ 32 }
         ensures ok { OnOk result (Enters (Without team task) limits.old self.old limits.new self.new) }

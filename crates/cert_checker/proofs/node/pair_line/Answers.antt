@@ -6,7 +6,7 @@ use Rattle.dossier_terms.specs.Reading.{Without, Nodes}
 use Rattle.tree_walk.specs.Way.{Enters, counts_of}
 use Rattle.cert_checker.specs.Due.{HasSplitRoom, draft_of}
 use Rattle.cert_checker.specs.declared.due.TreeDraft.{TreeDraft}
-use Rattle.cert_checker.proofs.NodeRows.{entered_at, limits_at, taken_woke, written_back, room_above, room_at, pair_no_room, pair_not_free, pair_more}
+use Rattle.cert_checker.proofs.NodeRows.{entered_at, limits_at, somewhere, taken_woke, written_back, room_above, room_at, pair_no_room, pair_not_free, pair_more}
 use Rattle.cert_checker.proofs.node.pair_line.Goals as goal
 
 pub returns-then-not-has_split_room : goal.returns-then-not-has_split_room
@@ -23,6 +23,12 @@ returns-then-not-is_free c = λ fs node.
     pair_not_free (draft_of tree.draft.value) (counts_of tree.claimed) fs c.args.team c.args.task n (limits_at tree c.wake-limits.result fs woke node)
     (room_at tree fs node (subst HasSplitRoom c.deref.ensures (c.has_split_room.ensures.0 c.if-not-has_split_room.false))) c.requires.team c.requires.task
     (λ is. both_ways c.is_free.result c.if-not-is_free.true (c.is_free.ensures.1 is))
+
+pub enter_pair-requires-clause-somewhere : goal.enter_pair-requires-clause-somewhere
+enter_pair-requires-clause-somewhere c =
+    let tree = c.args.tree.value in
+    let woke = taken_woke tree c.deref_mut-held.result.now c.deref_mut-draft.result.now c.take.result c.wake-limits.result c.deref_mut-held.ensures.value c.deref_mut-draft.ensures.value c.take.ensures.taken c.wake-limits.ensures in
+    somewhere tree c.deref_mut-held.result.now c.wake-limits.result c.deref_mut-held.ensures.value woke c.requires.node
 
 pub returns : goal.returns
 returns c = λ fs node.

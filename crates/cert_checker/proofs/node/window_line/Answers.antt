@@ -6,7 +6,7 @@ use Rattle.dossier_terms.specs.Reading.{Lower, Nodes}
 use Rattle.tree_walk.specs.Way.{Enters, counts_of}
 use Rattle.cert_checker.specs.Due.{HasSplitRoom, draft_of}
 use Rattle.cert_checker.specs.declared.due.TreeDraft.{TreeDraft}
-use Rattle.cert_checker.proofs.NodeRows.{entered_at, limits_at, taken_woke, written_back, room_above, room_at, window_no_room, window_no_cut, window_more}
+use Rattle.cert_checker.proofs.NodeRows.{entered_at, limits_at, somewhere, taken_woke, written_back, room_above, room_at, window_no_room, window_no_cut, window_more}
 use Rattle.cert_checker.proofs.node.window_line.Goals as goal
 
 pub returns-then-not-has_split_room : goal.returns-then-not-has_split_room
@@ -15,14 +15,20 @@ returns-then-not-has_split_room c = λ fs node.
     window_no_room (draft_of tree.draft.value) (counts_of tree.claimed) fs c.args.task c.args.cut
     (λ room. both_ways c.has_split_room.result c.if-not-has_split_room.true (c.has_split_room.ensures.1 (subst HasSplitRoom (sym c.deref.ensures) (room_above tree fs node room))))
 
-pub returns-then-not-is_inside : goal.returns-then-not-is_inside
-returns-then-not-is_inside c = λ fs node.
+pub returns-then-not-is_cut : goal.returns-then-not-is_cut
+returns-then-not-is_cut c = λ fs node.
     let tree = c.args.tree.value in
     let woke = taken_woke tree c.deref_mut-held.result.now c.deref_mut-draft.result.now c.take.result c.wake-limits.result c.deref_mut-held.ensures.value c.deref_mut-draft.ensures.value c.take.ensures.taken c.wake-limits.ensures in
     let n = c.wake-limits.result.limits in
     window_no_cut (draft_of tree.draft.value) (counts_of tree.claimed) fs c.args.task c.args.cut n (limits_at tree c.wake-limits.result fs woke node)
     (room_at tree fs node (subst HasSplitRoom c.deref.ensures (c.has_split_room.ensures.0 c.if-not-has_split_room.false))) c.requires.task
-    (λ is. both_ways c.is_inside.result c.if-not-is_inside.true (c.is_inside.ensures.1 is))
+    (λ is. both_ways c.is_cut.result c.if-not-is_cut.true (c.is_cut.ensures.1 is))
+
+pub enter_window-requires-clause-somewhere : goal.enter_window-requires-clause-somewhere
+enter_window-requires-clause-somewhere c =
+    let tree = c.args.tree.value in
+    let woke = taken_woke tree c.deref_mut-held.result.now c.deref_mut-draft.result.now c.take.result c.wake-limits.result c.deref_mut-held.ensures.value c.deref_mut-draft.ensures.value c.take.ensures.taken c.wake-limits.ensures in
+    somewhere tree c.deref_mut-held.result.now c.wake-limits.result c.deref_mut-held.ensures.value woke c.requires.node
 
 pub returns : goal.returns
 returns c = λ fs node.
@@ -34,7 +40,7 @@ returns c = λ fs node.
     let n = c.wake-limits.result in (
       Nodes b (counts_of tree.claimed) (Lower c.args.task c.args.cut ∷ fs),
       window_more b (counts_of tree.claimed) fs c.args.task c.args.cut n.limits (limits_at tree n fs woke node)
-          (room_at tree fs node (subst HasSplitRoom c.deref.ensures (c.has_split_room.ensures.0 c.if-not-has_split_room.false))) (c.is_inside.ensures.0 c.if-not-is_inside.false),
+          (room_at tree fs node (subst HasSplitRoom c.deref.ensures (c.has_split_room.ensures.0 c.if-not-has_split_room.false))) (c.is_cut.ensures.0 c.if-not-is_cut.false),
       entered_at tree n c.enter_window.new.limits c.enter_window.new.self c.rest.result woke
           c.enter_window.ensures.instance c.rest.ensures.same c.rest.ensures.over
           (with_value c.args.tree (record held { draft = with_value held.draft (record draft { limits = c.rest.result }); walk = c.enter_window.new.self }))
