@@ -1,6 +1,6 @@
 -- what is written of a day, entry by entry
 use Rattle.std.proofs.Common.{◌≡◌, ◌≢◌, ◌≤◌, ◌<◌, ◌+◌, ◌++◌, ◌∷◌, [], ℕ, suc, List, Option, None, Some, Result, Ok, Err, length, take, drop, get_or, ap, subst, sym, refl, ◌∙◌, arith, append_assoc, append-nil, length-take}
-use Rattle.std.specs.Prelude.{IfSome, IfErr, IsTrue, codes, option_map}
+use Rattle.std.specs.Prelude.{IfSome, IfErr, IsTrue, codes}
 use Rattle.std.specs.Fmt.{decimal}
 use Rattle.std.proofs.lemmas.List.{take_more, take_all, take-append-le, take-append-drop}
 use Rattle.std.proofs.lemmas.List.Concat.{flat_map-append}
@@ -16,8 +16,8 @@ use Rattle.day_terms.specs.declared.Entry.TheVariants.{Place, Travel, RouteTime,
 use Rattle.day_terms.specs.declared.Refused.{Refused}
 use Rattle.day_terms.specs.Days.{IsDayOf}
 use Rattle.day_terms.specs.State.{State, start, after_entry, state_after}
-use Rattle.day_terms.specs.Refusal.{Refusal, refusal_of, MissingTravel as Lacks}
-use Rattle.day_terms.specs.Rounds.{Round, first_missing, instance_of, round_at, rounds_of}
+use Rattle.day_terms.specs.Refusal.{Refusal, TooMany, SameName, NoPlace, NoTask, NoTeam, BadWindow, BadShift, BadTeams, MissingTravel as Lacks, refusal_of}
+use Rattle.day_terms.specs.Rounds.{Round, instance_of, round_at, rounds_of}
 use Rattle.flight_changes.specs.Faults.{fault_of}
 use Rattle.flight_changes.specs.declared.faults.ChangeFault.{ChangeFault}
 use Rattle.flight_changes.specs.declared.faults.ChangeFault.TheVariants.{OutOfMemory, MissingTravel}
@@ -52,12 +52,23 @@ pub refusal_known : {X : Type 0} (told : Option Refusal) (r : Result X ChangeFau
 refusal_known None r fault f a e n = absurd (n (subst (λ x. IfErr x (λ f. f ≡ OutOfMemory)) e (a refl)))
 refusal_known (Some t) r fault f a e n = (t, refl, let g = sym e ∙ f t refl in cc)
 
-pub none_missing : (s : State) (nodes : ℕ) → refusal_of s (Plan nodes) ≡ None → first_missing s ≡ None
-none_missing s nodes e = by (first_missing s) e
-  where
-    by : (told : Option (List ℕ × List ℕ)) → option_map (λ p. Lacks p.0 p.1) told ≡ None → told ≡ None
-    by None e = refl
-    by (Some p) e = absurd (cc)
+-- a refusal is not told as want of memory
+told_is_no_want : (t : Refusal) → fault_of t ≢ OutOfMemory
+told_is_no_want TooMany e = cc
+told_is_no_want SameName e = cc
+told_is_no_want NoPlace e = cc
+told_is_no_want NoTask e = cc
+told_is_no_want NoTeam e = cc
+told_is_no_want BadWindow e = cc
+told_is_no_want BadShift e = cc
+told_is_no_want BadTeams e = cc
+told_is_no_want (Lacks from to) e = cc
+
+pub refused_is_no_want : (a : Applied) (s new : State) (entry : Entry) (fault : ChangeFault) (got later : Option (List ℕ)) → IsApplied s entry a new got later → a ≡ IsRefused fault → Change fault ≢ Change OutOfMemory
+refused_is_no_want a s new entry fault got later applied is e =
+    let p = subst (λ x. IsApplied s entry x new got later) is applied in
+    let same : fault ≡ OutOfMemory = cc in
+    told_is_no_want p.0 (sym p.2 ∙ same)
 
 pub no_round : (s : State) (entry : Entry) → ((nodes : ℕ) → entry ≢ Plan nodes) → round_at s entry ≡ []
 no_round s (Place name) n = refl

@@ -100,15 +100,64 @@ goes_on text front (entry ∷ back) last day taken =
           comes_to = subst (λ rs. ComesTo text rs g.stop) (ap (λ rs. rs ++ g.rest) (rounds_more front entry) ∙ append_assoc (rounds_of front) (round_at (state_after front) entry) g.rest) g.comes_to;
         }
 
+-- a day's text has one list of entries and one stop
+abbrev IsOneReading : Type 0
+IsOneReading = (text : List ℕ) (entries others : List Entry) (stop other : Option Refused) → IsDayOf text entries stop → IsDayOf text others other → (entries ≡ others) × (stop ≡ other)
+
+-- the entries before the first that is refused, and its refusal, are the same
+same_stop : (s : State) (xs ys back behind : List Entry) (x y : Entry) (r q : Refusal) → xs ++ x ∷ back ≡ ys ++ y ∷ behind → AreTaken s xs → AreTaken s ys
+    → refusal_of (after_all s xs) x ≡ Some r → refusal_of (after_all s ys) y ≡ Some q → (xs ≡ ys) × (r ≡ q)
+same_stop s [] [] back behind x y r q e t u f g =
+    let same : x ≡ y = cc in
+    let h : refusal_of s y ≡ Some r = subst (λ z. refusal_of s z ≡ Some r) same f in
+    (refl, (let k = sym h ∙ g in cc))
+same_stop s [] (b ∷ ys) back behind x y r q e t u f g =
+    let same : x ≡ b = cc in
+    let h : refusal_of s b ≡ Some r = subst (λ z. refusal_of s z ≡ Some r) same f in
+    absurd (let k = sym h ∙ u.0 in cc)
+same_stop s (a ∷ xs) [] back behind x y r q e t u f g =
+    let same : y ≡ a = cc in
+    let h : refusal_of s a ≡ Some q = subst (λ z. refusal_of s z ≡ Some q) same g in
+    absurd (let k = sym h ∙ t.0 in cc)
+same_stop s (a ∷ xs) (b ∷ ys) back behind x y r q e t u f g =
+    let same : b ≡ a = cc in
+    let tails : xs ++ x ∷ back ≡ ys ++ y ∷ behind = cc in
+    let p = same_stop (after_entry s a) xs ys back behind x y r q tails t.1 (subst (λ z. AreTaken (after_entry s z) ys) same u.1) f (subst (λ z. refusal_of (after_all (after_entry s z) ys) y ≡ Some q) same g) in
+    (ap (λ l. a ∷ l) p.0 ∙ ap (λ z. z ∷ ys) (sym same), p.1)
+
+-- an entry that is refused is not among those that are taken
+not_taken : (entries front back : List Entry) (entry : Entry) (refusal : Refusal) → entries ≡ front ++ entry ∷ back → AreTaken start entries → refusal_of (state_after front) entry ≡ Some refusal → ⊥
+not_taken entries front back entry refusal e taken refused =
+    let t = taken_within start front back entry (subst (AreTaken start) e taken) in
+    let k = sym refused ∙ t in cc
+
+pub one_coming : IsOneReading → (text : List ℕ) (rounds others : List Round) (stop other : Option DayStop) → ComesTo text rounds stop → ComesTo text others other → (rounds ≡ others) × (stop ≡ other)
+one_coming law text rounds others stop other (AllTaken entries day taken are is) (AllTaken entries2 day2 taken2 are2 is2) =
+    let l = law text entries entries2 None None day day2 in
+    (are ∙ ap rounds_of l.0 ∙ sym are2, is ∙ sym is2)
+one_coming law text rounds others stop other (AllTaken entries day taken are is) (BadRecord entries2 refused2 day2 taken2 are2 is2) =
+    let l = law text entries entries2 None (Some refused2) day day2 in absurd (let e = l.1 in cc)
+one_coming law text rounds others stop other (AllTaken entries day taken are is) (BadChange front2 back2 entry2 later2 day2 taken2 refusal2 refused2 are2 is2) =
+    let l = law text entries (front2 ++ entry2 ∷ back2) None later2 day day2 in absurd (not_taken entries front2 back2 entry2 refusal2 l.0 taken refused2)
+one_coming law text rounds others stop other (BadRecord entries refused day taken are is) (AllTaken entries2 day2 taken2 are2 is2) =
+    let l = law text entries entries2 (Some refused) None day day2 in absurd (let e = l.1 in cc)
+one_coming law text rounds others stop other (BadRecord entries refused day taken are is) (BadRecord entries2 refused2 day2 taken2 are2 is2) =
+    let l = law text entries entries2 (Some refused) (Some refused2) day day2 in
+    let same : refused ≡ refused2 = (let e = l.1 in cc) in
+    (are ∙ ap rounds_of l.0 ∙ sym are2, is ∙ ap (λ r. Some (record { number = r.number; cause = InItself r.cause })) same ∙ sym is2)
+one_coming law text rounds others stop other (BadRecord entries refused day taken are is) (BadChange front2 back2 entry2 later2 day2 taken2 refusal2 refused2 are2 is2) =
+    let l = law text entries (front2 ++ entry2 ∷ back2) (Some refused) later2 day day2 in absurd (not_taken entries front2 back2 entry2 refusal2 l.0 taken refused2)
+one_coming law text rounds others stop other (BadChange front back entry later day taken refusal refused are is) (AllTaken entries2 day2 taken2 are2 is2) =
+    let l = law text entries2 (front ++ entry ∷ back) None later day2 day in absurd (not_taken entries2 front back entry refusal l.0 taken2 refused)
+one_coming law text rounds others stop other (BadChange front back entry later day taken refusal refused are is) (BadRecord entries2 refused2 day2 taken2 are2 is2) =
+    let l = law text entries2 (front ++ entry ∷ back) (Some refused2) later day2 day in absurd (not_taken entries2 front back entry refusal l.0 taken2 refused)
+one_coming law text rounds others stop other (BadChange front back entry later day taken refusal refused are is) (BadChange front2 back2 entry2 later2 day2 taken2 refusal2 refused2 are2 is2) =
+    let l = law text (front ++ entry ∷ back) (front2 ++ entry2 ∷ back2) later later2 day day2 in
+    let p = same_stop start front front2 back back2 entry entry2 refusal refusal2 l.0 taken taken2 refused refused2 in (
+      are ∙ ap rounds_of p.0 ∙ sym are2,
+      is ∙ ap (λ (f : List Entry). Some (record { number = length f + 1; cause = Change (fault_of refusal) })) p.0 ∙ ap (λ r. Some (record { number = length front2 + 1; cause = Change (fault_of r) })) p.1 ∙ sym is2,
+    )
+
 -- a day with a refusal is none without one
-pub one_end : (text : List ℕ) (rounds others : List Round) (stop : DayStop)
-    → ((text : List ℕ) (entries others : List Entry) (stop last : Option Refused) → IsDayOf text entries stop → IsDayOf text others last → (entries ≡ others) × (stop ≡ last))
-    → ComesTo text rounds None → ComesTo text others (Some stop) → ⊥
-one_end text rounds others stop law (AllTaken entries day taken are is) (AllTaken entries2 day2 taken2 are2 is2) = absurd (cc)
-one_end text rounds others stop law (AllTaken entries day taken are is) (BadRecord entries2 refused day2 taken2 are2 is2) = let l = law text entries entries2 None (Some refused) day day2 in absurd (let e = l.1 in cc)
-one_end text rounds others stop law (AllTaken entries day taken are is) (BadChange front back entry later day2 taken2 refusal refused are2 is2) =
-    let l = law text entries (front ++ entry ∷ back) None later day day2 in
-    let t = taken_within start front back entry (subst (AreTaken start) l.0 taken) in
-    absurd (let e = sym refused ∙ t in cc)
-one_end text rounds others stop law (BadRecord entries refused day taken are is) second = absurd (cc)
-one_end text rounds others stop law (BadChange front back entry later day taken refusal refused are is) second = absurd (cc)
+pub one_end : (text : List ℕ) (rounds others : List Round) (stop : DayStop) → IsOneReading → ComesTo text rounds None → ComesTo text others (Some stop) → ⊥
+one_end text rounds others stop law whole stopped = let e = (one_coming law text rounds others None (Some stop) whole stopped).1 in cc

@@ -1,6 +1,6 @@
 -- what is written for the dossiers of an input, one after another
 use Rattle.std.proofs.Common.{◌≡◌, ◌^◌, ◌++◌, ℕ, List, [], ◌∷◌, take, Option, None, Some, Result, Ok, Err, ap, subst, sym, refl, ◌∙◌, arith, append_assoc, append-nil}
-use Rattle.std.specs.Prelude.{All, IfSome, OnErr, OnOk}
+use Rattle.std.specs.Prelude.{All, IfSome, OnErr}
 use Rattle.std.specs.List.{flat_map}
 use Rattle.std.proofs.lemmas.List.Concat.{flat_map-append}
 use Rattle.std.proofs.lemmas.List.Elements.{All-nil, All-push}
@@ -12,11 +12,12 @@ use Rattle.dossier_terms.specs.Lines.{text_of}
 use Rattle.dossier_terms.specs.Reading.{Form}
 use Rattle.dossier_terms.specs.Texts.{yes_line, no_line}
 use Rattle.dossier_terms.specs.Accepted.{IsAccepted}
-use Rattle.cert_checker.specs.Checked.{Checked, IsTrueYes, fresh_checker, verdict_of}
+use Rattle.cert_checker.specs.Checked.{Checked, IsTrueYes, fresh_checker}
 use Rattle.cert_checker.specs.declared.checker.Verdict.{Verdict}
 use Rattle.crew_cli.specs.Input.{Fresh, IsBetween, IsNext, IsOpen, IsRefusal, IsInterrupted, HasRead}
 use Rattle.crew_cli.specs.declared.input.Outcome.{Outcome}
 use Rattle.crew_cli.specs.declared.input.Outcome.TheVariants.{Yes, ReadFault}
+use Rattle.crew_cli.specs.Verdicts.{verdict_line}
 use Rattle.crew_cli.specs.Run.{OfBytes, SaysYes, SaysNo, SaysFront, SaysReadFault, SaysYesLines, Nothing, YesFront, NoFront}
 
 -- these dossiers are read, and their yes lines are written
@@ -66,7 +67,7 @@ begins (Some input) got reader checker e f = subst (λ c. HasSaid input got read
 -- one dossier more, and its yes line
 pub says_one_more : (left0 got0 : Option (List ℕ)) (old new : Reader) (left later got added : Option (List ℕ)) (count more : ℕ) (verdict : Verdict)
     → ((input : List ℕ) (done : List Dossier) → IsBetween input done old left count → IsNext input done verdict new later more)
-    → ((d : Dossier) → verdict ≡ verdict_of d → Appended got added (yes_line d)) → HasSaidOf left0 got0 old left got count → HasSaidOf left0 got0 new later added more
+    → Appended got added (verdict_line verdict) → HasSaidOf left0 got0 old left got count → HasSaidOf left0 got0 new later added more
 says_one_more None got0 old new left later got added count more verdict next wrote so = tt
 says_one_more (Some input) got0 old new left later got added count more verdict next wrote so =
     let n = next input so.done so.between in
@@ -76,7 +77,7 @@ says_one_more (Some input) got0 old new left later got added count more verdict 
     record {
       done = so.done ++ d ∷ [];
       between = n.between;
-      written = subst (λ bytes. Appended got0 added bytes) lines (appended_both got0 got added (flat_map yes_line so.done) (yes_line d) so.written (wrote d n.says));
+      written = subst (λ bytes. Appended got0 added bytes) lines (appended_both got0 got added (flat_map yes_line so.done) (yes_line d) so.written (subst (λ v. Appended got added (verdict_line v)) n.says wrote));
       each = All-push IsTrueYes so.done d so.each n.true_yes;
     }
 
@@ -117,14 +118,6 @@ says_no (Some input) got0 reader left got added count number reason law refused 
 pub on_err : {X E : Type 0} (r : Result X E) (P : Type 0) → P → OnErr r P
 on_err (Ok x) P p = tt
 on_err (Err e) P p = p
-
-pub on_ok_goes : {X E P Q : Type 0} (r : Result X E) → (P → Q) → OnOk r P → OnOk r Q
-on_ok_goes (Ok x) f p = f p
-on_ok_goes (Err e) f p = tt
-
-pub on_err_goes : {X E P Q : Type 0} (r : Result X E) → (P → Q) → OnErr r P → OnErr r Q
-on_err_goes (Ok x) f p = tt
-on_err_goes (Err e) f p = f p
 
 pub yes_lines_none : (left got : Option (List ℕ)) → OfBytes left got got SaysYesLines
 yes_lines_none None got = tt
@@ -194,13 +187,13 @@ says_read_fault (Some input) got0 old new left later got count stopped so =
 -- the front of one more yes line was written
 pub front_yes : (left0 got0 : Option (List ℕ)) (old new : Reader) (left later got added : Option (List ℕ)) (count more : ℕ) (verdict : Verdict)
     → ((input : List ℕ) (done : List Dossier) → IsBetween input done old left count → IsNext input done verdict new later more)
-    → ((d : Dossier) → verdict ≡ verdict_of d → AppendedPart got added (yes_line d)) → HasSaidOf left0 got0 old left got count → OfBytes left0 got0 added SaysFront
+    → AppendedPart got added (verdict_line verdict) → HasSaidOf left0 got0 old left got count → OfBytes left0 got0 added SaysFront
 front_yes None got0 old new left later got added count more verdict next wrote so = tt
 front_yes (Some input) got0 old new left later got added count more verdict next wrote so =
     let n = next input so.done so.between in
     let d = n.dossier in
     let b = n.between in
-    let w = appended_front got0 got added (flat_map yes_line so.done) (yes_line d) so.written (wrote d n.says) in
+    let w = appended_front got0 got added (flat_map yes_line so.done) (yes_line d) so.written (subst (λ v. AppendedPart got added (verdict_line v)) n.says wrote) in
     let text : input ≡ flat_map text_of (so.done ++ d ∷ []) ++ b.rest = b.read.text ∙ ap (λ x. x ++ b.rest) (append-nil (flat_map text_of (so.done ++ d ∷ []))) in (
       flat_map yes_line so.done ++ take w.0 (yes_line d),
       w.1,

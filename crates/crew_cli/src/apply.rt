@@ -36,6 +36,7 @@ enum Applied {
 
 /// Writes the line of the refused record of a day.
 fn refuse<K: Sink>(out: &mut K, number: u64, cause: DayFault) -> Status
+    requires { cause ≢ DayFault.Change ChangeFault.OutOfMemory }
     ensures refused { result ≡ Status.Refused → Appended (K.got out.old) (K.got out.new) (refused_line number cause) }
     ensures part { AppendedPart (K.got out.old) (K.got out.new) (refused_line number cause) }
     ensures others { IsTrue (is_refused_or_write_fault result) }

@@ -1,6 +1,6 @@
-// Laws of inputs: what is refused is accepted as no dossiers, and what ends a dossier is its text. A law of days: by
-// which state each entry is taken.
-ghost use Rattle.std.specs.Prelude.{◌≡◌, ◌↔◌, ℕ, List, [], None, Some, map, slice_get, take};
+// Laws of inputs: what is refused is accepted as no dossiers, and what ends a dossier is its text. Laws of days: by
+// which state each entry is taken, and that a day comes to one thing.
+ghost use Rattle.std.specs.Prelude.{◌≡◌, ◌↔◌, ℕ, List, [], Option, None, Some, map, slice_get, take};
 ghost use Rattle.crew_terms.specs.Words.{Words, words_of};
 ghost use Rattle.dossier_terms.specs.declared.Reason.{Reason};
 ghost use Rattle.dossier_terms.specs.Dossier.{Dossier};
@@ -12,9 +12,11 @@ ghost use Rattle.cert_checker.specs.Checked.{IsTrueYes};
 ghost use Rattle.day_terms.specs.declared.Entry.{Entry};
 ghost use Rattle.day_terms.specs.State.{start, state_after};
 ghost use Rattle.day_terms.specs.Refusal.{refusal_of};
+ghost use Rattle.day_terms.specs.Rounds.{Round};
 ghost use Rattle.crew_cli.specs.Input.{IsRefusal, text_of_lines};
-ghost use Rattle.crew_cli.specs.Rounds.{AreTaken};
+ghost use Rattle.crew_cli.specs.Rounds.{AreTaken, ComesTo, DayStop};
 
+use day_records::one_reading;
 use dossier_laws::{
     good_bounds, good_is_read, one_dossier, read_is_good, says_one_thing, sheet_is_good,
 };
@@ -73,3 +75,11 @@ pub fn entries_are_taken_in_turn()
     ensures { (entries : List Entry) → AreTaken start entries
         ↔ ((n : ℕ) (entry : Entry) → slice_get entries n ≡ Some entry → refusal_of (state_after (take n entries)) entry ≡ None) }
 {}
+
+/// A day's text comes to one list of rounds, and to one refusal or none.
+pub fn one_coming()
+    ensures { (text : List ℕ) (rounds others : List Round) (stop other : Option DayStop)
+        → ComesTo text rounds stop → ComesTo text others other → (rounds ≡ others) × (stop ≡ other) }
+{
+    one_reading();
+}

@@ -244,6 +244,9 @@ const DO: &[Case] = &[
     (13, b"do 0", b"no 13 Shape\n"),
     (13, b"do 0 420", b"no 14 Plan Count 0\n"),
     (13, b"do 0 420 0 1", b"no 14 Plan Count 0\n"),
+    (13, b"do 0 420 0 1 0 1 0 1 0 1", b"no 14 Plan Count 0\n"),
+    (13, b"do 0 420 0 1 0 1 0 1 0 1 0", b"no 14 Plan Count 0\n"),
+    (13, b"do 0 420 0 1 0 1 0 1 0 1 2", b"no 13 Number\n"),
     (13, b"do 0 420 ", b"no 13 Number\n"),
     (13, b"do 0 420 0 ", b"no 13 Number\n"),
     (13, b"do  0 420 0", b"no 13 Number\n"),
@@ -261,6 +264,7 @@ const DO: &[Case] = &[
     (14, b"do 0 420 0", b"no 14 Shape\n"),
     (14, b"do 1 500 0", YES),
     (14, b"do 1 500 1 0", b"no 14 Plan Count 1\n"),
+    (14, b"do 1 500 0 1 0 1 0 1 0 1 0", b"no 14 Plan Count 1\n"),
 ];
 
 const TREE: &[Case] = &[

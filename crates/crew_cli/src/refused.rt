@@ -1,10 +1,9 @@
 // The line of a day's refusal.
-ghost use Rattle.std.specs.Prelude.{◌≡◌, ◌≤◌, [], ◌∷◌, codes, OnOk, OnErr, IsErr};
-ghost use Rattle.std.specs.Fmt.{decimal};
+ghost use Rattle.std.specs.Prelude.{◌≡◌, ◌≢◌, ◌≤◌, OnOk, OnErr, IsErr};
 ghost use Rattle.crew_io.specs.Io.{Rose, Appended, AppendedPart};
-ghost use Rattle.crew_terms.specs.Words.{line_text};
 ghost use Rattle.crew_cli.specs.Refused.{refused_line};
 
+use crate::texts::put_word;
 use cert_format::{Part, put_line};
 use crew_io::sink::{Sink, WriteFault};
 use day_records::DayCause;
@@ -35,29 +34,10 @@ fn put_field<K: Sink>(out: &mut K, number: u64, fault: FieldFault) -> Result<(),
     let at = Part::Number(number);
     let place = Part::Number(fault.place as u64);
     match fault.cause {
-        Cause::Count => put_word(out, number, b"Count"),
+        Cause::Count => put_word(out, b"refused", number, b"Count"),
         Cause::Spelling => put_line(out, &[refused, at, Part::Word(b"Spelling"), place]),
         Cause::Range => put_line(out, &[refused, at, Part::Word(b"Range"), place]),
     }
-}
-
-/// Writes the line of a cause that is one word.
-fn put_word<K: Sink>(out: &mut K, number: u64, cause: &[u8]) -> Result<(), WriteFault>
-    ensures all { OnOk result (Appended (K.got out.old) (K.got out.new) (line_text (codes "refused" ∷ decimal number ∷ cause.now ∷ []))) }
-    ensures part { OnErr result (AppendedPart (K.got out.old) (K.got out.new) (line_text (codes "refused" ∷ decimal number ∷ cause.now ∷ []))) }
-    ensures later { K.faults out.old ≤ K.faults out.new }
-    ensures cause { IsErr result → Rose (K.faults out.old) (K.faults out.new) }
-    ensures told { OnOk result (K.faults out.new ≡ K.faults out.old) }
-    ensures steady { K.steady out.old → K.steady out.new × (IsErr result → K.full out.new) }
-{
-    put_line(
-        out,
-        &[
-            Part::Word(b"refused"),
-            Part::Number(number),
-            Part::Word(cause),
-        ],
-    )
 }
 
 /// Writes the line of a record that the state refuses.
@@ -70,15 +50,15 @@ fn put_change<K: Sink>(out: &mut K, number: u64, fault: ChangeFault) -> Result<(
     ensures steady { K.steady out.old → K.steady out.new × (IsErr result → K.full out.new) }
 {
     match fault {
-        ChangeFault::OutOfMemory => put_word(out, number, b"OutOfMemory"),
-        ChangeFault::NoTask => put_word(out, number, b"NoTask"),
-        ChangeFault::NoTeam => put_word(out, number, b"NoTeam"),
-        ChangeFault::NoPlace => put_word(out, number, b"NoPlace"),
-        ChangeFault::SameName => put_word(out, number, b"SameName"),
-        ChangeFault::TooMany => put_word(out, number, b"TooMany"),
-        ChangeFault::BadWindow => put_word(out, number, b"BadWindow"),
-        ChangeFault::BadShift => put_word(out, number, b"BadShift"),
-        ChangeFault::BadTeams => put_word(out, number, b"BadTeams"),
+        ChangeFault::OutOfMemory => put_word(out, b"refused", number, b"OutOfMemory"),
+        ChangeFault::NoTask => put_word(out, b"refused", number, b"NoTask"),
+        ChangeFault::NoTeam => put_word(out, b"refused", number, b"NoTeam"),
+        ChangeFault::NoPlace => put_word(out, b"refused", number, b"NoPlace"),
+        ChangeFault::SameName => put_word(out, b"refused", number, b"SameName"),
+        ChangeFault::TooMany => put_word(out, b"refused", number, b"TooMany"),
+        ChangeFault::BadWindow => put_word(out, b"refused", number, b"BadWindow"),
+        ChangeFault::BadShift => put_word(out, b"refused", number, b"BadShift"),
+        ChangeFault::BadTeams => put_word(out, b"refused", number, b"BadTeams"),
         ChangeFault::MissingTravel { from, to } => put_line(
             out,
             &[
@@ -92,9 +72,10 @@ fn put_change<K: Sink>(out: &mut K, number: u64, fault: ChangeFault) -> Result<(
     }
 }
 
-/// Writes the line of a day's refusal, with the number of its record from 1, or 0 where the text is too long. A
-/// fault leaves a front of it.
+/// Writes the line of a day's refusal, with the number of its record from 1, or 0 where the text is too long. Want of
+/// memory refuses no day. A fault leaves a front of the line.
 pub fn put_refused<K: Sink>(out: &mut K, number: u64, cause: DayFault) -> Result<(), WriteFault>
+    requires { cause ≢ DayFault.Change ChangeFault.OutOfMemory }
     ensures all { OnOk result (Appended (K.got out.old) (K.got out.new) (refused_line number cause)) }
     ensures part { OnErr result (AppendedPart (K.got out.old) (K.got out.new) (refused_line number cause)) }
     ensures later { K.faults out.old ≤ K.faults out.new }
@@ -103,8 +84,8 @@ pub fn put_refused<K: Sink>(out: &mut K, number: u64, cause: DayFault) -> Result
     ensures steady { K.steady out.old → K.steady out.new × (IsErr result → K.full out.new) }
 {
     match cause {
-        DayFault::TooLong => put_word(out, number, b"TooLong"),
-        DayFault::InItself(DayCause::Kind) => put_word(out, number, b"Kind"),
+        DayFault::TooLong => put_word(out, b"refused", number, b"TooLong"),
+        DayFault::InItself(DayCause::Kind) => put_word(out, b"refused", number, b"Kind"),
         DayFault::InItself(DayCause::Field(fault)) => put_field(out, number, fault),
         DayFault::Change(fault) => put_change(out, number, fault),
     }

@@ -13,6 +13,10 @@ pub const GOOD: &[u8] =
 const TOGETHER: &[u8] =
     b"crew dossier 1\nsize 2 1 2 1\nplace BASE\nplace G1\ntravel 0 10\ntravel 10 0\nteam T1 0 360 840 3\nteam T2 0 360 840 3\ntask J 1 420 420 30 2 3\npool 0 0\nplan 0 0\ndo 0 420 0 1\ntree 0 0 1 0\nleaf bare\nend\n";
 
+/// A good dossier: eight teams, the most that a task may need, and one task that they do together.
+const EIGHT: &[u8] =
+    b"crew dossier 1\nsize 8 1 2 1\nplace BASE\nplace G1\ntravel 0 10\ntravel 10 0\nteam T1 0 360 840\nteam T2 0 360 840\nteam T3 0 360 840\nteam T4 0 360 840\nteam T5 0 360 840\nteam T6 0 360 840\nteam T7 0 360 840\nteam T8 0 360 840\ntask J 1 420 420 30 8\npool 0 0\nplan 0 0\ndo 0 420 0 1 2 3 4 5 6 7\ntree 0 0 1 0\nleaf bare\nend\n";
+
 /// A good dossier whose pool has two routes, and whose tree is one closed leaf with its prices.
 pub const WITH_POOL: &[u8] =
     b"crew dossier 1\nsize 1 2 2 1\nplace BASE\nplace G1\ntravel 0 10\ntravel 10 0\nteam T1 0 360 840\ntask A 1 420 420 30 1\ntask B 1 420 420 30 1\npool 0 2\nroute 0 0 420\nroute 0 1 420\nplan 1 1\ndo 0 420 0\ntree 0 1 0 0\nleaf closed\nprice 840000000 840000000\nworth 840000000\nphi 0 840000000\nphi 1 840000000\nend\n";
@@ -84,6 +88,18 @@ fn a_yes_line_for_each_dossier(rt: HostRuntime) -> Result<(), Fail> {
     let (status, written) = check(rt.alloc(), input)?;
     assert_eq!(rt; status, Status::Done);
     assert_eq!(rt; written, joined(rt.alloc(), &[YES, YES])?);
+    Ok(())
+}
+
+#[test]
+fn a_task_of_eight_teams(rt: HostRuntime) -> Result<(), Fail> {
+    let (status, written) = check(rt.alloc(), EIGHT.to_vec(rt.alloc())?)?;
+    assert_eq!(rt; status, Status::Done);
+    assert_eq!(rt; written.as_slice(), YES);
+    let nine = with_line(rt.alloc(), EIGHT, 18, b"do 0 420 0 1 2 3 4 5 6 7 7")?;
+    let (status, written) = check(rt.alloc(), nine)?;
+    assert_eq!(rt; status, Status::No);
+    assert_eq!(rt; written.as_slice(), b"no 18 Plan Count 0\n".as_slice());
     Ok(())
 }
 

@@ -1,11 +1,10 @@
-// The lines that are written: `yes` for a good dossier, `no` for the first line that is refused.
-ghost use Rattle.std.specs.Prelude.{◌≡◌, ◌≤◌, [], ◌∷◌, codes, OnOk, OnErr, IsErr};
+// The lines that are written: `yes` for a good dossier, `no` for the first line that is refused; and lines of three words.
+ghost use Rattle.std.specs.Prelude.{◌≡◌, ◌≤◌, [], ◌∷◌, OnOk, OnErr, IsErr};
 ghost use Rattle.std.specs.Fmt.{decimal};
 ghost use Rattle.crew_terms.specs.Words.{line_text};
 ghost use Rattle.crew_io.specs.Io.{Rose, Appended, AppendedPart};
-ghost use Rattle.dossier_terms.specs.Texts.{yes_line, no_line};
-ghost use Rattle.dossier_terms.specs.Dossier.{Dossier};
-ghost use Rattle.cert_checker.specs.Checked.{verdict_of};
+ghost use Rattle.dossier_terms.specs.Texts.{no_line};
+ghost use Rattle.crew_cli.specs.Verdicts.{verdict_line};
 
 use cert_checker::Verdict;
 use cert_format::{Part, put_line};
@@ -13,10 +12,10 @@ use crew_io::sink::{Sink, WriteFault};
 use crew_terms::PlanVerdict;
 use dossier_terms::Reason;
 
-/// Writes the yes line of a dossier that says this. A fault leaves a front of it.
+/// Writes the yes line of a verdict. A fault leaves a front of it.
 pub fn put_yes<K: Sink>(out: &mut K, verdict: Verdict) -> Result<(), WriteFault>
-    ensures all { OnOk result ((d : Dossier) → verdict ≡ verdict_of d → Appended (K.got out.old) (K.got out.new) (yes_line d)) }
-    ensures part { OnErr result ((d : Dossier) → verdict ≡ verdict_of d → AppendedPart (K.got out.old) (K.got out.new) (yes_line d)) }
+    ensures all { OnOk result (Appended (K.got out.old) (K.got out.new) (verdict_line verdict)) }
+    ensures part { OnErr result (AppendedPart (K.got out.old) (K.got out.new) (verdict_line verdict)) }
     ensures later { K.faults out.old ≤ K.faults out.new }
     ensures cause { IsErr result → Rose (K.faults out.old) (K.faults out.new) }
     ensures told { OnOk result (K.faults out.new ≡ K.faults out.old) }
@@ -38,10 +37,15 @@ pub fn put_yes<K: Sink>(out: &mut K, verdict: Verdict) -> Result<(), WriteFault>
     put_line(out, &parts)
 }
 
-/// Writes the no line of a reason that is one word.
-fn put_word<K: Sink>(out: &mut K, line: u64, reason: &[u8]) -> Result<(), WriteFault>
-    ensures all { OnOk result (Appended (K.got out.old) (K.got out.new) (line_text (codes "no" ∷ decimal line ∷ reason.now ∷ []))) }
-    ensures part { OnErr result (AppendedPart (K.got out.old) (K.got out.new) (line_text (codes "no" ∷ decimal line ∷ reason.now ∷ []))) }
+/// Writes a line of a word, a number and one more word.
+pub(crate) fn put_word<'a, K: Sink>(
+    out: &mut K,
+    first: &'a [u8],
+    number: u64,
+    word: &'a [u8],
+) -> Result<(), WriteFault>
+    ensures all { OnOk result (Appended (K.got out.old) (K.got out.new) (line_text (first.now ∷ decimal number ∷ word.now ∷ []))) }
+    ensures part { OnErr result (AppendedPart (K.got out.old) (K.got out.new) (line_text (first.now ∷ decimal number ∷ word.now ∷ []))) }
     ensures later { K.faults out.old ≤ K.faults out.new }
     ensures cause { IsErr result → Rose (K.faults out.old) (K.faults out.new) }
     ensures told { OnOk result (K.faults out.new ≡ K.faults out.old) }
@@ -49,7 +53,7 @@ fn put_word<K: Sink>(out: &mut K, line: u64, reason: &[u8]) -> Result<(), WriteF
 {
     put_line(
         out,
-        &[Part::Word(b"no"), Part::Number(line), Part::Word(reason)],
+        &[Part::Word(first), Part::Number(number), Part::Word(word)],
     )
 }
 
@@ -115,14 +119,14 @@ pub fn put_no<K: Sink>(out: &mut K, line: u64, reason: Reason) -> Result<(), Wri
     let no = Part::Word(b"no");
     let at = Part::Number(line);
     match reason {
-        Reason::Shape => put_word(out, line, b"Shape"),
-        Reason::Number => put_word(out, line, b"Number"),
-        Reason::Name => put_word(out, line, b"Name"),
-        Reason::Instance => put_word(out, line, b"Instance"),
+        Reason::Shape => put_word(out, b"no", line, b"Shape"),
+        Reason::Number => put_word(out, b"no", line, b"Number"),
+        Reason::Name => put_word(out, b"no", line, b"Name"),
+        Reason::Instance => put_word(out, b"no", line, b"Instance"),
         Reason::Plan(verdict) => put_plan(out, line, verdict),
-        Reason::Count => put_word(out, line, b"Count"),
-        Reason::Cut => put_word(out, line, b"Cut"),
-        Reason::Pair => put_word(out, line, b"Pair"),
+        Reason::Count => put_word(out, b"no", line, b"Count"),
+        Reason::Cut => put_word(out, b"no", line, b"Cut"),
+        Reason::Pair => put_word(out, b"no", line, b"Pair"),
         Reason::Potential(k, j) => {
             put_line(
                 out,
@@ -130,11 +134,11 @@ pub fn put_no<K: Sink>(out: &mut K, line: u64, reason: Reason) -> Result<(), Wri
             )
         }
         Reason::Worth(k) => put_line(out, &[no, at, Part::Word(b"Worth"), number(k)]),
-        Reason::Bound => put_word(out, line, b"Bound"),
-        Reason::Budget => put_word(out, line, b"Budget"),
-        Reason::Pool => put_word(out, line, b"Pool"),
-        Reason::End => put_word(out, line, b"End"),
-        Reason::TooLong => put_word(out, line, b"TooLong"),
-        Reason::TooMuch => put_word(out, line, b"TooMuch"),
+        Reason::Bound => put_word(out, b"no", line, b"Bound"),
+        Reason::Budget => put_word(out, b"no", line, b"Budget"),
+        Reason::Pool => put_word(out, b"no", line, b"Pool"),
+        Reason::End => put_word(out, b"no", line, b"End"),
+        Reason::TooLong => put_word(out, b"no", line, b"TooLong"),
+        Reason::TooMuch => put_word(out, b"no", line, b"TooMuch"),
     }
 }

@@ -1,6 +1,6 @@
 use Rattle.std.proofs.Common.{◌<◌, length, subst, sym, ◌∙◌, arith}
 use Rattle.crew_cli.specs.Applied.{IsApplied, IsDay}
-use Rattle.crew_cli.proofs.Applies.{at_refused, at_front, at_memory, at_taken, at_end, at_stop, taken_is_no_fault}
+use Rattle.crew_cli.proofs.Applies.{at_refused, at_front, at_memory, at_taken, at_end, at_stop, refused_is_no_want, taken_is_no_fault}
 use Rattle.crew_cli.proofs.Said.{on_err}
 use Rattle.crew_cli.proofs.apply.apply_day.Goals as goal
 
@@ -10,6 +10,10 @@ returns-in_err-apply_entry-clause-memory g c = λ text whole.
     on_err c.from_residual.result _
     (at_memory text c.as_slice-entries.result.now c.loop-n.n c.args.day.now.stop (g.K.Sink.got c.args.out.now) (g.K.Sink.got c.loop-n.out) (g.K.Sink.got c.apply_entry.new.out) day
     c.loop-n.invariant.taken c.loop-n.invariant.so_far c.in_err-apply_entry.ensures.nothing)
+
+pub refuse-requires : goal.refuse-requires
+refuse-requires g c =
+    refused_is_no_want c.in_ok-apply_entry.field-0 c.loop-n.desk c.apply_entry.new.desk _ c.in-Refused.fault (g.K.Sink.got c.loop-n.out) (g.K.Sink.got c.apply_entry.new.out) c.in_ok-apply_entry.ensures.applied c.in-Refused.is
 
 pub returns-in-Refused-clause-says : goal.returns-in-Refused-clause-says
 returns-in-Refused-clause-says g c = λ text whole.
