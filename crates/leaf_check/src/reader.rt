@@ -94,8 +94,8 @@ impl LeafReader {
 
     /// Judges the line that is due, by the table of lines. A team's rules are tested at its last line: `Potential` tells
     /// the first task whose potentials are too low, and then `Worth` that the worth is; `Bound` is told at the last line
-    /// of the leaf, where it does not prove what it has to. After `Done` and after `No` only `begin` goes on: what is said
-    /// of a line before that means nothing.
+    /// of the leaf, where it does not prove what it has to. After `Done` and after `No` only `begin` goes on: what is
+    /// said of a line before that means nothing.
     pub fn line(&mut self, limits: &Limits<'_>, goal: Goal, words: LineWords<'_>) -> LeafStep
         requires { IsReady limits.now.limits self.old }
         ensures ready { IsReady limits.now.limits self.new }
