@@ -44,7 +44,7 @@ fn stop_of(progress: Progress) -> Option<Stop>
 /// The outcome where no line comes whole.
 fn outcome_at_stop(checker: &mut Checker, progress: Progress) -> Outcome
     requires { IsDue checker.old.at }
-    ensures { IsOutcomeAtStop checker.old progress result }
+    ensures { IsOutcomeAtStop checker.old progress checker.new result }
 {
     let Some(why) = stop_of(progress) else {
         return Outcome::ReadFault;

@@ -1,5 +1,5 @@
 // The top call over sources and sinks in memory, and over such as do not fail.
-ghost use Rattle.std.specs.Prelude.{◌≡◌, ◌≢◌, ◌↔◌, ◌⊎◌, ◌++◌, ℕ, List, Some, [], length, map, string_bytes};
+ghost use Rattle.std.specs.Prelude.{◌≡◌, ◌≢◌, ◌≤◌, ◌↔◌, ◌⊎◌, ◌++◌, ℕ, List, Some, [], length, map, string_bytes};
 ghost use Rattle.crew_io.specs.Io.{Rose};
 ghost use Rattle.crew_cli.specs.Run.{AskFor, Says, IsFine};
 ghost use Rattle.crew_cli.specs.declared.run.Command.{Command};
@@ -63,6 +63,10 @@ pub fn run_in_memory(
     ensures write_fault { result ≡ Status.WriteFault → Rose out.old.faults out.new.faults }
     ensures read_told { result ≢ Status.ReadFault → result ≢ Status.WriteFault → src.new.faults ≡ src.old.faults }
     ensures write_told { result ≢ Status.WriteFault → out.new.faults ≡ out.old.faults }
+    ensures read_says { (command : Command) → AskFor command (map (λ w. string_bytes w) words.now) → src.new.faults ≢ src.old.faults
+        → (written : List ℕ) × (out.new.got ≡ out.old.got ++ written) × Says command Status.ReadFault (Some src.new.left) src.old.left written }
+    ensures source_later { src.old.faults ≤ src.new.faults }
+    ensures sink_later { out.old.faults ≤ out.new.faults }
 {
     one_reading();
     run(alloc, words, src, out)
