@@ -133,6 +133,14 @@ yes_lines_none (Some input) got = (
   record { dossiers = []; rest = input; read = none_read input; yes_lines = refl; each = All-nil IsTrueYes },
 )
 
+pub front_none : (left got : Option (List ℕ)) → OfBytes left got got SaysFront
+front_none None got = tt
+front_none (Some input) got = (
+  [],
+  appended_none got,
+  record { dossiers = []; rest = input; read = none_read input; each = All-nil IsTrueYes; part = []; lines = refl; next = Nothing refl },
+)
+
 -- no more was written
 pub front_so_far : (left0 got0 : Option (List ℕ)) (reader : Reader) (left got : Option (List ℕ)) (count : ℕ)
     → HasSaidOf left0 got0 reader left got count → OfBytes left0 got0 got SaysFront
