@@ -5,7 +5,7 @@ use Rattle.std.proofs.lemmas.List.{map-append, length-map}
 use Rattle.std.proofs.lemmas.List.Concat.{flat_map-append}
 use Rattle.std.proofs.lemmas.List.Elements.{All-nil, All-push}
 use Rattle.crew_terms.specs.Words.{Words, IsLine, words_of, with_feed}
-use Rattle.crew_io.specs.Io.{Rose}
+use Rattle.crew_io.specs.Io.{HasEnded, Rose}
 use Rattle.crew_io.specs.Lines.{Reader, Advances, AnswersTold, Answers as Finds, IsPartial, rest_of, allowance}
 use Rattle.crew_io.specs.declared.lines.Progress.{Progress}
 use Rattle.crew_io.specs.declared.lines.Progress.TheVariants as progress
@@ -408,6 +408,22 @@ pub fault_stops : (checker after : Checked) (answer : Progress) (outcome : Outco
 fault_stops checker after answer outcome (Over end ended same is) e = absurd (let f = sym end ∙ e in cc)
 fault_stops checker after answer outcome (Short why told more refused is) e = absurd (let f = sym told ∙ ap told_of e in cc)
 fault_stops checker after answer outcome (Fault told same is) e = is
+
+-- at the end nothing is left in the source, where it tells its bytes
+none_left : (allowed : ℕ) (rest : Option (List ℕ)) (answer : Progress) (new : Reader) (later : Option (List ℕ)) → AnswersTold allowed rest answer new.line (rest_of new later) → answer ≡ progress.End 0
+    → HasEnded later
+none_left allowed rest answer new None told end = tt
+none_left allowed None answer new (Some unseen) told end = absurd (cc)
+none_left allowed (Some rest) answer new (Some unseen) told end =
+    let f = subst (λ x. Finds allowed rest x new.line told.0) end told.2 in
+    let e : new.held ++ unseen ≡ rest = (let x = told.1 in let y = f.1 in cc) in
+    no_bytes unseen (let p = f.0.count in let m = ap length e in let n = length-append new.held unseen in omega arith)
+
+pub end_has_ended : (old new : Reader) (left later : Option (List ℕ)) (answer : Progress) (checker after : Checked) (outcome : Outcome)
+    → Advances old left answer new later → IsOutcomeAtStop checker answer after outcome → outcome ≡ outcomes.End → HasEnded later
+end_has_ended old new left later answer checker after outcome a (Over end ended same is) e = none_left (allowance old) (rest_of old left) answer new later a.rest end
+end_has_ended old new left later answer checker after outcome a (Short why told more refused is) e = absurd (let f = sym is ∙ e in cc)
+end_has_ended old new left later answer checker after outcome a (Fault told same is) e = absurd (let f = sym is ∙ e in cc)
 
 pub line_is_no_fault : (answer : Progress) → answer ≡ progress.Line → answer ≡ progress.ReadFault → ⊥
 line_is_no_fault answer line fault = let e = sym line ∙ fault in cc

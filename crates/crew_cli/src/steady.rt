@@ -27,6 +27,7 @@ pub fn run_steady(
 
     ensures words { (result ≡ Status.Words) ↔ ((command : Command) → AskFor command (map (λ w. string_bytes w) words.now) → ⊥) }
     ensures untouched { result ≡ Status.Words → src.new ≡ src.old }
+    ensures ended { result ≡ Status.Done → src.new.left ≡ [] }
     ensures reads { result ≢ Status.ReadFault }
     ensures writes { result ≢ Status.WriteFault }
 {
@@ -47,6 +48,7 @@ pub fn run_in_memory(
 
     ensures words { (result ≡ Status.Words) ↔ ((command : Command) → AskFor command (map (λ w. string_bytes w) words.now) → ⊥) }
     ensures untouched { result ≡ Status.Words → (src.new ≡ src.old) × (out.new ≡ out.old) }
+    ensures ended { result ≡ Status.Done → src.new.left ≡ [] }
 
     // No fault is told where no call is due to fail, of the sink while room is left.
     ensures reads { src.old.fails ≡ [] → result ≢ Status.ReadFault }

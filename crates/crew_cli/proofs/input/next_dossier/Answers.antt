@@ -2,7 +2,7 @@ use Rattle.std.proofs.Common.{Ok, subst, ap, refl, ◌∙◌, arith}
 use Rattle.crew_terms.specs.Words.{words_of}
 use Rattle.crew_io.specs.Lines.{Advances}
 use Rattle.cert_checker.specs.Checked.{IsJudged}
-use Rattle.crew_cli.proofs.LineByLine.{ends_whole, fault_stops, goes_on, is_due, line_is_no_fault, opens_next, refuses, rose_from, starts, stays_refused, stop_is_fault, stop_opens, stops}
+use Rattle.crew_cli.proofs.LineByLine.{end_has_ended, ends_whole, fault_stops, goes_on, is_due, line_is_no_fault, opens_next, refuses, rose_from, starts, stays_refused, stop_is_fault, stop_opens, stops}
 use Rattle.crew_cli.proofs.input.next_dossier.Goals as goal
 
 pub lines-init : goal.lines-init
@@ -72,6 +72,8 @@ returns-in_default g c =
       next = stop_opens c.args.reader.now c.advance-progress.new.self c.lines.checker c.outcome_at_stop-outcome.new.checker c.advance-progress.result c.outcome_at_stop-outcome.result
           (s.due, is_due c.args.reader.now (g.S.Source.left c.args.src.now) c.args.checker.now c.lines.reader (g.S.Source.left c.lines.src) c.lines.checker s) c.outcome_at_stop-outcome.ensures;
       memory = tt;
+      ended = end_has_ended c.lines.reader c.advance-progress.new.self (g.S.Source.left c.lines.src) (g.S.Source.left c.advance-progress.new.src)
+          c.advance-progress.result c.lines.checker c.outcome_at_stop-outcome.new.checker c.outcome_at_stop-outcome.result a c.outcome_at_stop-outcome.ensures;
       fault = λ is.
           let e = stop_is_fault c.lines.checker c.outcome_at_stop-outcome.new.checker c.advance-progress.result c.outcome_at_stop-outcome.result c.in_default.not-Line c.outcome_at_stop-outcome.ensures is in
           rose_from _ _ _ c.lines.invariant.later (c.advance-progress.ensures.fault s.going.going e);
