@@ -7,7 +7,7 @@ use Rattle.std.proofs.lemmas.List.Concat.{flat_map-append}
 use Rattle.std.proofs.Math.Seq.{take-length}
 use Rattle.crew_terms.specs.Words.{line_text}
 use Rattle.crew_terms.specs.Instance.{Instance}
-use Rattle.crew_io.specs.Io.{Appended, AppendedPart}
+use Rattle.crew_io.specs.Io.{Appended, AppendedPart, HasEnded}
 use Rattle.crew_io.specs.Text.{TookAtMost, ReadsText}
 use Rattle.crew_io.specs.declared.text.Text.TheVariants as text_is
 use Rattle.dossier_terms.specs.Lines.{instance_text}
@@ -325,6 +325,14 @@ whole_memory (Some input) later got new bytes read wrote = (wrote.0, wrote.1, su
 pub whole_not_fine : (left later : Option (List ℕ)) (bytes : List ℕ) → ReadsText DAY left (text_is.Whole bytes) later → (IsFine command.Apply bytes → ⊥) → IfSome left (λ input. IsFine command.Apply input → ⊥)
 whole_not_fine None later bytes read not = tt
 whole_not_fine (Some input) later bytes read not = subst (λ x. IsFine command.Apply x → ⊥) read.0 not
+
+-- and nothing is left
+pub whole_ended : (left later : Option (List ℕ)) (bytes : List ℕ) → ReadsText DAY left (text_is.Whole bytes) later → HasEnded later
+whole_ended None later bytes read = subst HasEnded (sym read) tt
+whole_ended (Some input) later bytes read = subst HasEnded (sym read.1) refl
+
+pub refused_not_done : (answer : Status) → IsTrue (is_refused_or_write_fault answer) → answer ≡ status.Done → ⊥
+refused_not_done answer others done = absurd (let f = subst (λ s. IsTrue (is_refused_or_write_fault s)) done others in cc)
 
 -- nothing was written, and memory was wanting
 pub none_memory : (left got : Option (List ℕ)) → OfBytes left got got SaysFirstRounds

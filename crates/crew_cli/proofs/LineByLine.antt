@@ -5,7 +5,7 @@ use Rattle.std.proofs.lemmas.List.{map-append, length-map}
 use Rattle.std.proofs.lemmas.List.Concat.{flat_map-append}
 use Rattle.std.proofs.lemmas.List.Elements.{All-nil, All-push}
 use Rattle.crew_terms.specs.Words.{Words, IsLine, words_of, with_feed}
-use Rattle.crew_io.specs.Io.{Rose}
+use Rattle.crew_io.specs.Io.{HasEnded, Rose}
 use Rattle.crew_io.specs.Lines.{Reader, Advances, AnswersTold, Answers as Finds, IsPartial, rest_of, allowance}
 use Rattle.crew_io.specs.declared.lines.Progress.{Progress}
 use Rattle.crew_io.specs.declared.lines.Progress.TheVariants as progress
@@ -15,7 +15,7 @@ use Rattle.dossier_terms.specs.Lines.{lines_of, text_of}
 use Rattle.dossier_terms.specs.Reading.{Reading, Form, Said as Answer, More as Goes, Whole as Ends, No as Refuses}
 use Rattle.dossier_terms.specs.Table.{Says, Reaches, Ended}
 use Rattle.dossier_terms.specs.Accepted.{IsAccepted}
-use Rattle.cert_checker.specs.Checked.{Checked, IsDueAt, IsEnded, IsJudged, IsReached, IsTrueYes, IsWholeAt, StandsAfter, said_of, stop_reason_of, verdict_of}
+use Rattle.cert_checker.specs.Checked.{Checked, IsDueAt, IsEnded, IsJudged, IsOpen as IsDue, IsReached, IsTrueYes, IsWholeAt, StandsAfter, refused_at, said_of, stop_reason_of, verdict_of}
 use Rattle.cert_checker.specs.declared.checker.State.{State}
 use Rattle.cert_checker.specs.declared.checker.State.TheVariants as states
 use Rattle.cert_checker.specs.declared.checker.Verdict.{Verdict}
@@ -150,15 +150,15 @@ whole lines said at due ws verdict (Ends d) a e n is = (d, a, same_verdict verdi
     same_verdict v w e = cc
 whole lines said at due ws verdict (Refuses reason) a e n is = absurd (let f = sym is ∙ e in cc)
 
-refused_for : (lines : ℕ) (said : Said) (due : Reading) (ws : Words) (number : ℕ) (reason : Reason) (answer : Answer) → Says due ws answer → said ≡ said_of (lines + 1) answer
-    → said ≡ No number reason → Says due ws (Refuses reason) × (number ≡ lines + 1)
-refused_for lines said due ws number reason (Goes next) a e is = absurd (let f = sym is ∙ e in cc)
-refused_for lines said due ws number reason (Ends d) a e is = absurd (let f = sym is ∙ e in cc)
-refused_for lines said due ws number reason (Refuses r) a e is =
+refused_for : (lines : ℕ) (said : Said) (at : State) (due : Reading) (ws : Words) (number : ℕ) (reason : Reason) (answer : Answer) → Says due ws answer → said ≡ said_of (lines + 1) answer
+    → StandsAfter (lines + 1) answer at → said ≡ No number reason → Says due ws (Refuses reason) × (number ≡ lines + 1) × (at ≡ states.Refused number reason)
+refused_for lines said at due ws number reason (Goes next) a e n is = absurd (let f = sym is ∙ e in cc)
+refused_for lines said at due ws number reason (Ends d) a e n is = absurd (let f = sym is ∙ e in cc)
+refused_for lines said at due ws number reason (Refuses r) a e n is =
     let f = sym is ∙ e in
     let g : r ≡ reason = cc in
     let h : number ≡ lines + 1 = cc in
-    (subst (λ x. Says due ws (Refuses x)) g a, h)
+    (subst (λ x. Says due ws (Refuses x)) g a, h, n ∙ ap (λ x. states.Refused x r) (sym h) ∙ ap (λ x. states.Refused number x) g)
 
 -- one line more
 pub goes_on : (first : Reader) (left0 : Option (List ℕ)) (start : Checked) (old new : Reader) (left later : Option (List ℕ)) (checker next : Checked) (said : Said)
@@ -202,7 +202,7 @@ pub refuses : (first : Reader) (left0 : Option (List ℕ)) (start : Checked) (ol
 refuses first left0 start old new left later checker next said number reason s a j is input done b =
     let r = s.read input done b in
     let f = found input done old new left later progress.Line s.due checker.lines s.going.limit r a in
-    let g = refused_for checker.lines said s.due (words_of new.line) number reason j.answer j.is j.says is in
+    let g = refused_for checker.lines said next.at s.due (words_of new.line) number reason j.answer j.is j.says j.stands is in
     BadLine r.lines new.line f.0 s.due
     (record { text = r.read.text ∙ ap (λ x. text_before done r.lines ++ x) f.2.parts; within = r.read.within; good = r.read.good; each = r.read.each; leads = r.read.leads })
     f.2.plain f.2.fits g.0 (let n = r.number in let m = g.1 in omega arith)
@@ -294,18 +294,18 @@ module _ (first : Reader) (left0 : Option (List ℕ)) (start : Checked) (old new
       subst (λ w. IsRefusal input done (checker.lines + 1) (stop_reason_of w)) e
       (NoLine r.lines r.rest s.due r.read (Stops 0 f.0 refl) (λ x. more (not_over r x) (sym e)) (let n = r.number in omega arith))
 
-  stops_so : (answer : Progress) (outcome : Outcome) (after : Checked) → Advances old left answer new later → answer ≢ progress.Line → IsOutcomeAtStop checker answer outcome
+  stops_so : (answer : Progress) (outcome : Outcome) (after : Checked) → Advances old left answer new later → answer ≢ progress.Line → IsOutcomeAtStop checker answer after outcome
       → IsOutcome input done new later after outcome
-  stops_so answer outcome after a stopped (Over end ended is) =
+  stops_so answer outcome after a stopped (Over end ended same is) =
       let r = s.read input done b in
       let f = found input done old new left later answer s.due checker.lines s.going.limit r a in
       subst (IsOutcome input done new later after) (sym is)
       (accepts r ended (let g = subst (λ x. Finds (room_after done r.lines) r.rest x new.line f.0) end f.2 in g.0))
-  stops_so answer outcome after a stopped (Short why told more is) =
+  stops_so answer outcome after a stopped (Short why told more refused is) =
       let r = s.read input done b in
       let f = found input done old new left later answer s.due checker.lines s.going.limit r a in
       subst (IsOutcome input done new later after) (sym is) (falls_short r answer why told more f.0 f.2)
-  stops_so answer outcome after a stopped (Fault told is) =
+  stops_so answer outcome after a stopped (Fault told same is) =
       let r = s.read input done b in
       let f = found input done old new left later answer s.due checker.lines s.going.limit r a in
       let e = is_fault answer stopped told in
@@ -321,7 +321,7 @@ module _ (first : Reader) (left0 : Option (List ℕ)) (start : Checked) (old new
 
 pub stops : (first : Reader) (left0 : Option (List ℕ)) (start : Checked) (old new : Reader) (left later : Option (List ℕ)) (checker after : Checked) (answer : Progress) (outcome : Outcome)
     → ((lines : List Words) → Reaches Form lines Form → lines ≡ [])
-    → IsSoFar first left0 start old left checker → Advances old left answer new later → answer ≢ progress.Line → IsOutcomeAtStop checker answer outcome
+    → IsSoFar first left0 start old left checker → Advances old left answer new later → answer ≢ progress.Line → IsOutcomeAtStop checker answer after outcome
     → (input : List ℕ) (done : List Dossier) → IsBetween input done first left0 start.lines → IsOutcome input done new later after outcome
 stops first left0 start old new left later checker after answer outcome law s a stopped is input done b =
     stops_so first left0 start old new left later checker law s input done b answer outcome after a stopped is
@@ -381,37 +381,58 @@ opens_next first left0 start old new left later checker next said verdict s a j 
       (let x = s.grows in let h = a.handed in let n = length-append new.line (10 ∷ []) in let b = s.begun in omega arith),
     )
 
+-- a line that is refused stays so
+pub stays_refused : (old new : Reader) (checker next : Checked) (due : Reading) (ws : Words) (said : Said) (number : ℕ) (reason : Reason)
+    → IsJudged checker.lines due ws said next → said ≡ No number reason → OpensNext old new next (outcomes.No number reason)
+stays_refused old new checker next due ws said number reason j is = (refused_for checker.lines said next.at due ws number reason j.answer j.is j.says j.stands is).2
+
 pub no_none : (said : Said) → Some said ≡ None → ⊥
 no_none said e = cc
 
 -- the checker is told why no line comes, and refuses the one that is due
-pub stop_refuses : (checker : Checked) (answer : Progress) (why : Stop) (number : ℕ) (reason : Reason) → told_of answer ≡ Some why → (IsEnded checker.at → why ≡ stop.End 0 → ⊥)
-    → No number reason ≡ No (checker.lines + 1) (stop_reason_of why) → IsOutcomeAtStop checker answer (outcomes.No number reason)
-stop_refuses checker answer why number reason told more is =
+pub stop_refuses : (checker after : Checked) (answer : Progress) (why : Stop) (number : ℕ) (reason : Reason) → told_of answer ≡ Some why → (IsEnded checker.at → why ≡ stop.End 0 → ⊥)
+    → after ≡ refused_at checker (stop_reason_of why) → No number reason ≡ No (checker.lines + 1) (stop_reason_of why) → IsOutcomeAtStop checker answer after (outcomes.No number reason)
+stop_refuses checker after answer why number reason told more refused is =
     let n : number ≡ checker.lines + 1 = cc in
     let r : reason ≡ stop_reason_of why = cc in
-    Short why told more (ap (λ x. outcomes.No x reason) n ∙ ap (λ x. outcomes.No (checker.lines + 1) x) r)
+    Short why told more refused (ap (λ x. outcomes.No x reason) n ∙ ap (λ x. outcomes.No (checker.lines + 1) x) r)
 
 -- only a fault of the source stops a reading without a line that is refused and without an end
-pub stop_is_fault : (checker : Checked) (answer : Progress) (outcome : Outcome) → answer ≢ progress.Line → IsOutcomeAtStop checker answer outcome → outcome ≡ outcomes.ReadFault → answer ≡ progress.ReadFault
-stop_is_fault checker answer outcome stopped (Over end ended is) e = absurd (let f = sym is ∙ e in cc)
-stop_is_fault checker answer outcome stopped (Short why told more is) e = absurd (let f = sym is ∙ e in cc)
-stop_is_fault checker answer outcome stopped (Fault told is) e = is_fault answer stopped told
+pub stop_is_fault : (checker after : Checked) (answer : Progress) (outcome : Outcome) → answer ≢ progress.Line → IsOutcomeAtStop checker answer after outcome → outcome ≡ outcomes.ReadFault → answer ≡ progress.ReadFault
+stop_is_fault checker after answer outcome stopped (Over end ended same is) e = absurd (let f = sym is ∙ e in cc)
+stop_is_fault checker after answer outcome stopped (Short why told more refused is) e = absurd (let f = sym is ∙ e in cc)
+stop_is_fault checker after answer outcome stopped (Fault told same is) e = is_fault answer stopped told
 
 -- and a fault of the source stops it
-pub fault_stops : (checker : Checked) (answer : Progress) (outcome : Outcome) → IsOutcomeAtStop checker answer outcome → answer ≡ progress.ReadFault → outcome ≡ outcomes.ReadFault
-fault_stops checker answer outcome (Over end ended is) e = absurd (let f = sym end ∙ e in cc)
-fault_stops checker answer outcome (Short why told more is) e = absurd (let f = sym told ∙ ap told_of e in cc)
-fault_stops checker answer outcome (Fault told is) e = is
+pub fault_stops : (checker after : Checked) (answer : Progress) (outcome : Outcome) → IsOutcomeAtStop checker answer after outcome → answer ≡ progress.ReadFault → outcome ≡ outcomes.ReadFault
+fault_stops checker after answer outcome (Over end ended same is) e = absurd (let f = sym end ∙ e in cc)
+fault_stops checker after answer outcome (Short why told more refused is) e = absurd (let f = sym told ∙ ap told_of e in cc)
+fault_stops checker after answer outcome (Fault told same is) e = is
+
+-- at the end nothing is left in the source, where it tells its bytes
+none_left : (allowed : ℕ) (rest : Option (List ℕ)) (answer : Progress) (new : Reader) (later : Option (List ℕ)) → AnswersTold allowed rest answer new.line (rest_of new later) → answer ≡ progress.End 0
+    → HasEnded later
+none_left allowed rest answer new None told end = tt
+none_left allowed None answer new (Some unseen) told end = absurd (cc)
+none_left allowed (Some rest) answer new (Some unseen) told end =
+    let f = subst (λ x. Finds allowed rest x new.line told.0) end told.2 in
+    let e : new.held ++ unseen ≡ rest = (let x = told.1 in let y = f.1 in cc) in
+    no_bytes unseen (let p = f.0.count in let m = ap length e in let n = length-append new.held unseen in omega arith)
+
+pub end_has_ended : (old new : Reader) (left later : Option (List ℕ)) (answer : Progress) (checker after : Checked) (outcome : Outcome)
+    → Advances old left answer new later → IsOutcomeAtStop checker answer after outcome → outcome ≡ outcomes.End → HasEnded later
+end_has_ended old new left later answer checker after outcome a (Over end ended same is) e = none_left (allowance old) (rest_of old left) answer new later a.rest end
+end_has_ended old new left later answer checker after outcome a (Short why told more refused is) e = absurd (let f = sym is ∙ e in cc)
+end_has_ended old new left later answer checker after outcome a (Fault told same is) e = absurd (let f = sym is ∙ e in cc)
 
 pub line_is_no_fault : (answer : Progress) → answer ≡ progress.Line → answer ≡ progress.ReadFault → ⊥
 line_is_no_fault answer line fault = let e = sym line ∙ fault in cc
 
--- and only a dossier's end lets the reader go on
-pub stop_opens : (old new : Reader) (checker after : Checked) (answer : Progress) (outcome : Outcome) → IsOutcomeAtStop checker answer outcome → OpensNext old new after outcome
-stop_opens old new checker after answer outcome (Over end ended is) = subst (OpensNext old new after) (sym is) tt
-stop_opens old new checker after answer outcome (Short why told more is) = subst (OpensNext old new after) (sym is) tt
-stop_opens old new checker after answer outcome (Fault told is) = subst (OpensNext old new after) (sym is) tt
+-- where the checker stands then, at which a line was due
+pub stop_opens : (old new : Reader) (checker after : Checked) (answer : Progress) (outcome : Outcome) → IsDue checker.at → IsOutcomeAtStop checker answer after outcome → OpensNext old new after outcome
+stop_opens old new checker after answer outcome due (Over end ended same is) = subst (OpensNext old new after) (sym is) (subst (λ c. IsEnded c.at) (sym same) ended)
+stop_opens old new checker after answer outcome due (Short why told more refused is) = subst (OpensNext old new after) (sym is) (ap (λ c. c.at) refused)
+stop_opens old new checker after answer outcome due (Fault told same is) = subst (OpensNext old new after) (sym is) (subst (λ c. IsDue c.at) (sym same) due)
 
 pub rose_from : (a b c : ℕ) → a ≤ b → Rose b c → Rose a c
 rose_from a b c le (inl l) = inl (omega arith)

@@ -8,7 +8,6 @@ use Rattle.crew_io.specs.Io.{Appended, AppendedPart}
 use Rattle.crew_io.specs.Lines.{Reader, fresh_reader, rest_of}
 use Rattle.dossier_terms.specs.declared.Reason.{Reason}
 use Rattle.dossier_terms.specs.Dossier.{Dossier}
-use Rattle.dossier_terms.specs.Lines.{text_of}
 use Rattle.dossier_terms.specs.Reading.{Form}
 use Rattle.dossier_terms.specs.Texts.{yes_line, no_line}
 use Rattle.dossier_terms.specs.Accepted.{IsAccepted}
@@ -127,6 +126,14 @@ yes_lines_none (Some input) got = (
   record { dossiers = []; rest = input; read = none_read input; yes_lines = refl; each = All-nil IsTrueYes },
 )
 
+pub front_none : (left got : Option (List ℕ)) → OfBytes left got got SaysFront
+front_none None got = tt
+front_none (Some input) got = (
+  [],
+  appended_none got,
+  record { dossiers = []; rest = input; read = none_read input; each = All-nil IsTrueYes; part = []; lines = refl; next = Nothing refl },
+)
+
 -- no more was written
 pub front_so_far : (left0 got0 : Option (List ℕ)) (reader : Reader) (left got : Option (List ℕ)) (count : ℕ)
     → HasSaidOf left0 got0 reader left got count → OfBytes left0 got0 got SaysFront
@@ -137,7 +144,7 @@ front_so_far (Some input) got0 reader left got count so = (
   record {
     dossiers = so.done;
     rest = so.between.rest;
-    text = so.between.read.text ∙ ap (λ x. x ++ so.between.rest) (append-nil (flat_map text_of so.done));
+    read = so.between.read;
     each = so.each;
     part = [];
     lines = sym (append-nil (flat_map yes_line so.done));
@@ -193,18 +200,17 @@ front_yes (Some input) got0 old new left later got added count more verdict next
     let n = next input so.done so.between in
     let d = n.dossier in
     let b = n.between in
-    let w = appended_front got0 got added (flat_map yes_line so.done) (yes_line d) so.written (subst (λ v. AppendedPart got added (verdict_line v)) n.says wrote) in
-    let text : input ≡ flat_map text_of (so.done ++ d ∷ []) ++ b.rest = b.read.text ∙ ap (λ x. x ++ b.rest) (append-nil (flat_map text_of (so.done ++ d ∷ []))) in (
+    let w = appended_front got0 got added (flat_map yes_line so.done) (yes_line d) so.written (subst (λ v. AppendedPart got added (verdict_line v)) n.says wrote) in (
       flat_map yes_line so.done ++ take w.0 (yes_line d),
       w.1,
       record {
         dossiers = so.done;
         rest = so.between.rest;
-        text = so.between.read.text ∙ ap (λ x. x ++ so.between.rest) (append-nil (flat_map text_of so.done));
+        read = so.between.read;
         each = so.each;
         part = take w.0 (yes_line d);
         lines = refl;
-        next = YesFront d b.rest text n.true_yes w.0 refl;
+        next = YesFront d b.rest b.read n.true_yes w.0 refl;
       },
     )
 
@@ -220,7 +226,7 @@ front_no (Some input) got0 reader left got added count number reason refused wro
       record {
         dossiers = so.done;
         rest = so.between.rest;
-        text = so.between.read.text ∙ ap (λ x. x ++ so.between.rest) (append-nil (flat_map text_of so.done));
+        read = so.between.read;
         each = so.each;
         part = take w.0 (no_line number reason);
         lines = refl;

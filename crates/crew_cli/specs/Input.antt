@@ -12,7 +12,8 @@ use Rattle.dossier_terms.specs.Lines.{lines_of, text_of}
 use Rattle.dossier_terms.specs.Reading.{Reading, No as Refuses, Form}
 use Rattle.dossier_terms.specs.Table.{Says, Reaches}
 use Rattle.dossier_terms.specs.Accepted.{IsAccepted}
-use Rattle.cert_checker.specs.Checked.{Checked, IsEnded, IsTrueYes, fresh_checker, stop_reason_of, verdict_of}
+use Rattle.cert_checker.specs.Checked.{Checked, IsEnded, IsOpen as IsDue, IsTrueYes, fresh_checker, refused_at, stop_reason_of, verdict_of}
+use Rattle.cert_checker.specs.declared.checker.State.TheVariants.{Refused}
 use Rattle.cert_checker.specs.declared.checker.Verdict.{Verdict}
 use Rattle.cert_checker.specs.declared.checker.Stop.{Stop}
 use Rattle.cert_checker.specs.declared.checker.Stop.TheVariants as stops
@@ -109,12 +110,12 @@ told_of progress.TooMuch = Some stops.TooMuch
 told_of (progress.End partial) = Some (stops.End partial)
 told_of progress.ReadFault = None
 
--- the outcome where no line comes whole
-pub data IsOutcomeAtStop (checker : Checked) (answer : Progress) (outcome : Outcome) : Type 0 where
-  Over : (end : answer ≡ progress.End 0) (ended : IsEnded checker.at) (is : outcome ≡ End) → IsOutcomeAtStop checker answer outcome
-  Short : (why : Stop) (told : told_of answer ≡ Some why) (more : IsEnded checker.at → why ≡ stops.End 0 → ⊥)
-      (is : outcome ≡ No (checker.lines + 1) (stop_reason_of why)) → IsOutcomeAtStop checker answer outcome
-  Fault : (told : told_of answer ≡ None) (is : outcome ≡ ReadFault) → IsOutcomeAtStop checker answer outcome
+-- the outcome where no line comes whole, and the checker before and after
+pub data IsOutcomeAtStop (old : Checked) (answer : Progress) (new : Checked) (outcome : Outcome) : Type 0 where
+  Over : (end : answer ≡ progress.End 0) (ended : IsEnded old.at) (same : new ≡ old) (is : outcome ≡ End) → IsOutcomeAtStop old answer new outcome
+  Short : (why : Stop) (told : told_of answer ≡ Some why) (more : IsEnded old.at → why ≡ stops.End 0 → ⊥)
+      (refused : new ≡ refused_at old (stop_reason_of why)) (is : outcome ≡ No (old.lines + 1) (stop_reason_of why)) → IsOutcomeAtStop old answer new outcome
+  Fault : (told : told_of answer ≡ None) (same : new ≡ old) (is : outcome ≡ ReadFault) → IsOutcomeAtStop old answer new outcome
 
 -- the next dossier is whole, of which this is said, and it is so
 pub record IsNext (input : List ℕ) (done : List Dossier) (verdict : Verdict) (reader : Reader) (left : Option (List ℕ)) (count : ℕ) : Type 0 where
@@ -130,9 +131,10 @@ IsOutcome input done reader left checker End = IsAccepted input done
 IsOutcome input done reader left checker (No line reason) = IsRefusal input done line reason
 IsOutcome input done reader left checker ReadFault = IsInterrupted input done reader left
 
--- after a dossier the reader and the checker can go on, and more was handed out; after nothing else
+-- after a dossier the reader and the checker can go on, and more was handed out; at the end the checker's last dossier
+-- is still whole, a line that is refused stays so, and behind a read that failed a line is due still
 abbrev pub OpensNext : Reader → Reader → Checked → Outcome → Type 0
 OpensNext old new checker (Yes verdict) = IsOpen new checker × (old.handed < new.handed)
-OpensNext old new checker End = Unit {0}
-OpensNext old new checker (No line reason) = Unit {0}
-OpensNext old new checker ReadFault = Unit {0}
+OpensNext old new checker End = IsEnded checker.at
+OpensNext old new checker (No line reason) = checker.at ≡ Refused line reason
+OpensNext old new checker ReadFault = IsDue checker.at

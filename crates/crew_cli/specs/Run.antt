@@ -5,7 +5,6 @@ use Rattle.crew_io.specs.Io.{Appended}
 use Rattle.crew_io.specs.Lines.{IsPartial}
 use Rattle.dossier_terms.specs.declared.Reason.{Reason}
 use Rattle.dossier_terms.specs.Dossier.{Dossier}
-use Rattle.dossier_terms.specs.Lines.{text_of}
 use Rattle.dossier_terms.specs.Texts.{yes_line, no_line}
 use Rattle.dossier_terms.specs.Reading.{Reading, Form}
 use Rattle.dossier_terms.specs.Accepted.{IsAccepted}
@@ -44,7 +43,7 @@ pub record SaysNo (input written : List ℕ) : Type 0 where
 -- what stands behind whole yes lines: nothing, or the front of the line that is due there
 pub data IsLineFront (input : List ℕ) (dossiers : List Dossier) (part : List ℕ) : Type 0 where
   Nothing : (is : part ≡ []) → IsLineFront input dossiers part
-  YesFront : (d : Dossier) (rest : List ℕ) (text : input ≡ flat_map text_of (dossiers ++ d ∷ []) ++ rest) (true_yes : IsTrueYes d)
+  YesFront : (d : Dossier) (rest : List ℕ) (read : HasRead input (dossiers ++ d ∷ []) [] rest Form) (true_yes : IsTrueYes d)
       (n : ℕ) (is : part ≡ take n (yes_line d)) → IsLineFront input dossiers part
   NoFront : (number : ℕ) (reason : Reason) (refusal : IsRefusal input dossiers number reason)
       (n : ℕ) (is : part ≡ take n (no_line number reason)) → IsLineFront input dossiers part
@@ -53,7 +52,7 @@ pub data IsLineFront (input : List ℕ) (dossiers : List Dossier) (part : List �
 pub record SaysFront (input written : List ℕ) : Type 0 where
   pub dossiers : List Dossier
   pub rest : List ℕ
-  pub text : input ≡ flat_map text_of dossiers ++ rest
+  pub read : HasRead input dossiers [] rest Form
   pub each : All IsTrueYes dossiers
   pub part : List ℕ
   pub lines : written ≡ flat_map yes_line dossiers ++ part

@@ -1,6 +1,6 @@
 // The instance of each round of a day.
 ghost use Rattle.std.specs.Prelude.{◌≡◌, ◌≢◌, ◌≤◌, ◌↔◌, length, List, ℕ, None, Ok, IfOk, IfSome, OnErr, IsTrue, All};
-ghost use Rattle.crew_io.specs.Io.{Appended, AppendedPart, Rose};
+ghost use Rattle.crew_io.specs.Io.{Appended, AppendedPart, HasEnded, Rose};
 ghost use Rattle.dossier_terms.specs.Lines.{instance_text};
 ghost use Rattle.day_terms.specs.Ranges.{IsInRange};
 ghost use Rattle.crew_cli.specs.Applied.{IsApplied, IsDay, Wrote, is_taken_or_write_fault, is_refused_or_write_fault, is_of_day};
@@ -159,6 +159,7 @@ pub(crate) fn apply<S: Source, K: Sink>(
     ensures says { IfOk result (λ status. OfBytes (S.left src.old) (K.got out.old) (K.got out.new) (Says command.Apply status (S.left src.new))) }
     ensures memory { OnErr result (OfBytes (S.left src.old) (K.got out.old) (K.got out.new) SaysFirstRounds) }
     ensures refused { IfOk result (λ status. status ≡ Status.Refused → IfSome (S.left src.old) (λ input. IsFine command.Apply input → ⊥)) }
+    ensures ended { IfOk result (λ status. status ≡ Status.Done → HasEnded (S.left src.new)) }
     ensures others { IfOk result (λ status. (status ≢ Status.Words) × (status ≢ Status.No) × (status ≢ Status.Memory)) }
     ensures read_fault { IfOk result (λ status. status ≡ Status.ReadFault → Rose (S.faults src.old) (S.faults src.new)) }
     ensures write_fault { IfOk result (λ status. status ≡ Status.WriteFault → Rose (K.faults out.old) (K.faults out.new)) }

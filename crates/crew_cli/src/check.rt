@@ -1,6 +1,6 @@
 // A check of dossiers, one after another.
 ghost use Rattle.std.specs.Prelude.{◌≡◌, ◌≢◌, ◌≤◌, ◌^◌, Ok, IfOk, OnErr, IsTrue};
-ghost use Rattle.crew_io.specs.Io.{Appended, AppendedPart, Rose};
+ghost use Rattle.crew_io.specs.Io.{Appended, AppendedPart, HasEnded, Rose};
 ghost use Rattle.crew_io.specs.Lines.{fresh_reader};
 ghost use Rattle.dossier_terms.specs.Texts.{no_line};
 ghost use Rattle.cert_checker.specs.Checked.{fresh_checker};
@@ -30,6 +30,7 @@ pub(crate) fn check<S: Source, K: Sink>(
     ensures interrupted { IfOk result (λ status. status ≡ Status.ReadFault
         → OfBytes (S.left src.old) (K.got out.old) (K.got out.new) (SaysReadFault (S.left src.new))) }
     ensures memory { OnErr result (OfBytes (S.left src.old) (K.got out.old) (K.got out.new) SaysYesLines) }
+    ensures ended { IfOk result (λ status. status ≡ Status.Done → HasEnded (S.left src.new)) }
     ensures others { IfOk result (λ status. (status ≢ Status.Words) × (status ≢ Status.Refused) × (status ≢ Status.Memory)) }
     ensures read_fault { IfOk result (λ status. status ≡ Status.ReadFault → Rose (S.faults src.old) (S.faults src.new)) }
     ensures write_fault { IfOk result (λ status. status ≡ Status.WriteFault → Rose (K.faults out.old) (K.faults out.new)) }
@@ -63,6 +64,7 @@ fn check_all<S: Source, K: Sink>(
     ensures interrupted { IfOk result (λ status. status ≡ Status.ReadFault
         → OfBytes (S.left src.old) (K.got out.old) (K.got out.new) (SaysReadFault (S.left src.new))) }
     ensures memory { OnErr result (OfBytes (S.left src.old) (K.got out.old) (K.got out.new) SaysYesLines) }
+    ensures ended { IfOk result (λ status. status ≡ Status.Done → HasEnded (S.left src.new)) }
     ensures others { IfOk result (λ status. (status ≢ Status.Words) × (status ≢ Status.Refused) × (status ≢ Status.Memory)) }
     ensures read_fault { IfOk result (λ status. status ≡ Status.ReadFault → Rose (S.faults src.old) (S.faults src.new)) }
     ensures write_fault { IfOk result (λ status. status ≡ Status.WriteFault → Rose (K.faults out.old) (K.faults out.new)) }

@@ -1,6 +1,6 @@
 // An input, dossier by dossier and line by line.
 ghost use Rattle.std.specs.Prelude.{◌≡◌, ◌≢◌, ◌≤◌, ℕ, List, Ok, IfOk, OnErr};
-ghost use Rattle.crew_io.specs.Io.{Rose};
+ghost use Rattle.crew_io.specs.Io.{HasEnded, Rose};
 ghost use Rattle.dossier_terms.specs.Dossier.{Dossier};
 ghost use Rattle.cert_checker.specs.Checked.{IsOpen as IsDue};
 ghost use Rattle.cert_checker.specs.declared.checker.State.TheVariants as state;
@@ -44,7 +44,7 @@ fn stop_of(progress: Progress) -> Option<Stop>
 /// The outcome where no line comes whole.
 fn outcome_at_stop(checker: &mut Checker, progress: Progress) -> Outcome
     requires { IsDue checker.old.at }
-    ensures { IsOutcomeAtStop checker.old progress result }
+    ensures { IsOutcomeAtStop checker.old progress checker.new result }
 {
     let Some(why) = stop_of(progress) else {
         return Outcome::ReadFault;
@@ -67,6 +67,7 @@ pub fn next_dossier<S: Source>(
         → IsOutcome input done reader.new (S.left src.new) checker.new outcome) }
     ensures next { IfOk result (OpensNext reader.old reader.new checker.new) }
     ensures memory { OnErr result (checker.new.at ≡ state.Spent) }
+    ensures ended { IfOk result (λ outcome. outcome ≡ Outcome.End → HasEnded (S.left src.new)) }
     ensures fault { IfOk result (λ outcome. outcome ≡ Outcome.ReadFault → Rose (S.faults src.old) (S.faults src.new)) }
     ensures told { result ≢ Ok Outcome.ReadFault → S.faults src.new ≡ S.faults src.old }
     ensures later { S.faults src.old ≤ S.faults src.new }

@@ -1,6 +1,6 @@
 // The top call.
 ghost use Rattle.std.specs.Prelude.{◌≡◌, ◌≢◌, ◌≤◌, ◌↔◌, ◌⊎◌, [], ◌∷◌, map, string_bytes, IfSome, IsTrue, MatchOption};
-ghost use Rattle.crew_io.specs.Io.{Rose};
+ghost use Rattle.crew_io.specs.Io.{HasEnded, Rose};
 ghost use Rattle.crew_cli.specs.Run.{OfBytes, AskFor, Says, IsFine, ends_with};
 
 use crate::apply::apply;
@@ -46,6 +46,7 @@ fn answer<S: Source, K: Sink>(alloc: Global, command: Command, src: &mut S, out:
     ensures says { OfBytes (S.left src.old) (K.got out.old) (K.got out.new) (Says command result (S.left src.new)) }
     ensures part { OfBytes (S.left src.old) (K.got out.old) (K.got out.new) (Says command Status.WriteFault (S.left src.new)) }
     ensures ends { IsTrue (ends_with command result) }
+    ensures ended { result ≡ Status.Done → HasEnded (S.left src.new) }
     ensures read_fault { result ≡ Status.ReadFault → Rose (S.faults src.old) (S.faults src.new) }
     ensures write_fault { result ≡ Status.WriteFault → Rose (K.faults out.old) (K.faults out.new) }
     ensures read_told { result ≢ Status.ReadFault → S.faults src.new ≡ S.faults src.old }
@@ -81,6 +82,9 @@ pub fn run<S: Source, K: Sink>(alloc: Global, words: &[String], src: &mut S, out
 
     // Each command ends with one of its own statuses, whatever the source and the sink tell.
     ensures ends { (command : Command) → AskFor command (map (λ w. string_bytes w) words.now) → IsTrue (ends_with command result) }
+
+    // What is done was read to its end.
+    ensures ended { result ≡ Status.Done → HasEnded (S.left src.new) }
 
     // Without a write fault, all that was written is passed on.
     ensures flushed { result ≢ Status.Words → result ≢ Status.WriteFault → K.held out.new ≡ [] }

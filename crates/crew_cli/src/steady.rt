@@ -1,5 +1,5 @@
 // The top call over sources and sinks in memory, and over such as do not fail.
-ghost use Rattle.std.specs.Prelude.{◌≡◌, ◌≢◌, ◌↔◌, ◌⊎◌, ◌++◌, ℕ, List, Some, [], length, map, string_bytes};
+ghost use Rattle.std.specs.Prelude.{◌≡◌, ◌≢◌, ◌≤◌, ◌↔◌, ◌⊎◌, ◌++◌, ℕ, List, Some, [], length, map, string_bytes};
 ghost use Rattle.crew_io.specs.Io.{Rose};
 ghost use Rattle.crew_cli.specs.Run.{AskFor, Says, IsFine};
 ghost use Rattle.crew_cli.specs.declared.run.Command.{Command};
@@ -27,6 +27,7 @@ pub fn run_steady(
 
     ensures words { (result ≡ Status.Words) ↔ ((command : Command) → AskFor command (map (λ w. string_bytes w) words.now) → ⊥) }
     ensures untouched { result ≡ Status.Words → src.new ≡ src.old }
+    ensures ended { result ≡ Status.Done → src.new.left ≡ [] }
     ensures reads { result ≢ Status.ReadFault }
     ensures writes { result ≢ Status.WriteFault }
 {
@@ -47,6 +48,7 @@ pub fn run_in_memory(
 
     ensures words { (result ≡ Status.Words) ↔ ((command : Command) → AskFor command (map (λ w. string_bytes w) words.now) → ⊥) }
     ensures untouched { result ≡ Status.Words → (src.new ≡ src.old) × (out.new ≡ out.old) }
+    ensures ended { result ≡ Status.Done → src.new.left ≡ [] }
 
     // No fault is told where no call is due to fail, of the sink while room is left.
     ensures reads { src.old.fails ≡ [] → result ≢ Status.ReadFault }
@@ -63,6 +65,10 @@ pub fn run_in_memory(
     ensures write_fault { result ≡ Status.WriteFault → Rose out.old.faults out.new.faults }
     ensures read_told { result ≢ Status.ReadFault → result ≢ Status.WriteFault → src.new.faults ≡ src.old.faults }
     ensures write_told { result ≢ Status.WriteFault → out.new.faults ≡ out.old.faults }
+    ensures read_says { (command : Command) → AskFor command (map (λ w. string_bytes w) words.now) → src.new.faults ≢ src.old.faults
+        → (written : List ℕ) × (out.new.got ≡ out.old.got ++ written) × Says command Status.ReadFault (Some src.new.left) src.old.left written }
+    ensures source_later { src.old.faults ≤ src.new.faults }
+    ensures sink_later { out.old.faults ≤ out.new.faults }
 {
     one_reading();
     run(alloc, words, src, out)

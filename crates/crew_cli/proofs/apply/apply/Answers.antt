@@ -5,7 +5,7 @@ use Rattle.crew_cli.specs.Rounds.{DAY, SaysFirstRounds}
 use Rattle.crew_cli.specs.Run.{Says, IsFine}
 use Rattle.crew_cli.specs.declared.run.Command.TheVariants as command
 use Rattle.crew_cli.proofs.Said.{on_err}
-use Rattle.crew_cli.proofs.Applies.{whole_says, whole_memory, whole_not_fine, none_memory, long_says, long_not_fine, fault_says}
+use Rattle.crew_cli.proofs.Applies.{refused_not_done, whole_ended, whole_says, whole_memory, whole_not_fine, none_memory, long_says, long_not_fine, fault_says}
 use Rattle.crew_cli.proofs.apply.apply.Goals as goal
 
 pub returns-in_err-text-clause-memory : goal.returns-in_err-text-clause-memory
@@ -56,3 +56,12 @@ returns-in-ReadFault-clause-says g c =
     let left = g.S.Source.left c.args.src.now in
     let later = g.S.Source.left c.read_text.new.src in
     fault_says left later (g.K.Sink.got c.args.out.now) (subst (λ t. ReadsText DAY left t later) c.in-ReadFault.is c.in_ok-text.ensures.reads)
+
+pub returns-in_ok-status-in-Whole-clause-ended : goal.returns-in_ok-status-in-Whole-clause-ended
+returns-in_ok-status-in-Whole-clause-ended g c = λ _.
+    let left = g.S.Source.left c.args.src.now in
+    let later = g.S.Source.left c.read_text.new.src in
+    whole_ended left later c.in-Whole.text (subst (λ t. ReadsText DAY left t later) c.in-Whole.is c.in_ok-text.ensures.reads)
+
+pub returns-in-TooLong-clause-ended : goal.returns-in-TooLong-clause-ended
+returns-in-TooLong-clause-ended g c = λ is. absurd (refused_not_done c.refuse.result c.refuse.ensures.others is)

@@ -40,6 +40,9 @@ returns-in-End-clause-done g c = λ _.
     (λ input done b. subst (IsOutcome input done c.next_dossier.new.reader (g.S.Source.left c.next_dossier.new.src) c.next_dossier.new.checker) c.in-End.is (c.in_ok-verdict.ensures.outcome input done b))
     c.dossiers.invariant.so_far
 
+pub returns-in-End-clause-ended : goal.returns-in-End-clause-ended
+returns-in-End-clause-ended g c = λ _. c.in_ok-verdict.ensures.ended c.in-End.is
+
 pub returns-in-No-clause-no : goal.returns-in-No-clause-no
 returns-in-No-clause-no g c = λ is.
     says_no (g.S.Source.left c.args.src.now) (g.K.Sink.got c.args.out.now) c.dossiers.reader (g.S.Source.left c.dossiers.src) (g.K.Sink.got c.dossiers.out) (g.K.Sink.got c.refuse.new.out)

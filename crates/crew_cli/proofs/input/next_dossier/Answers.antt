@@ -2,7 +2,7 @@ use Rattle.std.proofs.Common.{Ok, subst, ap, refl, ◌∙◌, arith}
 use Rattle.crew_terms.specs.Words.{words_of}
 use Rattle.crew_io.specs.Lines.{Advances}
 use Rattle.cert_checker.specs.Checked.{IsJudged}
-use Rattle.crew_cli.proofs.LineByLine.{ends_whole, fault_stops, goes_on, is_due, line_is_no_fault, opens_next, refuses, rose_from, starts, stop_is_fault, stop_opens, stops}
+use Rattle.crew_cli.proofs.LineByLine.{end_has_ended, ends_whole, fault_stops, goes_on, is_due, line_is_no_fault, opens_next, refuses, rose_from, starts, stays_refused, stop_is_fault, stop_opens, stops}
 use Rattle.crew_cli.proofs.input.next_dossier.Goals as goal
 
 pub lines-init : goal.lines-init
@@ -36,6 +36,13 @@ returns-in-No-clause-outcome g c =
     refuses c.args.reader.now (g.S.Source.left c.args.src.now) c.args.checker.now c.lines.reader c.advance-progress.new.self (g.S.Source.left c.lines.src) (g.S.Source.left c.advance-progress.new.src)
     c.lines.checker c.line-in-lines.new.self c.in_ok-said.said c.in-No.line c.in-No.reason s a judged c.in-No.is
 
+pub returns-in-No-clause-next : goal.returns-in-No-clause-next
+returns-in-No-clause-next g c =
+    let s = c.lines.invariant.so_far in
+    let due = is_due c.args.reader.now (g.S.Source.left c.args.src.now) c.args.checker.now c.lines.reader (g.S.Source.left c.lines.src) c.lines.checker s in
+    stays_refused c.args.reader.now c.advance-progress.new.self c.lines.checker c.line-in-lines.new.self s.due _ c.in_ok-said.said c.in-No.line c.in-No.reason
+    (c.in_ok-said.ensures.judged s.due s.reached due) c.in-No.is
+
 pub returns-in-Whole-clause-outcome : goal.returns-in-Whole-clause-outcome
 returns-in-Whole-clause-outcome g c =
     let s = c.lines.invariant.so_far in
@@ -62,16 +69,19 @@ returns-in_default g c =
     record {
       outcome = stops c.args.reader.now (g.S.Source.left c.args.src.now) c.args.checker.now c.lines.reader c.advance-progress.new.self (g.S.Source.left c.lines.src) (g.S.Source.left c.advance-progress.new.src)
           c.lines.checker c.outcome_at_stop-outcome.new.checker c.advance-progress.result c.outcome_at_stop-outcome.result c.first_line_is_first.ensures s a c.in_default.not-Line c.outcome_at_stop-outcome.ensures;
-      next = stop_opens c.args.reader.now c.advance-progress.new.self c.lines.checker c.outcome_at_stop-outcome.new.checker c.advance-progress.result c.outcome_at_stop-outcome.result c.outcome_at_stop-outcome.ensures;
+      next = stop_opens c.args.reader.now c.advance-progress.new.self c.lines.checker c.outcome_at_stop-outcome.new.checker c.advance-progress.result c.outcome_at_stop-outcome.result
+          (s.due, is_due c.args.reader.now (g.S.Source.left c.args.src.now) c.args.checker.now c.lines.reader (g.S.Source.left c.lines.src) c.lines.checker s) c.outcome_at_stop-outcome.ensures;
       memory = tt;
+      ended = end_has_ended c.lines.reader c.advance-progress.new.self (g.S.Source.left c.lines.src) (g.S.Source.left c.advance-progress.new.src)
+          c.advance-progress.result c.lines.checker c.outcome_at_stop-outcome.new.checker c.outcome_at_stop-outcome.result a c.outcome_at_stop-outcome.ensures;
       fault = λ is.
-          let e = stop_is_fault c.lines.checker c.advance-progress.result c.outcome_at_stop-outcome.result c.in_default.not-Line c.outcome_at_stop-outcome.ensures is in
+          let e = stop_is_fault c.lines.checker c.outcome_at_stop-outcome.new.checker c.advance-progress.result c.outcome_at_stop-outcome.result c.in_default.not-Line c.outcome_at_stop-outcome.ensures is in
           rose_from _ _ _ c.lines.invariant.later (c.advance-progress.ensures.fault s.going.going e);
       later = let x = c.lines.invariant.later in let y = c.advance-progress.ensures.later in omega (arith, x, y);
-      told = λ no. c.advance-progress.ensures.told (λ e. no (ap Ok (fault_stops c.lines.checker c.advance-progress.result c.outcome_at_stop-outcome.result c.outcome_at_stop-outcome.ensures e))) ∙ c.lines.invariant.told;
+      told = λ no. c.advance-progress.ensures.told (λ e. no (ap Ok (fault_stops c.lines.checker c.outcome_at_stop-outcome.new.checker c.advance-progress.result c.outcome_at_stop-outcome.result c.outcome_at_stop-outcome.ensures e))) ∙ c.lines.invariant.told;
       steady = λ h.
           let t = c.advance-progress.ensures.steady s.going.going (c.lines.invariant.steady h) in
-          (t.0, λ is. t.1 (stop_is_fault c.lines.checker c.advance-progress.result c.outcome_at_stop-outcome.result c.in_default.not-Line c.outcome_at_stop-outcome.ensures is));
+          (t.0, λ is. t.1 (stop_is_fault c.lines.checker c.outcome_at_stop-outcome.new.checker c.advance-progress.result c.outcome_at_stop-outcome.result c.in_default.not-Line c.outcome_at_stop-outcome.ensures is));
     }
 
 pub returns-in_err-said-clause-told : goal.returns-in_err-said-clause-told
