@@ -1,4 +1,4 @@
-// The lines that are written: `yes` for a good dossier, `no` for the first line that is refused; and lines of three words.
+// The lines that are written: `yes` for a good dossier, `no` for the first line that is refused.
 ghost use Rattle.std.specs.Prelude.{◌≡◌, ◌≤◌, [], ◌∷◌, OnOk, OnErr, IsErr};
 ghost use Rattle.std.specs.Fmt.{decimal};
 ghost use Rattle.crew_terms.specs.Words.{line_text};
