@@ -1,5 +1,5 @@
 -- the lines of a leaf's numbers and the line `end`: what is kept behind them
-use Rattle.std.proofs.Common.{◌≡◌, List, Bool, true, false, ap, subst, sym, refl, ◌∙◌, eqb, ◌&&◌}
+use Rattle.std.proofs.Common.{◌≡◌, ℕ, List, Bool, true, false, ap, subst, sym, refl, ◌∙◌, eqb, ◌&&◌}
 use Rattle.std.specs.Prelude.{if◌then◌else◌}
 use Rattle.std.specs.Global.{Box}
 use Rattle.std.specs.Box.{with_value}
@@ -9,23 +9,24 @@ use Rattle.crew_terms.specs.Limits.{root_limits}
 use Rattle.crew_terms.specs.Plan.{unassigned_count}
 use Rattle.dossier_terms.specs.declared.Reason.{Reason}
 use Rattle.dossier_terms.specs.declared.Reason.TheVariants as reasons
-use Rattle.dossier_terms.specs.Dossier.{Written, Open, Closed, Leaf}
-use Rattle.dossier_terms.specs.Lines.{end_line}
-use Rattle.dossier_terms.specs.Reading.{Reading, Said, More as Goes, Whole as Ends, No as Refuses, Counts, Frame, Place, leaf_done, whole}
+use Rattle.dossier_terms.specs.Dossier.{Written, Leaf}
+use Rattle.crew_terms.specs.Branches.{Open, Closed}
+use Rattle.dossier_terms.specs.Lines.{end_line, counts_of}
+use Rattle.dossier_terms.specs.Reading.{Reading, Said, More as Goes, Whole as Ends, No as Refuses, leaf_done, whole, Above, LeafSite}
+use Rattle.crew_terms.specs.declared.TreeCounts.{TreeCounts}
 use Rattle.dossier_terms.specs.Rules.{Holds, Fails}
-use Rattle.dossier_terms.specs.Table.{Finish, IsCounted, Says, end_row}
+use Rattle.dossier_terms.specs.Table.{Finish, Says, end_row}
 use Rattle.cert_format.specs.Lines.{IsEndLine}
 use Rattle.cert_format.specs.declared.kinds.LineKind.{LineKind}
 use Rattle.cert_format.specs.declared.kinds.LineKind.TheVariants as kinds
 use Rattle.node_limits.specs.Trail.{Trail}
 use Rattle.node_limits.specs.Rest.{Rest, IsRestOver, trail_over}
-use Rattle.leaf_check.specs.Reader.{IsGoalAt, IsReady, StandsFor, Tells as LeafTells, TellsMore, TellsDone, TellsNo}
+use Rattle.leaf_check.specs.Reader.{IsGoalAt, IsReady, StandsFor, LeafTells, TellsMore, TellsDone, TellsNo}
 use Rattle.leaf_check.specs.declared.reader.Goal.{Goal}
 use Rattle.leaf_check.specs.declared.reader.LeafReader.{LeafReader}
 use Rattle.leaf_check.specs.declared.reader.LeafStep.TheVariants as steps
-use Rattle.tree_walk.specs.Way.{IsAt, IsLeaf, counts_of, counts_of_tree}
-use Rattle.tree_walk.specs.declared.walk.TreeCounts.{TreeCounts}
-use Rattle.cert_checker.specs.Due.{HasLeafRoom, IsInLeaf, IsNode, IsStep, draft_of, place_of}
+use Rattle.tree_walk.specs.Way.{IsAt, IsLeaf}
+use Rattle.cert_checker.specs.Due.{HasLeafRoom, IsInLeaf, IsNode, IsStep, draft_of, site_of}
 use Rattle.cert_checker.specs.declared.due.Draft.{Draft as Held}
 use Rattle.cert_checker.specs.declared.due.TreeDraft.{TreeDraft}
 use Rattle.cert_checker.specs.declared.due.Due.TheVariants.{End as EndLine}
@@ -34,7 +35,7 @@ use Rattle.cert_checker.proofs.NodeRows.{at_node, limits_at, moved, written_back
 
 -- ---- what the reader of a leaf tells
 
-module _ (a : Place) (Rules : Said → Type 0) (new : LeafReader) where
+module _ (a : LeafSite) (Rules : Said → Type 0) (new : LeafReader) where
   pub told_more : LeafTells a Rules steps.More new → (next : Reading) × Rules (Goes next) × StandsFor a new next
   told_more (TellsMore next says stands is) = (next, says, stands)
   told_more (TellsDone leaf says is) = absurd (cc)
@@ -69,18 +70,18 @@ rested_back tree held draft rest e f = written_back tree held draft rest held.wa
 module _ (tree : TreeDraft) (t : Trail) (rest : Rest) (woke : t ≡ trail_over tree.draft.value.base.instance tree.draft.value.limits)
     (back : trail_over t.limits.instance rest ≡ t) (over : IsRestOver t.limits.instance rest) where
   -- the walk stands where it stood
-  pub stays : (fs : List Frame) → IsNode tree fs → IsNode (rested tree rest) fs
+  pub stays : (fs : List Above) → IsNode tree fs → IsNode (rested tree rest) fs
   stays fs node = at_node tree t t tree.walk rest woke refl back over fs node.claimed
       (subst (λ x. IsAt (root_limits tree.draft.value.base.instance) x tree.walk fs) (sym woke) node.at)
 
   -- the goal is that of the place
-  pub goal_at : (is_closed : Bool) (goal : Goal) (fs : List Frame) → IsNode tree fs → goal.bound ≡ tree.draft.value.bound → goal.unassigned ≡ unassigned_count tree.draft.value.plan → goal.is_closed ≡ is_closed
-      → IsGoalAt (place_of tree fs is_closed) t.limits goal
+  pub goal_at : (is_closed : Bool) (goal : Goal) (fs : List Above) → IsNode tree fs → goal.bound ≡ tree.draft.value.bound → goal.unassigned ≡ unassigned_count tree.draft.value.plan → goal.is_closed ≡ is_closed
+      → IsGoalAt (site_of tree fs is_closed) t.limits goal
   goal_at is_closed goal fs node bound count kind = record { limits = sym (limits_at tree t fs woke node); bound = bound; unassigned = count; is_closed = kind }
 
   -- one more line of the leaf is due
-  pub in_leaf : (new : TreeDraft) → new ≡ rested tree rest → (is_closed : Bool) (reader : LeafReader) (fs : List Frame) (next : Reading) → IsNode tree fs → HasLeafRoom tree is_closed
-      → IsReady t.limits reader → StandsFor (place_of tree fs is_closed) reader next → IsInLeaf new reader is_closed fs next
+  pub in_leaf : (new : TreeDraft) → new ≡ rested tree rest → (is_closed : Bool) (reader : LeafReader) (fs : List Above) (next : Reading) → IsNode tree fs → HasLeafRoom tree is_closed
+      → IsReady t.limits reader → StandsFor (site_of tree fs is_closed) reader next → IsInLeaf new reader is_closed fs next
   in_leaf new is is_closed reader fs next node room ready stands = subst (λ (x : TreeDraft). IsInLeaf x reader is_closed fs next) (sym is) (record {
     node = stays fs node;
     ready = subst (λ n. IsReady n reader) (limits_at tree t fs woke node) ready;
@@ -98,25 +99,30 @@ end_is ws _ h = absurd h
 abbrev same_numbers : TreeCounts → TreeCounts → Bool
 same_numbers s c = eqb s.splits c.splits && (eqb s.closed c.closed && (eqb s.left_open c.left_open && eqb s.depth c.depth))
 
-pub counted : (s c : TreeCounts) (t : Written) → counts_of s ≡ counts_of_tree t → same_numbers s c ≡ true → IsCounted (counts_of c) t
-counted s c t seen h =
+abbrev counts : ℕ → ℕ → ℕ → ℕ → TreeCounts
+counts a b c d = record { splits = a; closed = b; left_open = c; depth = d }
+
+same_counts : (a b c d e f g h : ℕ) → a ≡ e → b ≡ f → c ≡ g → d ≡ h → counts a b c d ≡ counts e f g h
+same_counts a b c d e f g h p q r s = rw (p, q, r, s) refl
+
+same_is : (s c : TreeCounts) → same_numbers s c ≡ true → s ≡ c
+same_is s c h =
     let p = and_parts (eqb s.splits c.splits) (eqb s.closed c.closed && (eqb s.left_open c.left_open && eqb s.depth c.depth)) h in
     let q = and_parts (eqb s.closed c.closed) (eqb s.left_open c.left_open && eqb s.depth c.depth) p.1 in
     let r = and_parts (eqb s.left_open c.left_open) (eqb s.depth c.depth) q.1 in
-    record {
-      splits = sym (ap (λ (n : Counts). n.splits) seen) ∙ eqb-true s.splits c.splits p.0;
-      closed = sym (ap (λ (n : Counts). n.closed) seen) ∙ eqb-true s.closed c.closed q.0;
-      left_open = sym (ap (λ (n : Counts). n.left_open) seen) ∙ eqb-true s.left_open c.left_open r.0;
-      depth = sym (ap (λ (n : Counts). n.depth) seen) ∙ eqb-true s.depth c.depth r.1;
-    }
+    same_counts s.splits s.closed s.left_open s.depth c.splits c.closed c.left_open c.depth
+    (eqb-true s.splits c.splits p.0) (eqb-true s.closed c.closed q.0) (eqb-true s.left_open c.left_open r.0) (eqb-true s.depth c.depth r.1)
 
-pub not_counted : (s c : TreeCounts) (t : Written) → counts_of s ≡ counts_of_tree t → same_numbers s c ≡ false → IsCounted (counts_of c) t → ⊥
-not_counted s c t seen h is = both_ways (same_numbers s c) h
-    (and_from (eqb s.splits c.splits) (eqb s.closed c.closed && (eqb s.left_open c.left_open && eqb s.depth c.depth))
-    (eq-eqb s.splits c.splits (ap (λ (n : Counts). n.splits) seen ∙ is.splits))
-    (and_from (eqb s.closed c.closed) (eqb s.left_open c.left_open && eqb s.depth c.depth) (eq-eqb s.closed c.closed (ap (λ (n : Counts). n.closed) seen ∙ is.closed))
-    (and_from (eqb s.left_open c.left_open) (eqb s.depth c.depth) (eq-eqb s.left_open c.left_open (ap (λ (n : Counts). n.left_open) seen ∙ is.left_open))
-    (eq-eqb s.depth c.depth (ap (λ (n : Counts). n.depth) seen ∙ is.depth)))))
+same_self : (c : TreeCounts) → same_numbers c c ≡ true
+same_self c = and_from (eqb c.splits c.splits) (eqb c.closed c.closed && (eqb c.left_open c.left_open && eqb c.depth c.depth)) (eq-eqb c.splits c.splits refl)
+    (and_from (eqb c.closed c.closed) (eqb c.left_open c.left_open && eqb c.depth c.depth) (eq-eqb c.closed c.closed refl)
+    (and_from (eqb c.left_open c.left_open) (eqb c.depth c.depth) (eq-eqb c.left_open c.left_open refl) (eq-eqb c.depth c.depth refl)))
+
+pub counted : (s c : TreeCounts) (t : Written) → s ≡ counts_of t → same_numbers s c ≡ true → counts_of t ≡ c
+counted s c t seen h = sym seen ∙ same_is s c h
+
+pub not_counted : (s c : TreeCounts) (t : Written) → s ≡ counts_of t → same_numbers s c ≡ false → counts_of t ≡ c → ⊥
+not_counted s c t seen h is = both_ways (same_numbers s c) h (subst (λ x. same_numbers x c ≡ true) (sym (seen ∙ is)) (same_self c))
 
 -- the numbers that were compared are those of the tree
 pub compared : (seen : TreeCounts) (held tree : TreeDraft) (same answer : Bool) → held ≡ tree → answer ≡ same_numbers seen held.claimed → answer ≡ same → same_numbers seen tree.claimed ≡ same
@@ -130,7 +136,7 @@ ends_whole tree seen ws is same held read = λ reading awaited.
     let claimed = tree.value.claimed in
     let t = awaited.0 in
     let d = whole b t in
-    let row : end_row b (counts_of claimed) t ws (Ends d) = Holds is (Holds (counted seen claimed t awaited.1 same) (Finish refl)) in
+    let row : end_row b claimed t ws (Ends d) = Holds is (Holds (counted seen claimed t awaited.1 same) (Finish refl)) in
     (d, subst (λ r. Says r ws (Ends d)) (sym awaited.2) row, record { tree = t; is = ap (λ (x : TreeDraft). whole (draft_of x.draft.value) t) (sym read); counts = awaited.1 })
 
 pub ends_miscounted : (tree : Box TreeDraft) (seen : TreeCounts) (ws : Words) → ws ≡ end_line → same_numbers seen tree.value.claimed ≡ false
@@ -138,5 +144,5 @@ pub ends_miscounted : (tree : Box TreeDraft) (seen : TreeCounts) (ws : Words) �
 ends_miscounted tree seen ws is differ = λ reading awaited.
     let claimed = tree.value.claimed in
     let t = awaited.0 in
-    let row : end_row (draft_of tree.value.draft.value) (counts_of claimed) t ws (Refuses reasons.Count) = Holds is (Fails (not_counted seen claimed t awaited.1 differ) refl) in
+    let row : end_row (draft_of tree.value.draft.value) claimed t ws (Refuses reasons.Count) = Holds is (Fails (not_counted seen claimed t awaited.1 differ) refl) in
     subst (λ r. Says r ws (Refuses reasons.Count)) (sym awaited.2) row

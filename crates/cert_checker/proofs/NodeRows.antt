@@ -6,24 +6,30 @@ use Rattle.std.specs.Box.{with_value}
 use Rattle.std.proofs.lemmas.List.{length-map}
 use Rattle.crew_terms.specs.Words.{Words}
 use Rattle.crew_terms.specs.Instance.{Instance}
-use Rattle.crew_terms.specs.Limits.{Limits, root_limits, tasks_in, teams_in}
+use Rattle.crew_terms.specs.Limits.{Limits, root_limits}
 use Rattle.dossier_terms.specs.declared.Reason.TheVariants as reasons
-use Rattle.dossier_terms.specs.Dossier.{Written, Bare, closed, left_open}
+use Rattle.dossier_terms.specs.Dossier.{Leaf}
+use Rattle.crew_terms.specs.Branches.{LeafNode, Claim, Bare, InFirst, closed, left_open, split_of, side_of, frame_sum}
 use Rattle.dossier_terms.specs.Lines.{window_line, pair_line, bare_line, open_line, closed_line}
-use Rattle.dossier_terms.specs.Reading.{Reading, Said, More as Goes, No as Refuses, Draft, Counts, Frame, Lower, Upper, Without, With, Nodes, Ends, Prices, limits_below, node_done, sum_in}
+use Rattle.dossier_terms.specs.Reading.{Reading, Said, More as Goes, No as Refuses, Nodes, Ends, Prices, node_done, Begun, Above}
+use Rattle.crew_terms.specs.declared.TreeCounts.{TreeCounts}
+use Rattle.crew_terms.specs.Tree.{limits_below, child, CanSplit}
+use Rattle.crew_terms.specs.declared.Choice.{Choice}
+use Rattle.crew_terms.specs.declared.Choice.TheVariants as choices
+use Rattle.crew_terms.specs.declared.Side.{Side}
+use Rattle.crew_terms.specs.declared.Side.TheVariants.{First, Second}
+use Rattle.crew_terms.specs.declared.TheConstants.{LAST_MINUTE}
 use Rattle.dossier_terms.specs.Rules.{Holds, Fails, Spelled, Then, Else, On, Begins}
-use Rattle.dossier_terms.specs.Table.{IsCounts, HasRoom, Says, node_row, after_bare, after_leaf, after_pair, after_window}
+use Rattle.dossier_terms.specs.Table.{IsCounts, Says, node_row, after_bare, after_leaf, HasSplitRoom, after_split, split_fault}
 use Rattle.node_limits.specs.Trail.{Trail}
 use Rattle.node_limits.specs.Rest.{Rest, IsRestOver, trail_over}
-use Rattle.tree_walk.specs.Splits.{IsCut, IsFreePair}
-use Rattle.tree_walk.specs.Way.{Walked, IsAt, IsSomewhere, IsLeaf, LeavesLeaf, Enters, counts_of, split_of}
-use Rattle.tree_walk.specs.declared.walk.TreeCounts.{TreeCounts}
+use Rattle.tree_walk.specs.Way.{Walked, IsAt, IsSomewhere, IsLeaf, LeavesLeaf, Enters, branch_of}
 use Rattle.cert_format.specs.Expected.{expect_of}
 use Rattle.cert_format.specs.Lines.{IsFaultOf}
 use Rattle.cert_format.specs.declared.kinds.Expect.TheVariants as expected
 use Rattle.cert_format.specs.declared.kinds.LineFault.{LineFault}
 use Rattle.leaf_check.specs.declared.reader.LeafReader.{LeafReader}
-use Rattle.cert_checker.specs.Due.{Awaits, HasLeafRoom, HasSplitRoom, IsInTree, IsNode, IsReaderFor, IsStep, Tells, draft_of}
+use Rattle.cert_checker.specs.Due.{Awaits, HasLeafRoom, HasSplitLeft, IsInTree, IsNode, IsReaderFor, IsStep, Tells, draft_of}
 use Rattle.cert_checker.specs.declared.due.Draft.{Draft as Held}
 use Rattle.cert_checker.specs.declared.due.TreeDraft.{TreeDraft}
 use Rattle.cert_checker.specs.declared.due.Due.TheVariants.{Node as NodeDue, End as EndDue}
@@ -33,12 +39,15 @@ use Rattle.cert_checker.proofs.Steps.{tells_row}
 -- ---- where a walk stands
 
 -- splits change no instance
-pub instance_below : (i : Instance) (fs : List Frame) → (limits_below (root_limits i) fs).instance ≡ i
+instance_in : (n : Limits) (choice : Choice) (side : Side) → (child n choice side).instance ≡ n.instance
+instance_in n (choices.Window j cut) First = refl
+instance_in n (choices.Window j cut) Second = refl
+instance_in n (choices.Pair k j) First = refl
+instance_in n (choices.Pair k j) Second = refl
+
+pub instance_below : (i : Instance) (fs : List Above) → (limits_below (root_limits i) fs).instance ≡ i
 instance_below i [] = refl
-instance_below i (Lower j cut ∷ fs) = instance_below i fs
-instance_below i (Upper j cut low ∷ fs) = instance_below i fs
-instance_below i (Without k j ∷ fs) = instance_below i fs
-instance_below i (With k j without ∷ fs) = instance_below i fs
+instance_below i (f ∷ fs) = instance_in (limits_below (root_limits i) fs) (split_of f) (side_of f) ∙ instance_below i fs
 
 -- the tree where the walk went on and the limits with it
 abbrev pub moved : TreeDraft → Rest → Walked → TreeDraft
@@ -68,7 +77,7 @@ somewhere tree held t same woke (above, node) =
 
 -- a node of the tree is due, and this is the state of the table
 abbrev pub IsDueAt : TreeDraft → Option (Box LeafReader) → Reading → Type 0
-IsDueAt tree reader r = (above : List Frame) × IsNode tree above × IsReaderFor tree.draft.value.base.instance reader × (r ≡ Nodes (draft_of tree.draft.value) (counts_of tree.claimed) above)
+IsDueAt tree reader r = (above : List Above) × IsNode tree above × IsReaderFor tree.draft.value.base.instance reader × (r ≡ Nodes (draft_of tree.draft.value) tree.claimed above)
 
 module _ (tree : TreeDraft) (old new : Trail) (to : Walked) (rest : Rest)
     (woke : old ≡ trail_over tree.draft.value.base.instance tree.draft.value.limits) (same : new.limits.instance ≡ old.limits.instance)
@@ -77,7 +86,7 @@ module _ (tree : TreeDraft) (old new : Trail) (to : Walked) (rest : Rest)
   of_instance = same ∙ ap (λ (t : Trail). t.limits.instance) woke
 
   -- the limits at rest are those of the node where the walk stands
-  pub at_node : (gs : List Frame) → IsCounts (counts_of tree.claimed) → IsAt (root_limits tree.draft.value.base.instance) new to gs → IsNode (moved tree rest to) gs
+  pub at_node : (gs : List Above) → IsCounts tree.claimed → IsAt (root_limits tree.draft.value.base.instance) new to gs → IsNode (moved tree rest to) gs
   at_node gs claimed at =
       let i = tree.draft.value.base.instance in
       record {
@@ -86,109 +95,83 @@ module _ (tree : TreeDraft) (old new : Trail) (to : Walked) (rest : Rest)
         at = subst (λ t. IsAt (root_limits i) t to gs) (sym (subst (λ x. trail_over x rest ≡ new) of_instance back)) at;
       }
 
-  woken : (fs : List Frame) → IsNode tree fs → IsAt (root_limits tree.draft.value.base.instance) old tree.walk fs
+  woken : (fs : List Above) → IsNode tree fs → IsAt (root_limits tree.draft.value.base.instance) old tree.walk fs
   woken fs node = subst (λ t. IsAt (root_limits tree.draft.value.base.instance) t tree.walk fs) (sym woke) node.at
 
   -- past a leaf the walk stands at the node that is due
   pub left_at : (box : Box TreeDraft) → box.value ≡ moved tree rest to → (reader : Option (Box LeafReader)) (is_closed : Bool) → LeavesLeaf is_closed old tree.walk new to false
-      → IsReaderFor tree.draft.value.base.instance reader → (fs : List Frame) (leaf : Written) → IsNode tree fs → IsLeaf is_closed leaf
-      → Awaits (NodeDue box reader) (node_done (draft_of tree.draft.value) (counts_of tree.claimed) fs leaf)
-  left_at box is reader is_closed leaves for_tree fs leaf node kind =
-      let p = leaves (root_limits tree.draft.value.base.instance) fs leaf (draft_of tree.draft.value) (counts_of tree.claimed) (woken fs node) kind in
-      subst (λ t. IsDueAt t reader (node_done (draft_of tree.draft.value) (counts_of tree.claimed) fs leaf)) (sym is) (p.0, at_node p.0 node.claimed p.2, for_tree, p.1)
+      → IsReaderFor tree.draft.value.base.instance reader → (fs : List Above) (claim : Claim Leaf) → IsNode tree fs → IsLeaf is_closed claim
+      → Awaits (NodeDue box reader) (node_done (draft_of tree.draft.value) tree.claimed fs (LeafNode claim))
+  left_at box is reader is_closed leaves for_tree fs claim node kind =
+      let p = leaves (root_limits tree.draft.value.base.instance) fs claim (draft_of tree.draft.value) tree.claimed (woken fs node) kind in
+      subst (λ t. IsDueAt t reader (node_done (draft_of tree.draft.value) tree.claimed fs (LeafNode claim))) (sym is) (p.0, at_node p.0 node.claimed p.2, for_tree, p.1)
 
   -- below a split the walk stands in its first child
-  pub entered_at : (box : Box TreeDraft) → box.value ≡ moved tree rest to → (reader : Option (Box LeafReader)) (f : Frame) → Enters f old tree.walk new to
-      → IsReaderFor tree.draft.value.base.instance reader → (fs : List Frame) → IsNode tree fs
-      → Awaits (NodeDue box reader) (Nodes (draft_of tree.draft.value) (counts_of tree.claimed) (f ∷ fs))
-  entered_at box is reader f enters for_tree fs node =
-      subst (λ t. IsDueAt t reader (Nodes (draft_of tree.draft.value) (counts_of tree.claimed) (f ∷ fs))) (sym is)
-      (f ∷ fs, at_node (f ∷ fs) node.claimed (enters (root_limits tree.draft.value.base.instance) fs (woken fs node)), for_tree, refl)
+  pub entered_at : (box : Box TreeDraft) → box.value ≡ moved tree rest to → (reader : Option (Box LeafReader)) (choice : Choice) → Enters choice old tree.walk new to
+      → IsReaderFor tree.draft.value.base.instance reader → (fs : List Above) → IsNode tree fs
+      → Awaits (NodeDue box reader) (Nodes (draft_of tree.draft.value) tree.claimed (InFirst choice ∷ fs))
+  entered_at box is reader choice enters for_tree fs node =
+      subst (λ t. IsDueAt t reader (Nodes (draft_of tree.draft.value) tree.claimed (InFirst choice ∷ fs))) (sym is)
+      (InFirst choice ∷ fs, at_node (InFirst choice ∷ fs) node.claimed (enters (root_limits tree.draft.value.base.instance) fs (woken fs node)), for_tree, refl)
 
 -- past the last leaf the whole tree is seen
 pub ended_at : (tree : TreeDraft) (old new : Trail) (to : Walked) (rest : Rest) (box : Box TreeDraft) (seen : TreeCounts) (is_closed : Bool)
     → old ≡ trail_over tree.draft.value.base.instance tree.draft.value.limits → LeavesLeaf is_closed old tree.walk new to true
     → box.value ≡ moved tree rest to → seen ≡ to.seen
-    → (fs : List Frame) (leaf : Written) → IsNode tree fs → IsLeaf is_closed leaf
-    → Awaits (EndDue box seen) (node_done (draft_of tree.draft.value) (counts_of tree.claimed) fs leaf)
-ended_at tree old new to rest box seen is_closed woke leaves is saw fs leaf node kind =
+    → (fs : List Above) (claim : Claim Leaf) → IsNode tree fs → IsLeaf is_closed claim
+    → Awaits (EndDue box seen) (node_done (draft_of tree.draft.value) tree.claimed fs (LeafNode claim))
+ended_at tree old new to rest box seen is_closed woke leaves is saw fs claim node kind =
     let at : IsAt (root_limits tree.draft.value.base.instance) old tree.walk fs = subst (λ t. IsAt (root_limits tree.draft.value.base.instance) t tree.walk fs) (sym woke) node.at in
-    let p = leaves (root_limits tree.draft.value.base.instance) fs leaf (draft_of tree.draft.value) (counts_of tree.claimed) at kind in
-    (p.0, ap counts_of saw ∙ p.2.seen, p.1 ∙ ap (λ (t : TreeDraft). Ends (draft_of t.draft.value) (counts_of t.claimed) p.0) (sym is))
+    let p = leaves (root_limits tree.draft.value.base.instance) fs claim (draft_of tree.draft.value) tree.claimed at kind in
+    (p.0, saw ∙ p.2.seen, p.1 ∙ ap (λ (t : TreeDraft). Ends (draft_of t.draft.value) t.claimed p.0) (sym is))
 
 -- the limits that woke are those of the node
-pub limits_at : (tree : TreeDraft) (t : Trail) (fs : List Frame) → t ≡ trail_over tree.draft.value.base.instance tree.draft.value.limits → IsNode tree fs
+pub limits_at : (tree : TreeDraft) (t : Trail) (fs : List Above) → t ≡ trail_over tree.draft.value.base.instance tree.draft.value.limits → IsNode tree fs
     → t.limits ≡ limits_below (root_limits tree.draft.value.base.instance) fs
 limits_at tree t fs woke node = ap (λ (x : Trail). x.limits) woke ∙ node.at.way.limits
 
 -- ---- room
 
-level_at : (tree : TreeDraft) (fs : List Frame) → IsNode tree fs → length tree.walk.above ≡ length fs
-level_at tree fs node = ap length node.at.way.above ∙ length-map fs split_of
+level_at : (tree : TreeDraft) (fs : List Above) → IsNode tree fs → length tree.walk.above ≡ length fs
+level_at tree fs node = ap length node.at.way.kept ∙ length-map fs branch_of
 
-pub room_at : (tree : TreeDraft) (fs : List Frame) → IsNode tree fs → HasSplitRoom tree → HasRoom (counts_of tree.claimed) fs
+pub room_at : (tree : TreeDraft) (fs : List Above) → IsNode tree fs → HasSplitLeft tree → HasSplitRoom tree.claimed fs
 room_at tree fs node room = (
-  subst (λ s. s < tree.claimed.splits) (ap (λ (c : Counts). c.splits) node.at.seen) room.splits,
+  subst (λ s. s < tree.claimed.splits) (ap (λ (c : TreeCounts). c.splits) node.at.seen) room.splits,
   subst (λ s. s < tree.claimed.depth) (level_at tree fs node) room.depth,
 )
 
-pub room_above : (tree : TreeDraft) (fs : List Frame) → IsNode tree fs → HasRoom (counts_of tree.claimed) fs → HasSplitRoom tree
+pub room_above : (tree : TreeDraft) (fs : List Above) → IsNode tree fs → HasSplitRoom tree.claimed fs → HasSplitLeft tree
 room_above tree fs node room = record {
-  splits = subst (λ s. s < tree.claimed.splits) (sym (ap (λ (c : Counts). c.splits) node.at.seen)) room.0;
+  splits = subst (λ s. s < tree.claimed.splits) (sym (ap (λ (c : TreeCounts). c.splits) node.at.seen)) room.0;
   depth = subst (λ s. s < tree.claimed.depth) (sym (level_at tree fs node)) room.1;
 }
 
 -- the numbers that a line `leaf` is judged by
-abbrev HasLeafRoomIn : Counts → List Frame → Bool → Type 0
-HasLeafRoomIn c fs is_closed = (if is_closed then sum_in closed 0 fs else sum_in left_open 0 fs) < (if is_closed then c.closed else c.left_open)
+abbrev HasLeafRoomIn : TreeCounts → List Above → Bool → Type 0
+HasLeafRoomIn c fs is_closed = (if is_closed then frame_sum closed 0 fs else frame_sum left_open 0 fs) < (if is_closed then c.closed else c.left_open)
 
-pub leaf_room_at : (tree : TreeDraft) (is_closed : Bool) (fs : List Frame) → IsNode tree fs → HasLeafRoom tree is_closed → HasLeafRoomIn (counts_of tree.claimed) fs is_closed
-leaf_room_at tree true fs node room = subst (λ s. s < tree.claimed.closed) (ap (λ (c : Counts). c.closed) node.at.seen) room
-leaf_room_at tree false fs node room = subst (λ s. s < tree.claimed.left_open) (ap (λ (c : Counts). c.left_open) node.at.seen) room
+pub leaf_room_at : (tree : TreeDraft) (is_closed : Bool) (fs : List Above) → IsNode tree fs → HasLeafRoom tree is_closed → HasLeafRoomIn tree.claimed fs is_closed
+leaf_room_at tree true fs node room = subst (λ s. s < tree.claimed.closed) (ap (λ (c : TreeCounts). c.closed) node.at.seen) room
+leaf_room_at tree false fs node room = subst (λ s. s < tree.claimed.left_open) (ap (λ (c : TreeCounts). c.left_open) node.at.seen) room
 
-pub leaf_room_above : (tree : TreeDraft) (is_closed : Bool) (fs : List Frame) → IsNode tree fs → HasLeafRoomIn (counts_of tree.claimed) fs is_closed → HasLeafRoom tree is_closed
-leaf_room_above tree true fs node room = subst (λ s. s < tree.claimed.closed) (sym (ap (λ (c : Counts). c.closed) node.at.seen)) room
-leaf_room_above tree false fs node room = subst (λ s. s < tree.claimed.left_open) (sym (ap (λ (c : Counts). c.left_open) node.at.seen)) room
+pub leaf_room_above : (tree : TreeDraft) (is_closed : Bool) (fs : List Above) → IsNode tree fs → HasLeafRoomIn tree.claimed fs is_closed → HasLeafRoom tree is_closed
+leaf_room_above tree true fs node room = subst (λ s. s < tree.claimed.closed) (sym (ap (λ (c : TreeCounts). c.closed) node.at.seen)) room
+leaf_room_above tree false fs node room = subst (λ s. s < tree.claimed.left_open) (sym (ap (λ (c : TreeCounts). c.left_open) node.at.seen)) room
 
 -- ---- the rules behind the words of a line
 
--- the task and the team of a line are those of the node
-task_below : (i : Instance) (fs : List Frame) (j : ℕ) → j < length i.tasks → j < tasks_in (limits_below (root_limits i) fs)
-task_below i fs j l = subst (λ (x : Instance). j < length x.tasks) (sym (instance_below i fs)) l
+module _ (b : Begun) (c : TreeCounts) (fs : List Above) where
+  pub split_no_room : (choice : Choice) → (HasSplitRoom c fs → ⊥) → after_split b c fs choice (Refuses reasons.Count)
+  split_no_room choice broken = Fails broken refl
 
-team_below : (i : Instance) (fs : List Frame) (k : ℕ) → k < length i.teams → k < teams_in (limits_below (root_limits i) fs)
-team_below i fs k l = subst (λ (x : Instance). k < length x.teams) (sym (instance_below i fs)) l
+  pub split_refused : (choice : Choice) (n : Limits) → n ≡ limits_below (root_limits b.instance) fs → HasSplitRoom c fs → (CanSplit n choice → ⊥)
+      → after_split b c fs choice (Refuses (split_fault choice))
+  split_refused choice n same room broken = Holds room (Fails (subst (λ m. CanSplit m choice → ⊥) same broken) refl)
 
-module _ (b : Draft) (c : Counts) (fs : List Frame) where
-  pub window_no_room : (j cut : ℕ) → (HasRoom c fs → ⊥) → after_window b c fs j cut (Refuses reasons.Count)
-  window_no_room j cut broken = Fails broken refl
-
-  pub window_no_cut : (j cut : ℕ) (n : Limits) → n ≡ limits_below (root_limits b.instance) fs → HasRoom c fs → j < length b.instance.tasks → (IsCut n j cut → ⊥)
-      → after_window b c fs j cut (Refuses reasons.Cut)
-  window_no_cut j cut n same room task broken =
-      let outside : IsCut (limits_below (root_limits b.instance) fs) j cut → ⊥ = subst (λ m. IsCut m j cut → ⊥) same broken in
-      Holds room (Fails (λ inside. outside (record { task = task_below b.instance fs j task; early = inside.0; late = inside.1 })) refl)
-
-  pub window_more : (j cut : ℕ) (n : Limits) → n ≡ limits_below (root_limits b.instance) fs → HasRoom c fs → IsCut n j cut
-      → after_window b c fs j cut (Goes (Nodes b c (Lower j cut ∷ fs)))
-  window_more j cut n same room inside =
-      let is : IsCut (limits_below (root_limits b.instance) fs) j cut = subst (λ m. IsCut m j cut) same inside in
-      Holds room (Holds (is.early, is.late) (On refl))
-
-  pub pair_no_room : (k j : ℕ) → (HasRoom c fs → ⊥) → after_pair b c fs k j (Refuses reasons.Count)
-  pair_no_room k j broken = Fails broken refl
-
-  pub pair_not_free : (k j : ℕ) (n : Limits) → n ≡ limits_below (root_limits b.instance) fs → HasRoom c fs → k < length b.instance.teams → j < length b.instance.tasks
-      → (IsFreePair n k j → ⊥) → after_pair b c fs k j (Refuses reasons.Pair)
-  pair_not_free k j n same room team task broken =
-      let bound : IsFreePair (limits_below (root_limits b.instance) fs) k j → ⊥ = subst (λ m. IsFreePair m k j → ⊥) same broken in
-      Holds room (Fails (λ free. bound (record { team = team_below b.instance fs k team; task = task_below b.instance fs j task; free = free })) refl)
-
-  pub pair_more : (k j : ℕ) (n : Limits) → n ≡ limits_below (root_limits b.instance) fs → HasRoom c fs → IsFreePair n k j
-      → after_pair b c fs k j (Goes (Nodes b c (Without k j ∷ fs)))
-  pair_more k j n same room free =
-      let is : IsFreePair (limits_below (root_limits b.instance) fs) k j = subst (λ m. IsFreePair m k j) same free in
-      Holds room (Holds is.free (On refl))
+  pub split_more : (choice : Choice) (n : Limits) → n ≡ limits_below (root_limits b.instance) fs → HasSplitRoom c fs → CanSplit n choice
+      → after_split b c fs choice (Goes (Nodes b c (InFirst choice ∷ fs)))
+  split_more choice n same room can = Holds room (Holds (subst (λ m. CanSplit m choice) same can) (On refl))
 
   pub bare_no_room : (HasLeafRoomIn c fs false → ⊥) → after_bare b c fs (Refuses reasons.Count)
   bare_no_room broken = Fails broken refl
@@ -196,14 +179,14 @@ module _ (b : Draft) (c : Counts) (fs : List Frame) where
   pub bare_high : HasLeafRoomIn c fs false → 0 < b.bound → after_bare b c fs (Refuses reasons.Bound)
   bare_high room high = Holds room (Fails (λ e. absurd (omega arith)) refl)
 
-  pub bare_more : HasLeafRoomIn c fs false → b.bound ≤ 0 → after_bare b c fs (Goes (node_done b c fs Bare))
+  pub bare_more : HasLeafRoomIn c fs false → b.bound ≤ 0 → after_bare b c fs (Goes (node_done b c fs (LeafNode Bare)))
   bare_more room low = Holds room (Holds (omega arith) (On refl))
 
   pub leaf_no_room : (is_closed : Bool) → (HasLeafRoomIn c fs is_closed → ⊥) → after_leaf b c fs is_closed (Refuses reasons.Count)
   leaf_no_room is_closed broken = Fails broken refl
 
   pub leaf_more : (is_closed : Bool) → HasLeafRoomIn c fs is_closed
-      → after_leaf b c fs is_closed (Goes (Prices (record { draft = b; counts = c; above = fs; is_closed = is_closed })))
+      → after_leaf b c fs is_closed (Goes (Prices (record { begun = b; counts = c; above = fs; is_closed = is_closed })))
   leaf_more is_closed room = Holds room (On refl)
 
 -- ---- the rows of the table
@@ -231,27 +214,27 @@ open_not_closed : open_line ≡ closed_line → ⊥
 open_not_closed e = let f : ◌≡◌ {A = ℕ} 111 99 = cc in absurd (omega arith)
 
 -- a leaf line is judged as such
-leaf_says : (b : Draft) (c : Counts) (fs : List Frame) (ws : Words) (said : Said) (rest : Words) → ws ≡ codes "leaf" ∷ rest
+leaf_says : (b : Begun) (c : TreeCounts) (fs : List Above) (ws : Words) (said : Said) (rest : Words) → ws ≡ codes "leaf" ∷ rest
     → ((Begins (codes "window") ws → ⊥) → (Begins (codes "pair") ws → ⊥) → node_row b c fs ws said) → node_row b c fs ws said
 leaf_says b c fs ws said rest is row = row (not_both (codes "leaf") (codes "window") ws leaf_not_window (rest, is)) (not_both (codes "leaf") (codes "pair") ws leaf_not_pair (rest, is))
 
-pub window_says : (b : Draft) (c : Counts) (fs : List Frame) (j cut : ℕ) (ws : Words) (said : Said) → j < length b.instance.tasks → cut ≤ 2880 → ws ≡ window_line j cut
-    → after_window b c fs j cut said → node_row b c fs ws said
-window_says b c fs j cut ws said task day is rest = Then (_, is) (Holds (_, is, refl) (Spelled (j, cut) (task_below b.instance fs j task, day) is rest))
+pub window_says : (b : Begun) (c : TreeCounts) (fs : List Above) (j cut : ℕ) (ws : Words) (said : Said) → j < length b.instance.tasks → cut ≤ LAST_MINUTE → ws ≡ window_line j cut
+    → after_split b c fs (choices.Window j cut) said → node_row b c fs ws said
+window_says b c fs j cut ws said task day is rest = Then (_, is) (Holds (_, is, refl) (Spelled (j, cut) (task, day) is rest))
 
-pub pair_says : (b : Draft) (c : Counts) (fs : List Frame) (k j : ℕ) (ws : Words) (said : Said) → k < length b.instance.teams → j < length b.instance.tasks → ws ≡ pair_line k j
-    → after_pair b c fs k j said → node_row b c fs ws said
+pub pair_says : (b : Begun) (c : TreeCounts) (fs : List Above) (k j : ℕ) (ws : Words) (said : Said) → k < length b.instance.teams → j < length b.instance.tasks → ws ≡ pair_line k j
+    → after_split b c fs (choices.Pair k j) said → node_row b c fs ws said
 pair_says b c fs k j ws said team task is rest = Else (not_both (codes "pair") (codes "window") ws pair_not_window (_, is))
-    (Then (_, is) (Holds (_, is, refl) (Spelled (k, j) (team_below b.instance fs k team, task_below b.instance fs j task) is rest)))
+    (Then (_, is) (Holds (_, is, refl) (Spelled (k, j) (team, task) is rest)))
 
-pub bare_says : (b : Draft) (c : Counts) (fs : List Frame) (ws : Words) (said : Said) → ws ≡ bare_line → after_bare b c fs said → node_row b c fs ws said
+pub bare_says : (b : Begun) (c : TreeCounts) (fs : List Above) (ws : Words) (said : Said) → ws ≡ bare_line → after_bare b c fs said → node_row b c fs ws said
 bare_says b c fs ws said is rest = leaf_says b c fs ws said _ is (λ w p. Else w (Else p (Holds (_, is, refl) (Then is rest))))
 
-pub open_says : (b : Draft) (c : Counts) (fs : List Frame) (ws : Words) (said : Said) → ws ≡ open_line → after_leaf b c fs false said → node_row b c fs ws said
+pub open_says : (b : Begun) (c : TreeCounts) (fs : List Above) (ws : Words) (said : Said) → ws ≡ open_line → after_leaf b c fs false said → node_row b c fs ws said
 open_says b c fs ws said is rest = leaf_says b c fs ws said _ is (λ w p. Else w (Else p (Holds (_, is, refl)
     (Else (λ e. bare_not_open (sym e ∙ is)) (Then is rest)))))
 
-pub closed_says : (b : Draft) (c : Counts) (fs : List Frame) (ws : Words) (said : Said) → ws ≡ closed_line → after_leaf b c fs true said → node_row b c fs ws said
+pub closed_says : (b : Begun) (c : TreeCounts) (fs : List Above) (ws : Words) (said : Said) → ws ≡ closed_line → after_leaf b c fs true said → node_row b c fs ws said
 closed_says b c fs ws said is rest = leaf_says b c fs ws said _ is (λ w p. Else w (Else p (Holds (_, is, refl)
     (Else (λ e. bare_not_closed (sym e ∙ is)) (Else (λ e. open_not_closed (sym e ∙ is)) (Holds is rest))))))
 
@@ -259,19 +242,17 @@ closed_says b c fs ws said is rest = leaf_says b c fs ws said _ is (λ w p. Else
 
 -- a node is due, and the step is what its row says
 pub node_step : (tree : Box TreeDraft) (reader : Option (Box LeafReader)) (ws : Words) (step : Step)
-    → ((fs : List Frame) → IsNode tree.value fs → Tells (node_row (draft_of tree.value.draft.value) (counts_of tree.value.claimed) fs ws) step) → IsStep (NodeDue tree reader) ws step
+    → ((fs : List Above) → IsNode tree.value fs → Tells (node_row (draft_of tree.value.draft.value) tree.value.claimed fs ws) step) → IsStep (NodeDue tree reader) ws step
 node_step tree reader ws step f = λ reading awaited. subst (λ r. Tells (Says r ws) step) (sym awaited.3) (f awaited.0 awaited.1)
 
 -- what some rules tell behind the words of a line, its row tells
-pub node_rest : (tree : Box TreeDraft) (reader : Option (Box LeafReader)) (ws : Words) (step : Step) (Rules : List Frame → Said → Type 0)
-    → ((fs : List Frame) (said : Said) → Rules fs said → node_row (draft_of tree.value.draft.value) (counts_of tree.value.claimed) fs ws said)
-    → ((fs : List Frame) → IsNode tree.value fs → Tells (Rules fs) step) → IsStep (NodeDue tree reader) ws step
-node_rest tree reader ws step Rules row told = node_step tree reader ws step (λ fs node. tells_row (Rules fs) (node_row (draft_of tree.value.draft.value) (counts_of tree.value.claimed) fs ws) step (row fs) (told fs node))
+pub node_rest : (tree : Box TreeDraft) (reader : Option (Box LeafReader)) (ws : Words) (step : Step) (Rules : List Above → Said → Type 0)
+    → ((fs : List Above) (said : Said) → Rules fs said → node_row (draft_of tree.value.draft.value) tree.value.claimed fs ws said)
+    → ((fs : List Above) → IsNode tree.value fs → Tells (Rules fs) step) → IsStep (NodeDue tree reader) ws step
+node_rest tree reader ws step Rules row told = node_step tree reader ws step (λ fs node. tells_row (Rules fs) (node_row (draft_of tree.value.draft.value) tree.value.claimed fs ws) step (row fs) (told fs node))
 
 -- a fault of a line of these counts is one where the node is due
-pub node_fault : (b : Draft) (c : Counts) (fs : List Frame) (teams tasks : ℕ) (ws : Words) (fault : LineFault) → teams ≡ length b.instance.teams → tasks ≡ length b.instance.tasks
+pub node_fault : (b : Begun) (c : TreeCounts) (fs : List Above) (teams tasks : ℕ) (ws : Words) (fault : LineFault) → teams ≡ length b.instance.teams → tasks ≡ length b.instance.tasks
     → IsFaultOf (expected.Node teams tasks) ws fault → IsFaultOf (expect_of (Nodes b c fs)) ws fault
 node_fault b c fs teams tasks ws fault m n h =
-    let n' : tasks ≡ tasks_in (limits_below (root_limits b.instance) fs) = n ∙ ap (λ (i : Instance). length i.tasks) (sym (instance_below b.instance fs)) in
-    let m' : teams ≡ teams_in (limits_below (root_limits b.instance) fs) = m ∙ ap (λ (i : Instance). length i.teams) (sym (instance_below b.instance fs)) in
-    subst (λ k. IsFaultOf (expected.Node k (tasks_in (limits_below (root_limits b.instance) fs))) ws fault) m' (subst (λ k. IsFaultOf (expected.Node teams k) ws fault) n' h)
+    subst (λ k. IsFaultOf (expected.Node k (length b.instance.tasks)) ws fault) m (subst (λ k. IsFaultOf (expected.Node teams k) ws fault) n h)

@@ -7,12 +7,13 @@ use Rattle.std.proofs.lemmas.Bool.{cases_eq}
 use Rattle.std.proofs.lemmas.List.{length-set}
 use Rattle.crew_terms.specs.Words.{Words}
 use Rattle.crew_terms.specs.Instance.{Instance}
-use Rattle.crew_terms.specs.Plan.{Plan, Job, job_of, Does, IsLegal}
+use Rattle.crew_terms.specs.Plan.{Plan, Job, job_of, Does}
+use Rattle.crew_terms.specs.Legal.{IsLegal}
 use Rattle.crew_terms.specs.Verdict.{IsVerdict, IsPlanOf}
 use Rattle.crew_terms.specs.declared.PlanVerdict.{PlanVerdict}
 use Rattle.dossier_terms.specs.declared.Reason.TheVariants as reasons
 use Rattle.dossier_terms.specs.Lines.{plan_line, do_line}
-use Rattle.dossier_terms.specs.Reading.{Said, More as Goes, Draft, Jobs, Trees, jobs_due}
+use Rattle.dossier_terms.specs.Reading.{Said, More as Goes, Jobs, Trees, jobs_due, Begun}
 use Rattle.dossier_terms.specs.Rules.{Must, Holds, HoldsBy, FailsBy, Spelled, On}
 use Rattle.dossier_terms.specs.Table.{IsDoLine, plan_row, job_row, after_job}
 use Rattle.cert_format.specs.Lines.{IsJobOf}
@@ -24,7 +25,7 @@ use Rattle.cert_checker.specs.declared.due.Step.TheVariants.{More, No}
 
 -- ---- the line `plan`
 
-pub plan_more : (b : Draft) (u l : ℕ) (ws : Words) → u ≤ length b.instance.tasks → l ≤ length b.instance.tasks → ws ≡ plan_line u l
+pub plan_more : (b : Begun) (u l : ℕ) (ws : Words) → u ≤ length b.instance.tasks → l ≤ length b.instance.tasks → ws ≡ plan_line u l
     → plan_row b ws (Goes (jobs_due (record b { bound = l }) (length b.instance.tasks - u) 0))
 plan_more b u l ws p q is = Holds (_, is, refl) (Spelled (u, l) (p, q) is (On refl))
 
@@ -67,7 +68,7 @@ plan_of_more i p j start ks h below known = record {
         let there : job_of (slice_set p j (Some job)) g ≡ job_of p g = get_or-set_other p j g (Some job) None (λ e. ne (sym e)) in
         h.known k g t (d.0, sym there ∙ d.1, d.2, d.3)
 
-pub job_says : (b : Draft) (k from : ℕ) (ws : Words) (p : ℕ × Job) (said : Said) → IsDoLine b.instance p → ws ≡ do_line p
+pub job_says : (b : Begun) (k from : ℕ) (ws : Words) (p : ℕ × Job) (said : Said) → IsDoLine b.instance p → ws ≡ do_line p
     → Must (from ≤ p.0) reasons.Shape (after_job (record b { plan = slice_set b.plan p.0 (Some p.1) }) k (suc p.0)) said → job_row b k from ws said
 job_says b k from ws p said fits is rest = Holds (_, is, omega arith) (Spelled p fits is rest)
 

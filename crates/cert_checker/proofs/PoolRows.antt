@@ -1,5 +1,5 @@
 -- the rows of the table for the lines of a pool
-use Rattle.std.proofs.Common.{◌≡◌, ◌≢◌, ◌≤◌, ◌<◌, ◌*◌, ◌-◌, ◌++◌, ◌^◌, ℕ, zero, suc, List, [], ◌∷◌, length, map, replicate, ap, subst, sym, refl, ◌∙◌, arith, w64, to_z, of_z, None, Some}
+use Rattle.std.proofs.Common.{◌≡◌, ◌≢◌, ◌≤◌, ◌<◌, ◌*◌, ◌-◌, ◌++◌, ◌^◌, ℕ, zero, suc, List, [], ◌∷◌, length, map, ap, subst, sym, refl, ◌∙◌, arith, w64, to_z, of_z, None, Some}
 use Rattle.std.specs.Prelude.{ℤ, pos, codes, All}
 use Rattle.std.specs.List.{AllByRecursion, flat_map}
 use Rattle.std.proofs.lemmas.List.{length-append, length-replicate}
@@ -7,16 +7,16 @@ use Rattle.std.proofs.lemmas.List.Elements.{All-contains}
 use Rattle.std.proofs.lemmas.Int.{to_z_pos}
 use Rattle.crew_terms.specs.Words.{Words}
 use Rattle.crew_terms.specs.Instance.{Instance}
-use Rattle.crew_terms.specs.Limits.{Limits, copies, root_limits}
-use Rattle.crew_terms.specs.Plan.{Plan, job_of}
+use Rattle.crew_terms.specs.Limits.{Limits, root_limits, Route}
+use Rattle.crew_terms.specs.Plan.{Plan, empty_plan, job_of}
 use Rattle.crew_terms.specs.Verdict.{IsPlanOf}
+use Rattle.crew_terms.specs.declared.TheConstants.{LAST_MINUTE, MOST_TASKS}
 use Rattle.crew_terms.specs.declared.Visit.{Visit}
 use Rattle.dossier_terms.specs.declared.Reason.TheVariants as reasons
-use Rattle.dossier_terms.specs.Dossier.{Route}
 use Rattle.dossier_terms.specs.Lines.{pool_line, route_line, visit_words}
-use Rattle.dossier_terms.specs.Reading.{More as Goes, No as Refuses, Draft, routes_due}
+use Rattle.dossier_terms.specs.Reading.{More as Goes, No as Refuses, routes_due, Begun}
 use Rattle.dossier_terms.specs.Rules.{Holds, Fails, Spelled, On, Begins}
-use Rattle.dossier_terms.specs.Table.{IsRouteLine, IsPairs, draft, pool_row, route_row}
+use Rattle.dossier_terms.specs.Table.{IsRouteLine, IsPairs, pool_row, route_row, begin}
 use Rattle.node_limits.specs.Rest.{State, Rest, IsRestOver, limits_over, trail_over}
 use Rattle.node_limits.specs.Trail.{Trail}
 use Rattle.route_pool.specs.Numbers.{AreNumbersOf}
@@ -52,28 +52,24 @@ root_woke i rest t root woke = (ap (λ (x : Trail). x.limits) woke ∙ root.root
 
 -- ---- the empty plan
 
-pub no_jobs : (n : ℕ) → ◌≡◌ {A = Plan} (replicate n None) (copies n None)
-no_jobs zero = refl
-no_jobs (suc n) = ap (λ p. None ∷ p) (no_jobs n)
-
-no_job : (n j : ℕ) → job_of (replicate n None) j ≡ None
+no_job : (n j : ℕ) → job_of (empty_plan n) j ≡ None
 no_job zero j = refl
 no_job (suc n) zero = refl
 no_job (suc n) (suc j) = no_job n j
 
-pub empty_plan : (i : Instance) → IsPlanOf i (replicate (length i.tasks) None)
-empty_plan i = record {
+pub empty_is_plan : (i : Instance) → IsPlanOf i (empty_plan (length i.tasks))
+empty_is_plan i = record {
   whole = length-replicate (length i.tasks) None;
   known = λ k j t d. absurd (let e : None ≡ Some d.0 = sym (no_job (length i.tasks) j) ∙ d.1 in cc);
 }
 
 -- what is read behind the line `pool`
-pub begun : (i : Instance) (budget kept : ℕ) (pool : List Route) (plan : Plan) → pool ≡ [] → plan ≡ replicate (length i.tasks) None
-    → ◌≡◌ {A = Draft} (record { instance = i; budget = budget; kept = kept; pool = pool; plan = plan; bound = 0 }) (draft i budget kept)
+pub begun : (i : Instance) (budget kept : ℕ) (pool : List Route) (plan : Plan) → pool ≡ [] → plan ≡ empty_plan (length i.tasks)
+    → ◌≡◌ {A = Begun} (record { instance = i; budget = budget; kept = kept; pool = pool; plan = plan; bound = 0 }) (begin i budget kept)
 begun i budget kept pool plan e f =
-    ap (λ x. with_parts x plan) e ∙ ap (λ x. with_parts [] x) (f ∙ no_jobs (length i.tasks))
+    ap (λ x. with_parts x plan) e ∙ ap (λ x. with_parts [] x) f
   where
-    with_parts : List Route → Plan → Draft
+    with_parts : List Route → Plan → Begun
     with_parts x y = record { instance = i; budget = budget; kept = kept; pool = x; plan = y; bound = 0 }
 
 -- ---- the line `pool`
@@ -88,7 +84,7 @@ pub pool_many : (i : Instance) (budget k c : ℕ) (ws : Words) → k ≤ 9223372
 pool_many i budget k c ws a b is more = Holds (_, is, refl) (Spelled (k, c) (a, b) is (Fails (λ le. absurd (omega arith)) refl))
 
 pub pool_more : (i : Instance) (budget k c : ℕ) (ws : Words) → k ≤ 9223372036854775807 → c ≤ 9223372036854775807 → ws ≡ pool_line k c
-    → k ≤ c → pool_row i budget ws (Goes (routes_due (draft i budget k) c))
+    → k ≤ c → pool_row i budget ws (Goes (routes_due (begin i budget k) c))
 pool_more i budget k c ws a b is le = Holds (_, is, refl) (Spelled (k, c) (a, b) is (Holds le (On refl)))
 
 -- ---- a line `route`
@@ -109,19 +105,19 @@ route_of_counts i m n r a b h = record {
   starts = h.starts;
 }
 
-small_tasks : (n : ℕ) (vs : List Visit) → n ≤ 400 → AllByRecursion (λ (v : Visit). v.task < n) vs → AllByRecursion (λ (v : Visit). v.task < 2 ^ 32) vs
+small_tasks : (n : ℕ) (vs : List Visit) → n ≤ MOST_TASKS → AllByRecursion (λ (v : Visit). v.task < n) vs → AllByRecursion (λ (v : Visit). v.task < 2 ^ 32) vs
 small_tasks n [] few h = tt
 small_tasks n (v ∷ vs) few h = let a = h.0 in (omega arith, small_tasks n vs few h.1)
 
-small_starts : (vs : List Visit) → AllByRecursion (λ (v : Visit). v.start ≤ 2880) vs → AllByRecursion (λ (v : Visit). v.start < 2 ^ 32) vs
+small_starts : (vs : List Visit) → AllByRecursion (λ (v : Visit). v.start ≤ LAST_MINUTE) vs → AllByRecursion (λ (v : Visit). v.start < 2 ^ 32) vs
 small_starts [] h = tt
 small_starts (v ∷ vs) h = let a = h.0 in (omega arith, small_starts vs h.1)
 
-pub route_numbers : (m n : ℕ) (r : Route) → n ≤ 400 → IsRouteOf m n r → AreNumbersOf r.visits (map pos (flat_map visit_numbers r.visits))
+pub route_numbers : (m n : ℕ) (r : Route) → n ≤ MOST_TASKS → IsRouteOf m n r → AreNumbersOf r.visits (map pos (flat_map visit_numbers r.visits))
 route_numbers m n r few h = record { spelled = refl; tasks = small_tasks n r.visits few h.tasks; starts = small_starts r.visits h.starts }
 
 -- the row of a route is what the pool says of it
-pub route_judged : (b : Draft) (more : ℕ) (ws : Words) (r : Route) (new : List Route) (verdict : PoolVerdict) (after : Held) (step : Step)
+pub route_judged : (b : Begun) (more : ℕ) (ws : Words) (r : Route) (new : List Route) (verdict : PoolVerdict) (after : Held) (step : Step)
     → IsRouteLine b.instance r → ws ≡ route_line r → IsVerdict (root_limits b.instance) b.pool r verdict → pool_after b.pool r new verdict
     → draft_of after ≡ record b { pool = new } → TellsRoute after more verdict step → Tells (route_row b more ws) step
 route_judged b more ws r new verdict after step fits is says pool e told = at verdict says pool step told

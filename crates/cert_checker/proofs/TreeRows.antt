@@ -6,13 +6,13 @@ use Rattle.crew_terms.specs.Instance.{Instance}
 use Rattle.crew_terms.specs.Limits.{root_limits}
 use Rattle.dossier_terms.specs.declared.Reason.{Reason}
 use Rattle.dossier_terms.specs.Lines.{tree_line}
-use Rattle.dossier_terms.specs.Reading.{Said, More as Goes, No as Refuses, Draft, Counts, Nodes}
+use Rattle.dossier_terms.specs.Reading.{Said, More as Goes, No as Refuses, Nodes, Begun}
+use Rattle.crew_terms.specs.declared.TreeCounts.{TreeCounts}
 use Rattle.dossier_terms.specs.Rules.{Holds, Spelled, On}
 use Rattle.dossier_terms.specs.Table.{IsCounts, tree_row, after_counts}
 use Rattle.node_limits.specs.Rest.{Rest, limits_over, trail_over}
 use Rattle.node_limits.specs.Trail.{Trail}
-use Rattle.tree_walk.specs.Way.{Walked, IsAt, counts_of}
-use Rattle.tree_walk.specs.declared.walk.TreeCounts.{TreeCounts}
+use Rattle.tree_walk.specs.Way.{Walked, IsAt}
 use Rattle.cert_checker.specs.Due.{IsNode, IsRoot, Tells, draft_of}
 use Rattle.cert_checker.specs.Rules.{IsTreeFault}
 use Rattle.cert_checker.specs.declared.due.Draft.{Draft as Held}
@@ -20,24 +20,24 @@ use Rattle.cert_checker.specs.declared.due.TreeDraft.{TreeDraft}
 use Rattle.cert_checker.specs.declared.due.Due.TheVariants.{Node}
 use Rattle.cert_checker.specs.declared.due.Step.TheVariants.{More, No}
 
-tree_says : (b : Draft) (c : Counts) (ws : Words) (said : Said) → IsCounts c → ws ≡ tree_line c.splits c.closed c.left_open c.depth
+tree_says : (b : Begun) (c : TreeCounts) (ws : Words) (said : Said) → IsCounts c → ws ≡ tree_line c
     → after_counts b c said → tree_row b ws said
 tree_says b c ws said fits is rest = Holds (_, is, refl) (Spelled c fits is rest)
 
-pub tree_faulty : (b : Box Held) (claimed : TreeCounts) (ws : Words) (reason : Reason) → IsCounts (counts_of claimed)
-    → ws ≡ tree_line claimed.splits claimed.closed claimed.left_open claimed.depth → IsTreeFault (draft_of b.value) (counts_of claimed) (Some reason)
+pub tree_faulty : (b : Box Held) (claimed : TreeCounts) (ws : Words) (reason : Reason) → IsCounts claimed
+    → ws ≡ tree_line claimed → IsTreeFault (draft_of b.value) claimed (Some reason)
     → Tells (tree_row (draft_of b.value) ws) (No reason)
-tree_faulty b claimed ws reason fits is broken = tree_says (draft_of b.value) (counts_of claimed) ws (Refuses reason) fits is broken
+tree_faulty b claimed ws reason fits is broken = tree_says (draft_of b.value) claimed ws (Refuses reason) fits is broken
 
 -- the numbers of a tree break no rule, and its root is due
-pub tree_begun : (b : Box Held) (claimed : TreeCounts) (tree : Box TreeDraft) (ws : Words) → IsCounts (counts_of claimed)
-    → ws ≡ tree_line claimed.splits claimed.closed claimed.left_open claimed.depth → IsTreeFault (draft_of b.value) (counts_of claimed) None
+pub tree_begun : (b : Box Held) (claimed : TreeCounts) (tree : Box TreeDraft) (ws : Words) → IsCounts claimed
+    → ws ≡ tree_line claimed → IsTreeFault (draft_of b.value) claimed None
     → tree.value.draft ≡ b → tree.value.claimed ≡ claimed → IsNode tree.value [] → Tells (tree_row (draft_of b.value) ws) (More (Node tree None))
 tree_begun b claimed tree ws fits is good e f node =
-    let root = Nodes (draft_of b.value) (counts_of claimed) [] in
-    let same : root ≡ Nodes (draft_of tree.value.draft.value) (counts_of tree.value.claimed) [] =
-    ap (λ (d : Box Held). Nodes (draft_of d.value) (counts_of claimed) []) (sym e) ∙ ap (λ c. Nodes (draft_of tree.value.draft.value) (counts_of c) []) (sym f) in
-    (root, tree_says (draft_of b.value) (counts_of claimed) ws (Goes root) fits is (good (Goes root) (On refl)), ([], node, tt, same))
+    let root = Nodes (draft_of b.value) claimed [] in
+    let same : root ≡ Nodes (draft_of tree.value.draft.value) tree.value.claimed [] =
+    ap (λ (d : Box Held). Nodes (draft_of d.value) claimed []) (sym e) ∙ ap (λ c. Nodes (draft_of tree.value.draft.value) c []) (sym f) in
+    (root, tree_says (draft_of b.value) claimed ws (Goes root) fits is (good (Goes root) (On refl)), ([], node, tt, same))
 
 -- a walk begins at the root
 pub at_root : (i : Instance) (limits : Rest) (walk : Walked) → IsRoot i limits → ((t : Trail) → t.past ≡ [] → IsAt t.limits t walk []) → IsAt (root_limits i) (trail_over i limits) walk []

@@ -1,10 +1,12 @@
 -- what a checker has read, and what it says of a line
 use Rattle.std.specs.Prelude.{◌≡◌, ◌≤◌, ◌+◌, ℕ, List}
 use Rattle.crew_terms.specs.Words.{Words}
-use Rattle.crew_terms.specs.Plan.{Plan, IsLegal, unassigned_count}
+use Rattle.crew_terms.specs.Plan.{Plan, unassigned_count}
+use Rattle.crew_terms.specs.Legal.{IsLegal}
 use Rattle.dossier_terms.specs.declared.Reason.{Reason}
 use Rattle.dossier_terms.specs.declared.Reason.TheVariants as reasons
-use Rattle.dossier_terms.specs.Dossier.{Dossier, IsGood, splits, closed, left_open}
+use Rattle.dossier_terms.specs.Dossier.{Dossier, IsGood}
+use Rattle.crew_terms.specs.Branches.{splits, closed, left_open}
 use Rattle.dossier_terms.specs.Reading.{Reading, Form, Said as Answer, More as Goes, Whole as Ends, No as Refuses}
 use Rattle.dossier_terms.specs.Table.{Says, Reaches}
 use Rattle.head_check.specs.declared.due.HeadDue.TheVariants as heads

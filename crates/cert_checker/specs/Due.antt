@@ -6,13 +6,16 @@ use Rattle.crew_terms.specs.Instance.{Instance}
 use Rattle.crew_terms.specs.Limits.{Limits as NodeLimits, root_limits}
 use Rattle.crew_terms.specs.Verdict.{IsPlanOf}
 use Rattle.dossier_terms.specs.Dossier.{Dossier, Written}
-use Rattle.dossier_terms.specs.Reading.{Reading, Said, More as Goes, Whole as Ends, No as Refuses, Draft as Read, Frame, Place, whole, limits_of, Pools, Routes, Plans, Jobs, Trees, Nodes, Ends as EndDue}
+use Rattle.dossier_terms.specs.Reading.{Reading, Said, More as Goes, Whole as Ends, No as Refuses, whole, limits_of, Pools, Routes, Plans, Jobs, Trees, Nodes, Ends as EndDue, Begun as Read, Above, LeafSite}
 use Rattle.dossier_terms.specs.Table.{IsCounts, Says}
 use Rattle.node_limits.specs.Rest.{Rest, IsRestOver, limits_over, trail_over}
 use Rattle.head_check.specs.Head.{Holds as HoldsHead, IsLineDue, reading_of}
 use Rattle.leaf_check.specs.Reader.{IsReady, StandsFor}
 use Rattle.leaf_check.specs.declared.reader.LeafReader.{LeafReader}
-use Rattle.tree_walk.specs.Way.{IsAt, counts_of, counts_of_tree, leaves_like}
+use Rattle.crew_terms.specs.declared.Choice.{Choice}
+use Rattle.crew_terms.specs.declared.Choice.TheVariants as choices
+use Rattle.dossier_terms.specs.Lines.{counts_of}
+use Rattle.tree_walk.specs.Way.{IsAt, leaves_like}
 use Rattle.cert_checker.specs.declared.due.Draft.{Draft}
 use Rattle.cert_checker.specs.declared.due.TreeDraft.{TreeDraft}
 use Rattle.cert_checker.specs.declared.due.Ended.{Ended}
@@ -36,21 +39,26 @@ pub record IsBegun (b : Draft) : Type 0 where
   pub root : IsRoot b.base.instance b.limits
 
 -- the walk stands at the node below these splits, and the limits are its
-pub record IsNode (tree : TreeDraft) (above : List Frame) : Type 0 where
-  pub claimed : IsCounts (counts_of tree.claimed)
+pub record IsNode (tree : TreeDraft) (above : List Above) : Type 0 where
+  pub claimed : IsCounts tree.claimed
   pub over : IsRestOver tree.draft.value.base.instance tree.draft.value.limits
   pub at : IsAt (root_limits tree.draft.value.base.instance) (trail_over tree.draft.value.base.instance tree.draft.value.limits) tree.walk above
 
 -- the walk stands at a node
 abbrev pub IsInTree : TreeDraft → Type 0
-IsInTree tree = (above : List Frame) × IsNode tree above
+IsInTree tree = (above : List Above) × IsNode tree above
+
+-- the split is of a task, or of a team and a task, of the instance
+abbrev pub IsKnown : Instance → Choice → Type 0
+IsKnown i (choices.Window j cut) = j < length i.tasks
+IsKnown i (choices.Pair k j) = (k < length i.teams) × (j < length i.tasks)
 
 -- a reader that is there has room for the leaves of the instance
 abbrev pub IsReaderFor : Instance → Option (Box LeafReader) → Type 0
 IsReaderFor i reader = IfSome reader (λ r. (n : NodeLimits) × (n.instance ≡ i) × IsReady n r.value)
 
 -- the numbers that are claimed have room for one more split of the node, and for one more leaf of a kind
-pub record HasSplitRoom (tree : TreeDraft) : Type 0 where
+pub record HasSplitLeft (tree : TreeDraft) : Type 0 where
   pub splits : tree.walk.seen.splits < tree.claimed.splits
   pub depth : length tree.walk.above < tree.claimed.depth
 
@@ -58,15 +66,15 @@ abbrev pub HasLeafRoom : TreeDraft → Bool → Type 0
 HasLeafRoom tree is_closed = leaves_like is_closed tree.walk.seen < leaves_like is_closed tree.claimed
 
 -- where a leaf below these splits stands in its dossier
-abbrev pub place_of : TreeDraft → List Frame → Bool → Place
-place_of tree above is_closed = record { draft = draft_of tree.draft.value; counts = counts_of tree.claimed; above = above; is_closed = is_closed }
+abbrev pub site_of : TreeDraft → List Above → Bool → LeafSite
+site_of tree above is_closed = record { begun = draft_of tree.draft.value; counts = tree.claimed; above = above; is_closed = is_closed }
 
 -- the reader stands for what has been read of the leaf below these splits
-pub record IsInLeaf (tree : TreeDraft) (reader : LeafReader) (is_closed : Bool) (above : List Frame) (reading : Reading) : Type 0 where
+pub record IsInLeaf (tree : TreeDraft) (reader : LeafReader) (is_closed : Bool) (above : List Above) (reading : Reading) : Type 0 where
   pub node : IsNode tree above
-  pub ready : IsReady (limits_of (place_of tree above is_closed)) reader
+  pub ready : IsReady (limits_of (site_of tree above is_closed)) reader
   pub room : HasLeafRoom tree is_closed
-  pub stands : StandsFor (place_of tree above is_closed) reader reading
+  pub stands : StandsFor (site_of tree above is_closed) reader reading
 
 -- what is kept stands for this state of the table of lines. It is that state but for the numbers of the leaves, of
 -- which no more is kept than the next lines need.
@@ -77,9 +85,9 @@ Awaits (Route b more) r = IsBegun b.value × (r ≡ Routes (draft_of b.value) mo
 Awaits (Plan b) r = IsBegun b.value × (r ≡ Plans (draft_of b.value))
 Awaits (Job b more from) r = IsBegun b.value × (r ≡ Jobs (draft_of b.value) more from)
 Awaits (Tree b) r = IsRoot b.value.base.instance b.value.limits × (r ≡ Trees (draft_of b.value))
-Awaits (Node tree reader) r = (above : List Frame) × IsNode tree.value above × IsReaderFor tree.value.draft.value.base.instance reader × (r ≡ Nodes (draft_of tree.value.draft.value) (counts_of tree.value.claimed) above)
-Awaits (Leaf tree reader is_closed) r = (above : List Frame) × IsInLeaf tree.value reader.value is_closed above r
-Awaits (End tree seen) r = (t : Written) × (counts_of seen ≡ counts_of_tree t) × (r ≡ EndDue (draft_of tree.value.draft.value) (counts_of tree.value.claimed) t)
+Awaits (Node tree reader) r = (above : List Above) × IsNode tree.value above × IsReaderFor tree.value.draft.value.base.instance reader × (r ≡ Nodes (draft_of tree.value.draft.value) tree.value.claimed above)
+Awaits (Leaf tree reader is_closed) r = (above : List Above) × IsInLeaf tree.value reader.value is_closed above r
+Awaits (End tree seen) r = (t : Written) × (seen ≡ counts_of t) × (r ≡ EndDue (draft_of tree.value.draft.value) tree.value.claimed t)
 
 -- what is kept stands for some state of the table
 abbrev pub IsAwaited : Due → Type 0
@@ -89,7 +97,7 @@ IsAwaited due = (reading : Reading) × Awaits due reading
 pub record IsEndOf (ended : Ended) (d : Dossier) : Type 0 where
   pub tree : Written
   pub is : d ≡ whole (draft_of ended.draft.value) tree
-  pub counts : counts_of ended.counts ≡ counts_of_tree tree
+  pub counts : ended.counts ≡ counts_of tree
 
 -- the step is what these rules say, and what is kept stands for what they lead to
 abbrev pub Tells : (Said → Type 0) → Step → Type 0

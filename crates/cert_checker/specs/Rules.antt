@@ -2,7 +2,8 @@
 use Rattle.std.specs.Prelude.{◌≡◌, ℕ, [], Option, None, Some}
 use Rattle.dossier_terms.specs.declared.Reason.{Reason}
 use Rattle.dossier_terms.specs.declared.Reason.TheVariants.{Pool}
-use Rattle.dossier_terms.specs.Reading.{Said, No as Refuses, Draft, Counts, Nodes, routes_due}
+use Rattle.dossier_terms.specs.Reading.{Said, No as Refuses, Nodes, routes_due, Begun}
+use Rattle.crew_terms.specs.declared.TreeCounts.{TreeCounts}
 use Rattle.dossier_terms.specs.Rules.{Goes}
 use Rattle.dossier_terms.specs.Table.{after_counts}
 use Rattle.route_pool.specs.declared.pool.PoolVerdict.{PoolVerdict}
@@ -20,6 +21,6 @@ TellsRoute b more Repeated (No reason) = reason ≡ Pool
 TellsRoute b more _ _ = ⊥
 
 -- the first rule that the numbers of a tree break; none where they break none
-abbrev pub IsTreeFault : Draft → Counts → Option Reason → Type 0
+abbrev pub IsTreeFault : Begun → TreeCounts → Option Reason → Type 0
 IsTreeFault b c (Some reason) = after_counts b c (Refuses reason)
 IsTreeFault b c None = (s : Said) → Goes (Nodes b c []) s → after_counts b c s

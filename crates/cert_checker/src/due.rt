@@ -1,12 +1,13 @@
 // How far a dossier has been read: the line that is due, and what is kept of the lines before it.
 
+use crew_instance::Plan;
+use crew_terms::TreeCounts;
 use dossier_terms::Reason;
 use head_check::{Base, HeadDue};
 use leaf_check::LeafReader;
 use node_limits::Held;
-use plan_check::Plan;
 use route_pool::Pool;
-use tree_walk::{TreeCounts, Walk};
+use tree_walk::Walk;
 
 /// A dossier without its tree. The routes of the pool and the jobs of the plan may not all be read yet.
 #[derive(Drop)]

@@ -4,13 +4,13 @@ ghost use Rattle.cert_checker.specs.Due.{IsAwaited, IsStep};
 use crate::due::{Due, Ended, Step, TreeDraft};
 use crate::node::leave;
 use cert_format::{Expect, fault_is_refused, read_line};
+use crew_instance::unassigned;
+use crew_terms::TreeCounts;
 use dossier_terms::Reason;
 use field_table::LineWords;
 use leaf_check::{Goal, LeafReader, LeafStep};
 use node_limits::Limits;
-use plan_check::unassigned;
 use std::alloc::Global;
-use tree_walk::TreeCounts;
 
 /// A line of the numbers of a leaf.
 pub fn number_line(

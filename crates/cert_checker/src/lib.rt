@@ -14,6 +14,5 @@ mod tests;
 mod tree;
 
 pub use checker::{Checker, Said, Stop, Verdict};
-pub use crew_instance::Instance;
+pub use crew_instance::{Instance, Plan};
 pub use dossier_terms::Reason;
-pub use plan_check::Plan;

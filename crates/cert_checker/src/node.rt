@@ -1,17 +1,18 @@
 // The lines of nodes: `window`, `pair` and `leaf`.
-ghost use Rattle.std.specs.Prelude.{◌<◌, ◌↔◌, List, length, IfOk, IsTrue};
+ghost use Rattle.std.specs.Prelude.{◌≡◌, ◌<◌, ◌↔◌, List, IfOk, IsTrue};
 ghost use Rattle.crew_terms.specs.Limits.{tasks_in, teams_in};
-ghost use Rattle.dossier_terms.specs.Dossier.{Written};
-ghost use Rattle.dossier_terms.specs.Reading.{Frame, Place, Prices, node_done};
+ghost use Rattle.crew_terms.specs.Branches.{LeafNode, Claim};
+ghost use Rattle.dossier_terms.specs.Dossier.{Leaf};
+ghost use Rattle.dossier_terms.specs.Reading.{Prices, node_done, Above, LeafSite};
 ghost use Rattle.leaf_check.specs.Reader.{IsReady, StandsFor};
-ghost use Rattle.tree_walk.specs.Splits.{IsFreePair};
-ghost use Rattle.tree_walk.specs.Way.{IsLeaf, counts_of};
-ghost use Rattle.cert_checker.specs.Due.{Awaits, HasLeafRoom, HasSplitRoom, IsAwaited, IsInTree, IsNode, IsReaderFor, IsStep, Tells, draft_of};
-ghost use Rattle.dossier_terms.specs.Table.{after_bare, after_leaf, after_pair, after_window};
+ghost use Rattle.crew_terms.specs.Tree.{CanSplit, IsFreePair};
+ghost use Rattle.tree_walk.specs.Way.{IsLeaf};
+ghost use Rattle.cert_checker.specs.Due.{Awaits, HasLeafRoom, HasSplitLeft, IsAwaited, IsInTree, IsKnown, IsNode, IsReaderFor, IsStep, Tells, draft_of};
+ghost use Rattle.dossier_terms.specs.Table.{after_bare, after_leaf, after_split, split_fault};
 
 use crate::due::{Due, Step, TreeDraft};
 use cert_format::{Expect, LineKind, fault_is_refused, read_line};
-use crew_terms::Pair;
+use crew_terms::{Choice, Pair};
 use dossier_terms::Reason;
 use field_table::LineWords;
 use leaf_check::LeafReader;
@@ -21,7 +22,7 @@ use tree_walk::is_cut;
 
 /// Whether the numbers that are claimed have room for a split of the node that is due.
 fn has_split_room(tree: &TreeDraft) -> bool
-    ensures { IsTrue result ↔ HasSplitRoom tree.now }
+    ensures { IsTrue result ↔ HasSplitLeft tree.now }
 {
     tree.walk.seen().splits < tree.claimed.splits && tree.walk.level() < tree.claimed.depth as usize
 }
@@ -47,8 +48,8 @@ pub fn leave(
     requires node { IsInTree tree.value }
     requires reader { IsReaderFor tree.value.draft.value.base.instance reader }
     requires room { HasLeafRoom tree.value is_closed }
-    ensures { (fs : List Frame) (leaf : Written) → IsNode tree.value fs → IsLeaf is_closed leaf
-        → Awaits result (node_done (draft_of tree.value.draft.value) (counts_of tree.value.claimed) fs leaf) }
+    ensures { (fs : List Above) (claim : Claim Leaf) → IsNode tree.value fs → IsLeaf is_closed claim
+        → Awaits result (node_done (draft_of tree.value.draft.value) tree.value.claimed fs (LeafNode claim)) }
 {
     let held = &mut *tree;
     let draft = &mut *held.draft;
@@ -60,33 +61,6 @@ pub fn leave(
     }
     let seen = held.walk.seen();
     Due::End { tree, seen }
-}
-
-/// A line `window`.
-fn window_line(
-    alloc: Global,
-    mut tree: Box<TreeDraft>,
-    reader: Option<Box<LeafReader>>,
-    task: u32,
-    cut: u32,
-) -> Result<Step, AllocError>
-    requires node { IsInTree tree.value }
-    requires reader { IsReaderFor tree.value.draft.value.base.instance reader }
-    requires task { task < length tree.value.draft.value.base.instance.tasks }
-    ensures { IfOk result (λ step. (fs : List Frame) → IsNode tree.value fs → Tells (after_window (draft_of tree.value.draft.value) (counts_of tree.value.claimed) fs task cut) step) }
-{
-    if !has_split_room(&tree) {
-        return Ok(Step::No(Reason::Count));
-    }
-    let held = &mut *tree;
-    let draft = &mut *held.draft;
-    let mut limits = Limits::wake(&draft.base.instance, draft.limits.take(alloc));
-    if !is_cut(&limits, task, cut) {
-        return Ok(Step::No(Reason::Cut));
-    }
-    held.walk.enter_window(&mut limits, task, cut)?;
-    draft.limits = limits.rest();
-    Ok(Step::More(Due::Node { tree, reader }))
 }
 
 /// Whether nothing is said yet of the team and the task.
@@ -101,19 +75,38 @@ fn is_free(limits: &Limits<'_>, team: u32, task: u32) -> bool
     }
 }
 
-/// A line `pair`.
-fn pair_line(
+/// Whether the node can be split so.
+fn can_split(limits: &Limits<'_>, choice: Choice) -> bool
+    requires { IsKnown limits.now.limits.instance choice }
+    ensures { IsTrue result ↔ CanSplit limits.now.limits choice }
+{
+    match choice {
+        Choice::Window { task, cut } => is_cut(limits, task, cut),
+        Choice::Pair { team, task } => is_free(limits, team, task),
+    }
+}
+
+/// Why the node can't be split so.
+fn split_fault(choice: Choice) -> Reason
+    ensures { result ≡ split_fault choice }
+{
+    match choice {
+        Choice::Window { .. } => Reason::Cut,
+        Choice::Pair { .. } => Reason::Pair,
+    }
+}
+
+/// A line `window` or `pair`.
+fn split_line(
     alloc: Global,
     mut tree: Box<TreeDraft>,
     reader: Option<Box<LeafReader>>,
-    team: u32,
-    task: u32,
+    choice: Choice,
 ) -> Result<Step, AllocError>
     requires node { IsInTree tree.value }
     requires reader { IsReaderFor tree.value.draft.value.base.instance reader }
-    requires team { team < length tree.value.draft.value.base.instance.teams }
-    requires task { task < length tree.value.draft.value.base.instance.tasks }
-    ensures { IfOk result (λ step. (fs : List Frame) → IsNode tree.value fs → Tells (after_pair (draft_of tree.value.draft.value) (counts_of tree.value.claimed) fs team task) step) }
+    requires known { IsKnown tree.value.draft.value.base.instance choice }
+    ensures { IfOk result (λ step. (fs : List Above) → IsNode tree.value fs → Tells (after_split (draft_of tree.value.draft.value) tree.value.claimed fs choice) step) }
 {
     if !has_split_room(&tree) {
         return Ok(Step::No(Reason::Count));
@@ -121,10 +114,10 @@ fn pair_line(
     let held = &mut *tree;
     let draft = &mut *held.draft;
     let mut limits = Limits::wake(&draft.base.instance, draft.limits.take(alloc));
-    if !is_free(&limits, team, task) {
-        return Ok(Step::No(Reason::Pair));
+    if !can_split(&limits, choice) {
+        return Ok(Step::No(split_fault(choice)));
     }
-    held.walk.enter_pair(&mut limits, team, task)?;
+    held.walk.enter(&mut limits, choice)?;
     draft.limits = limits.rest();
     Ok(Step::More(Due::Node { tree, reader }))
 }
@@ -133,7 +126,7 @@ fn pair_line(
 fn bare_line(alloc: Global, tree: Box<TreeDraft>, reader: Option<Box<LeafReader>>) -> Step
     requires node { IsInTree tree.value }
     requires reader { IsReaderFor tree.value.draft.value.base.instance reader }
-    ensures { (fs : List Frame) → IsNode tree.value fs → Tells (after_bare (draft_of tree.value.draft.value) (counts_of tree.value.claimed) fs) result }
+    ensures { (fs : List Above) → IsNode tree.value fs → Tells (after_bare (draft_of tree.value.draft.value) tree.value.claimed fs) result }
 {
     if !has_leaf_room(&tree, false) {
         return Step::No(Reason::Count);
@@ -152,7 +145,7 @@ fn leaf_reader(
 ) -> Result<Box<LeafReader>, AllocError>
     requires { IsReaderFor limits.now.limits.instance reader }
     ensures ready { IfOk result (λ r. IsReady limits.now.limits r.value) }
-    ensures begun { IfOk result (λ r. (place : Place) → StandsFor place r.value (Prices place)) }
+    ensures begun { IfOk result (λ r. (site : LeafSite) → StandsFor site r.value (Prices site)) }
 {
     let mut reader = match reader {
         Some(reader) => reader,
@@ -171,7 +164,7 @@ fn leaf_line(
 ) -> Result<Step, AllocError>
     requires node { IsInTree tree.value }
     requires reader { IsReaderFor tree.value.draft.value.base.instance reader }
-    ensures { IfOk result (λ step. (fs : List Frame) → IsNode tree.value fs → Tells (after_leaf (draft_of tree.value.draft.value) (counts_of tree.value.claimed) fs is_closed) step) }
+    ensures { IfOk result (λ step. (fs : List Above) → IsNode tree.value fs → Tells (after_leaf (draft_of tree.value.draft.value) tree.value.claimed fs is_closed) step) }
 {
     if !has_leaf_room(&tree, is_closed) {
         return Ok(Step::No(Reason::Count));
@@ -206,8 +199,12 @@ pub fn node_line(
         Err(fault) => return Ok(Step::No(fault.reason())),
     };
     match kind {
-        LineKind::Window { task, cut } => window_line(alloc, tree, reader, task, cut),
-        LineKind::Pair { team, task } => pair_line(alloc, tree, reader, team, task),
+        LineKind::Window { task, cut } => {
+            split_line(alloc, tree, reader, Choice::Window { task, cut })
+        }
+        LineKind::Pair { team, task } => {
+            split_line(alloc, tree, reader, Choice::Pair { team, task })
+        }
         LineKind::LeafBare => Ok(bare_line(alloc, tree, reader)),
         LineKind::LeafOpen => leaf_line(alloc, tree, reader, false),
         LineKind::LeafClosed => leaf_line(alloc, tree, reader, true),

@@ -1,17 +1,17 @@
 // The lines of a pool: `pool`, and each `route`.
 ghost use Rattle.std.specs.Prelude.{◌≡◌, ℕ, pos, IfOk};
 ghost use Rattle.dossier_terms.specs.Reading.{routes_due};
-ghost use Rattle.dossier_terms.specs.Table.{draft};
+ghost use Rattle.dossier_terms.specs.Table.{begin};
 ghost use Rattle.cert_checker.specs.Due.{Awaits, IsAwaited, IsBegun, IsStep, draft_of};
 ghost use Rattle.cert_checker.specs.Rules.{TellsRoute};
 
 use crate::due::{Draft, Due, Step};
 use cert_format::{Expect, LineKind, fault_is_refused, read_line};
+use crew_instance::Plan;
 use dossier_terms::Reason;
 use field_table::LineWords;
 use head_check::Base;
 use node_limits::Limits;
-use plan_check::Plan;
 use route_pool::{Pool, PoolVerdict, Route};
 use std::alloc::{AllocError, Global};
 
@@ -40,7 +40,7 @@ fn due_routes(draft: Box<Draft>, more: u64) -> Due
 
 /// What is due behind the line `pool`, where it has these numbers. No memory is taken by them.
 fn begin_pool(alloc: Global, base: Base, kept: u64, routes: u64) -> Result<Due, AllocError>
-    ensures { IfOk result (λ due. Awaits due (routes_due (draft base.instance base.nodes kept) routes)) }
+    ensures { IfOk result (λ due. Awaits due (routes_due (begin base.instance base.nodes kept) routes)) }
 {
     let limits = Limits::root(alloc, &base.instance)?;
     let limits = limits.rest();

@@ -1,22 +1,22 @@
 // The line `tree`: the numbers of a branch tree.
 ghost use Rattle.std.specs.Prelude.{◌≡◌, [], IfOk};
 ghost use Rattle.dossier_terms.specs.Table.{IsCounts};
-ghost use Rattle.tree_walk.specs.Way.{counts_of};
 ghost use Rattle.cert_checker.specs.Due.{IsAwaited, IsNode, IsRoot, IsStep, draft_of};
 ghost use Rattle.cert_checker.specs.Rules.{IsTreeFault};
 
 use crate::due::{Draft, Due, Step, TreeDraft};
 use cert_format::{Expect, LineKind, fault_is_refused, read_line};
+use crew_instance::unassigned;
+use crew_terms::TreeCounts;
 use dossier_terms::Reason;
 use field_table::LineWords;
-use plan_check::unassigned;
 use std::alloc::{AllocError, Global};
-use tree_walk::{TreeCounts, Walk};
+use tree_walk::Walk;
 
 /// The first rule that the numbers of a tree break: they must fit each other, the budget and the bound.
 fn fault_of_tree(draft: &Draft, claimed: TreeCounts) -> Option<Reason>
-    requires { IsCounts (counts_of claimed) }
-    ensures { IsTreeFault (draft_of draft.now) (counts_of claimed) result }
+    requires { IsCounts claimed }
+    ensures { IsTreeFault (draft_of draft.now) claimed result }
 {
     if claimed.closed + claimed.left_open != claimed.splits + 1 {
         return Some(Reason::Count);
@@ -38,7 +38,7 @@ fn begin_tree(
     claimed: TreeCounts,
 ) -> Result<Box<TreeDraft>, AllocError>
     requires root { IsRoot draft.value.base.instance draft.value.limits }
-    requires counts { IsCounts (counts_of claimed) }
+    requires counts { IsCounts claimed }
     ensures draft { IfOk result (λ tree. tree.value.draft ≡ draft) }
     ensures claimed { IfOk result (λ tree. tree.value.claimed ≡ claimed) }
     ensures node { IfOk result (λ tree. IsNode tree.value []) }
@@ -62,20 +62,8 @@ pub fn tree_line(alloc: Global, draft: Box<Draft>, words: LineWords<'_>) -> Resu
         Ok(kind) => kind,
         Err(fault) => return Ok(Step::No(fault.reason())),
     };
-    let LineKind::Tree {
-        splits,
-        closed,
-        left_open,
-        depth,
-    } = kind
-    else {
+    let LineKind::Tree { counts: claimed } = kind else {
         unreachable!()
-    };
-    let claimed = TreeCounts {
-        splits,
-        closed,
-        left_open,
-        depth,
     };
     if let Some(reason) = fault_of_tree(&draft, claimed) {
         return Ok(Step::No(reason));

@@ -48,7 +48,7 @@ fault_says Form ws Shape h = Fails h refl
 fault_says Form ws Number h = absurd (h.2 kinds.Form h.0)
 fault_says Form ws Name h = absurd (h.1 tt)
 fault_says Sizes ws Shape h = Fails h refl
-fault_says Sizes ws Number h = Holds h.0 (Unspelled (λ z fits is. h.2 (kinds.Size z.teams z.tasks z.places z.nodes) (fits, is)) refl)
+fault_says Sizes ws Number h = Holds h.0 (Unspelled (λ z fits is. h.2 (kinds.Size z) (fits, is)) refl)
 fault_says Sizes ws Name h = absurd (h.1 tt)
 fault_says (Places z k i) ws Shape h = Fails h refl
 fault_says (Places z k i) ws Number h = absurd (h.2 (kinds.Place h.1.0) (h.1.1, h.1.2))
@@ -62,7 +62,7 @@ fault_says (Teams z k i) ws Number h = Holds h.0 (Holds h.1 (Unspelled (λ p fit
 fault_says (Teams z k i) ws Name h = Holds h.0 (Fails h.1 refl)
 fault_says (Tasks z k i) ws Shape h = Fails h refl
 fault_says (Tasks z k i) ws Number h = Holds h.0 (Holds h.1 (Unspelled (λ p fits is. h.2 (kinds.Task p.0.name p.0.place p.0.earliest p.0.latest p.0.minutes p.0.teams (map pos p.1))
-    (p.1, refl, record { name = fits.name; place = fits.place; earliest = fits.earliest; latest = fits.latest; some_minutes = fits.some_minutes; minutes = fits.minutes; some_teams = fits.some_teams; teams = fits.teams; none = refl; skills = fits.skills }, is)) refl))
+    (p.1, refl, record { name = fits.name; place = fits.place; earliest = fits.earliest; latest = fits.latest; some_minutes = fits.some_minutes; minutes = fits.minutes; teams = fits.teams; none = refl; skills = fits.skills }, is)) refl))
 fault_says (Tasks z k i) ws Name h = Holds h.0 (Fails h.1 refl)
 fault_says (Pools i budget) ws Shape h = Fails h refl
 fault_says (Pools i budget) ws Number h = Holds h.0 (Unspelled (λ p fits is. h.2 (kinds.Pool (pos p.0) (pos p.1)) (p.0, p.1, refl, refl, fits.0, fits.1, is)) refl)
@@ -79,7 +79,7 @@ fault_says (Jobs b k from) ws Number h = Holds h.0 (Unspelled (λ p fits is. h.2
     (p.1.teams, refl, record { task = fits.task; start = fits.start; teams = fits.teams }, is)) refl)
 fault_says (Jobs b k from) ws Name h = absurd (h.1 tt)
 fault_says (Trees b) ws Shape h = Fails h refl
-fault_says (Trees b) ws Number h = Holds h.0 (Unspelled (λ c fits is. h.2 (kinds.Tree c.splits c.closed c.left_open c.depth) (fits, is)) refl)
+fault_says (Trees b) ws Number h = Holds h.0 (Unspelled (λ c fits is. h.2 (kinds.Tree c) (fits, is)) refl)
 fault_says (Trees b) ws Name h = absurd (h.1 tt)
 fault_says (Nodes b c above) ws Shape h = elim (begins (codes "window") ws) [
   | inl w ↦ Then w (Fails (λ s. h (WindowShape s)) refl)

@@ -1,17 +1,18 @@
 -- lines that are written one after another
-use Rattle.std.proofs.Common.{◌≡◌, ◌≢◌, ◌<◌, ◌+◌, ◌++◌, ◌∷◌, [], ℕ, suc, Bool, true, false, List, Option, None, Some, length, take, drop, map, get_or, cond, ap, sym, ◌∙◌, refl, arith, subst, append_assoc, append-nil}
+use Rattle.std.proofs.Common.{◌≡◌, ◌≢◌, ◌<◌, ◌+◌, ◌++◌, ◌∷◌, [], ℕ, Bool, true, false, List, Option, None, Some, length, take, drop, map, get_or, cond, ap, sym, ◌∙◌, refl, arith, subst, append_assoc, append-nil}
 use Rattle.std.specs.Prelude.{◌==◌, codes, slice_index_or}
-use Rattle.std.specs.List.{filter, flat_map}
+use Rattle.std.specs.List.{filter, flat_map, range_with_len}
 use Rattle.std.specs.Fmt.{decimal}
 use Rattle.std.specs.Int.{bit_at}
 use Rattle.std.proofs.lemmas.Bool.{eqb-true}
-use Rattle.std.proofs.lemmas.List.{take_more, map-append, take-append-drop}
+use Rattle.std.proofs.lemmas.List.{take_more, map-append, take-append-drop, map-id}
 use Rattle.std.proofs.lemmas.List.Elements.{filter-append, All-get_or}
 use Rattle.std.proofs.lemmas.List.Concat.{flat_map-append}
+use Rattle.std.proofs.lemmas.List.FromFn.{map-range_with_len_more}
 use Rattle.crew_io.specs.Io.{Appended, AppendedPart}
 use Rattle.crew_terms.specs.Words.{Words, line_text}
-use Rattle.crew_terms.specs.Instance.{Instance, IsInstance, minutes_between}
-use Rattle.dossier_terms.specs.Dossier.{below}
+use Rattle.crew_terms.specs.Instance.{Instance, minutes_between}
+use Rattle.crew_terms.specs.Rules.{IsInstance}
 use Rattle.dossier_terms.specs.Lines.{instance_text, size_of, size_line, place_line, travel_line, team_line, task_line}
 use Rattle.cert_format.specs.Parts.{text_of}
 use Rattle.cert_format.specs.declared.lines_out.Part.{Part}
@@ -59,18 +60,20 @@ module _ {A : Type 0} (line : A → Words) (items : List A) (i : ℕ) (d : A) (w
 
 -- the numbers below n of skills of the set
 abbrev pub skills_below : ℕ → ℕ → List ℕ
-skills_below mask n = filter (λ s. bit_at mask s == 1) (below n)
+skills_below mask n = filter (λ s. bit_at mask s == 1) (range_with_len 0 n)
+
+-- one number more comes at the end
+number_more : (n : ℕ) → range_with_len 0 (n + 1) ≡ range_with_len 0 n ++ n ∷ []
+number_more n = simp map-id at (map-range_with_len_more (λ (s : ℕ). s) 0 n n (omega arith))
 
 pub skill_more : (mask n : ℕ) → bit_at mask n ≡ 1 → skills_below mask (n + 1) ≡ skills_below mask n ++ n ∷ []
 skill_more mask n h =
-    let e : n + 1 ≡ suc n = omega arith in
-    ap (skills_below mask) e ∙ filter-append (λ s. bit_at mask s == 1) (below n) (n ∷ [])
+    ap (filter (λ s. bit_at mask s == 1)) (number_more n) ∙ filter-append (λ s. bit_at mask s == 1) (range_with_len 0 n) (n ∷ [])
     ∙ ap (λ b. skills_below mask n ++ b) (ap (λ m. cond (m == 1) (n ∷ []) []) h)
 
 pub skill_not : (mask n : ℕ) → bit_at mask n ≢ 1 → skills_below mask (n + 1) ≡ skills_below mask n
 skill_not mask n h =
-    let e : n + 1 ≡ suc n = omega arith in
-    ap (skills_below mask) e ∙ filter-append (λ s. bit_at mask s == 1) (below n) (n ∷ [])
+    ap (filter (λ s. bit_at mask s == 1)) (number_more n) ∙ filter-append (λ s. bit_at mask s == 1) (range_with_len 0 n) (n ∷ [])
     ∙ ap (λ b. skills_below mask n ++ b) (none (bit_at mask n == 1) refl) ∙ append-nil (skills_below mask n)
   where
     none : (b : Bool) → (bit_at mask n == 1) ≡ b → cond b (n ∷ []) [] ≡ []
@@ -91,7 +94,7 @@ pub time_pushed : (i : Instance) (a b minutes : ℕ) (old new : List Part) (part
     → map text_of new ≡ codes "travel" ∷ map decimal (take (b + 1) (slice_index_or i.travel a []))
 time_pushed i a b minutes old new part is from to time part_is pushed so =
     let row = slice_index_or i.travel a [] in
-    let n : length row ≡ length i.places = All-get_or (λ r. length r ≡ length i.places) i.travel a [] (let r = is.rows in omega (arith, from, r)) is.columns in
+    let n : length row ≡ length i.places = All-get_or (λ r. length r ≡ length i.places) i.travel a [] (let r = is.times.rows in omega (arith, from, r)) is.times.columns in
     ap (map text_of) pushed ∙ map-append text_of old (part ∷ []) ∙ ap (λ x. map text_of old ++ text_of x ∷ []) (part_is ∙ ap Number time) ∙ ap (λ ws. ws ++ decimal (minutes_between i a b) ∷ []) so
     ∙ ap (λ ws. codes "travel" ∷ ws) (sym (map-append decimal (take b row) (minutes_between i a b ∷ [])) ∙ ap (map decimal) (sym (take_more row b 0 (omega (arith, n, to)))))
 

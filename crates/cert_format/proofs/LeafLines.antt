@@ -1,5 +1,5 @@
 -- the lines of a leaf and of a route, from the numbers that are read
-use Rattle.std.proofs.Common.{◌≡◌, ◌<◌, ◌+◌, ◌*◌, ◌^◌, [], ◌∷◌, ℕ, suc, ℤ, pos, negsuc, ◌≤ℤ◌, ◌+ℤ◌, List, length, map, take, drop, get_or, ap, sym, refl, ◌∙◌, subst, arith}
+use Rattle.std.proofs.Common.{◌≡◌, ◌<◌, ◌+◌, ◌*◌, ◌^◌, [], ◌∷◌, ℕ, suc, ℤ, pos, negsuc, neg_ℤ, ◌≤ℤ◌, ◌+ℤ◌, List, length, map, take, drop, get_or, ap, sym, refl, ◌∙◌, subst, arith}
 use Rattle.std.proofs.lemmas.Int.{ints}
 use Rattle.std.proofs.lemmas.List.{length-map}
 use Rattle.std.specs.Prelude.{codes, FitsSigned}
@@ -9,6 +9,7 @@ use Rattle.std.specs.Fmt.{decimal, signed_decimal}
 use Rattle.crew_terms.specs.Words.{Words}
 use Rattle.crew_terms.specs.Leaf.{IsPrice}
 use Rattle.crew_terms.specs.declared.Visit.{Visit}
+use Rattle.crew_terms.specs.declared.TheConstants.{MOST_PRICE}
 use Rattle.dossier_terms.specs.Dossier.{IsWorthNumber, IsSigned}
 use Rattle.dossier_terms.specs.Rules.{IsShape, Begins}
 use Rattle.dossier_terms.specs.Table.{AreNumbers, IsPairs}
@@ -28,7 +29,7 @@ use Rattle.cert_format.proofs.Visits.{length-visits}
 -- ---- ranges
 
 abbrev pub price_field : Field
-price_field = record { low = negsuc 839999999999999; high = pos 840000000000000; kind = Number }
+price_field = record { low = neg_ℤ (pos MOST_PRICE); high = pos MOST_PRICE; kind = Number }
 
 abbrev pub potential_field : Field
 potential_field = record { low = negsuc 9223372036854775807; high = pos 9223372036854775807; kind = Number }

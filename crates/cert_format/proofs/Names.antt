@@ -3,6 +3,7 @@ use Rattle.std.proofs.Common.{◌≡◌, ◌≢◌, ◌≤◌, ◌<◌, ◌+◌,
 use Rattle.std.specs.Fmt.{decimal, signed_decimal}
 use Rattle.std.proofs.lemmas.Int.{ints}
 use Rattle.crew_terms.specs.Words.{Words}
+use Rattle.crew_terms.specs.declared.TheConstants.{MOST_TEAMS_PER_TASK, LAST_MINUTE}
 use Rattle.dossier_terms.specs.Rules.{IsShapeFrom}
 use Rattle.field_table.specs.declared.fields.Field.{Field}
 use Rattle.cert_format.specs.declared.kinds.LineKind.{LineKind}
@@ -16,7 +17,7 @@ use Rattle.cert_format.proofs.Accepted.{number_field, last_of, last_below}
 use Rattle.cert_format.proofs.Fields.{SpellsOne}
 
 abbrev pub minute_field : Field
-minute_field = number_field 0 (pos 2880)
+minute_field = number_field 0 (pos LAST_MINUTE)
 
 spells : (field : Field) (w : List ℕ) (n : ℕ) → field.low ≤ℤ pos n → pos n ≤ℤ field.high → n < 2 ^ 63 → w ≡ decimal n → SpellsOne field w
 spells field w n low high small is = (pos n, record { fits = record { sfits = small }; low = low; high = high }, is)
@@ -38,7 +39,7 @@ team_numbers places ws small _ h = absurd h
 -- and so does each of a line of a task
 pub task_numbers : (places : ℕ) (ws : Words) → places < 2 ^ 32 → (kind : LineKind) → IsTaskOf places ws kind
     → SpellsOne (number_field 0 (last_of places)) (get_or ws 2 []) × SpellsOne minute_field (get_or ws 3 []) × SpellsOne minute_field (get_or ws 4 [])
-    × SpellsOne (number_field 1 (pos 2880)) (get_or ws 5 []) × SpellsOne (number_field 1 (pos 8)) (get_or ws 6 [])
+    × SpellsOne (number_field 1 (pos LAST_MINUTE)) (get_or ws 5 []) × SpellsOne (number_field 1 (pos MOST_TEAMS_PER_TASK)) (get_or ws 6 [])
 task_numbers places ws small (kinds.Task name place earliest latest minutes teams skills) (ss, f, t, is) =
     let last = last_below places small in
     let a = t.place in
@@ -46,13 +47,13 @@ task_numbers places ws small (kinds.Task name place earliest latest minutes team
     let c = t.latest in
     let d = t.some_minutes in
     let g = t.minutes in
-    let h = t.some_teams in
-    let k = t.teams in (
+    let h = t.teams.some in
+    let k = t.teams.few in (
       spells (number_field 0 (last_of places)) (get_or ws 2 []) place (omega (arith, ints)) (omega (arith, ints)) (omega arith) (ap (λ xs. get_or xs 2 []) is),
       spells minute_field (get_or ws 3 []) earliest (omega (arith, ints)) (omega (arith, ints)) (omega arith) (ap (λ xs. get_or xs 3 []) is),
       spells minute_field (get_or ws 4 []) latest (omega (arith, ints)) (omega (arith, ints)) (omega arith) (ap (λ xs. get_or xs 4 []) is),
-      spells (number_field 1 (pos 2880)) (get_or ws 5 []) minutes (omega (arith, ints)) (omega (arith, ints)) (omega arith) (ap (λ xs. get_or xs 5 []) is),
-      spells (number_field 1 (pos 8)) (get_or ws 6 []) teams (omega (arith, ints)) (omega (arith, ints)) (omega arith) (ap (λ xs. get_or xs 6 []) is),
+      spells (number_field 1 (pos LAST_MINUTE)) (get_or ws 5 []) minutes (omega (arith, ints)) (omega (arith, ints)) (omega arith) (ap (λ xs. get_or xs 5 []) is),
+      spells (number_field 1 (pos MOST_TEAMS_PER_TASK)) (get_or ws 6 []) teams (omega (arith, ints)) (omega (arith, ints)) (omega arith) (ap (λ xs. get_or xs 6 []) is),
     )
 task_numbers places ws small _ h = absurd h
 

@@ -11,6 +11,9 @@ use Rattle.crew_terms.specs.Words.{Words}
 use Rattle.crew_terms.specs.Name.{IsName}
 use Rattle.crew_terms.specs.Leaf.{IsPrice}
 use Rattle.crew_terms.specs.declared.Visit.{Visit}
+use Rattle.crew_terms.specs.declared.TreeCounts.{TreeCounts}
+use Rattle.dossier_terms.specs.declared.Size.{Size}
+use Rattle.crew_terms.specs.declared.TheConstants.{SKILLS, LAST_MINUTE}
 use Rattle.cert_format.specs.declared.kinds.Expect.{Expect}
 use Rattle.cert_format.specs.declared.kinds.Expect.TheVariants as expected
 use Rattle.cert_format.specs.declared.kinds.LineKind.{LineKind}
@@ -63,13 +66,18 @@ end_one ws kinds.End kinds.End h g = refl
 end_one ws kinds.End _ h g = absurd g
 end_one ws _ _ h g = absurd h
 
+same_sizes : (s r : Size) → s.teams ≡ r.teams → s.tasks ≡ r.tasks → s.places ≡ r.places → s.nodes ≡ r.nodes → s ≡ r
+same_sizes s r teams tasks places nodes =
+    ap (λ n. record s { teams = n }) teams ∙ ap (λ n. record s { teams = r.teams; tasks = n }) tasks
+    ∙ ap (λ n. record r { places = n; nodes = s.nodes }) places ∙ ap (λ n. record r { nodes = n }) nodes
+
 size_one : (ws : Words) (a b : LineKind) → IsSizeLine ws a → IsSizeLine ws b → a ≡ b
-size_one ws (kinds.Size m n p q) (kinds.Size m' n' p' q') (z, e) (y, f) =
-    let same = one_list (m ∷ n ∷ p ∷ q ∷ []) (m' ∷ n' ∷ p' ∷ q' ∷ [])
+size_one ws (kinds.Size s) (kinds.Size r) (z, e) (y, f) =
+    let same = one_list (s.teams ∷ s.tasks ∷ s.places ∷ s.nodes ∷ []) (r.teams ∷ r.tasks ∷ r.places ∷ r.nodes ∷ [])
     (omega (arith, z.teams), (omega (arith, z.tasks), (omega (arith, z.places), (omega (arith, z.nodes), tt))))
     (omega (arith, y.teams), (omega (arith, y.tasks), (omega (arith, y.places), (omega (arith, y.nodes), tt)))) (behind (codes "size") ws _ _ e f) in
-    cc
-size_one ws (kinds.Size m n p q) _ h g = absurd g
+    ap kinds.Size (same_sizes s r (cc) (cc) (cc) (cc))
+size_one ws (kinds.Size s) _ h g = absurd g
 size_one ws _ _ h g = absurd h
 
 place_one : (ws : Words) (a b : LineKind) → IsPlaceLine ws a → IsPlaceLine ws b → a ≡ b
@@ -77,13 +85,13 @@ place_one ws (kinds.Place x) (kinds.Place y) (named, e) (other, f) = ap (λ (n :
 place_one ws (kinds.Place x) _ h g = absurd g
 place_one ws _ _ h g = absurd h
 
-minutes_wide : (ns : List ℕ) → AllByRecursion (λ t. t ≤ 2880) ns → AllByRecursion IsWide ns
+minutes_wide : (ns : List ℕ) → AllByRecursion (λ t. t ≤ LAST_MINUTE) ns → AllByRecursion IsWide ns
 minutes_wide [] h = tt
 minutes_wide (n ∷ ns) h = (omega (arith, h.0), minutes_wide ns h.1)
 
 times_one : (places : ℕ) (ws : Words) (a b : LineKind) → IsTimesLine places ws a → IsTimesLine places ws b → a ≡ b
 times_one places ws (kinds.Travel u) (kinds.Travel v) (ns, p, t, e) (ms, q, s, f) =
-    let same = one_list ns ms (minutes_wide ns (recursion_from_All (λ t. t ≤ 2880) ns t.minutes)) (minutes_wide ms (recursion_from_All (λ t. t ≤ 2880) ms s.minutes)) (behind (codes "travel") ws _ _ e f) in
+    let same = one_list ns ms (minutes_wide ns (recursion_from_All (λ t. t ≤ LAST_MINUTE) ns t.minutes)) (minutes_wide ms (recursion_from_All (λ t. t ≤ LAST_MINUTE) ms s.minutes)) (behind (codes "travel") ws _ _ e f) in
     ap (λ (zs : List ℤ). kinds.Travel zs) (p ∙ ap (map pos) same ∙ sym q)
 times_one places ws (kinds.Travel u) _ h g = absurd g
 times_one places ws _ _ h g = absurd h
@@ -92,8 +100,8 @@ team_one : (places : ℕ) (ws : Words) (a b : LineKind) → places < 4294967296 
 team_one places ws (kinds.Team x h f u ks) (kinds.Team x' h' f' u' ks') few (ss, p, t, e) (rs, q, s, g) =
     let parts = behind_name (codes "team") x x' ws _ _ e g in
     let same = one_list (h ∷ f ∷ u ∷ ss) (h' ∷ f' ∷ u' ∷ rs)
-    (omega (arith, t.home), (omega (arith, t.from), (omega (arith, t.until), wider 64 ss (omega arith) t.skills)))
-    (omega (arith, s.home), (omega (arith, s.from), (omega (arith, s.until), wider 64 rs (omega arith) s.skills))) parts.1 in
+    (omega (arith, t.home), (omega (arith, t.from), (omega (arith, t.until), wider SKILLS ss (omega arith) t.skills)))
+    (omega (arith, s.home), (omega (arith, s.from), (omega (arith, s.until), wider SKILLS rs (omega arith) s.skills))) parts.1 in
     let skills : ss ≡ rs = cc in
     let numbers : ks ≡ ks' = p ∙ ap (map pos) skills ∙ sym q in
     let name = parts.0 in
@@ -105,8 +113,8 @@ task_one : (places : ℕ) (ws : Words) (a b : LineKind) → places < 4294967296 
 task_one places ws (kinds.Task x h f u d r ks) (kinds.Task x' h' f' u' d' r' ks') few (ss, p, t, e) (rs, q, s, g) =
     let parts = behind_name (codes "task") x x' ws _ _ e g in
     let same = one_list (h ∷ f ∷ u ∷ d ∷ r ∷ ss) (h' ∷ f' ∷ u' ∷ d' ∷ r' ∷ rs)
-    (omega (arith, t.place), (omega (arith, t.earliest), (omega (arith, t.latest), (omega (arith, t.minutes), (omega (arith, t.teams), wider 64 ss (omega arith) t.skills)))))
-    (omega (arith, s.place), (omega (arith, s.earliest), (omega (arith, s.latest), (omega (arith, s.minutes), (omega (arith, s.teams), wider 64 rs (omega arith) s.skills))))) parts.1 in
+    (omega (arith, t.place), (omega (arith, t.earliest), (omega (arith, t.latest), (omega (arith, t.minutes), (omega (arith, t.teams.few), wider SKILLS ss (omega arith) t.skills)))))
+    (omega (arith, s.place), (omega (arith, s.earliest), (omega (arith, s.latest), (omega (arith, s.minutes), (omega (arith, s.teams.few), wider SKILLS rs (omega arith) s.skills))))) parts.1 in
     let skills : ss ≡ rs = cc in
     let numbers : ks ≡ ks' = p ∙ ap (map pos) skills ∙ sym q in
     let name = parts.0 in
@@ -125,7 +133,7 @@ pool_one ws (kinds.Pool u v) (kinds.Pool u' v') (k, c, p, q, few, less, e) (k', 
 pool_one ws (kinds.Pool u v) _ h g = absurd g
 pool_one ws _ _ h g = absurd h
 
-visits_wide : (tasks : ℕ) (vs : List Visit) → tasks < 4294967296 → AllByRecursion (λ (v : Visit). v.task < tasks) vs → AllByRecursion (λ (v : Visit). v.start ≤ 2880) vs
+visits_wide : (tasks : ℕ) (vs : List Visit) → tasks < 4294967296 → AllByRecursion (λ (v : Visit). v.task < tasks) vs → AllByRecursion (λ (v : Visit). v.start ≤ LAST_MINUTE) vs
     → AllByRecursion IsWide (flat_map visit_numbers vs)
 visits_wide tasks [] few known starts = tt
 visits_wide tasks (v ∷ vs) few known starts = (omega (arith, known.0), (omega (arith, starts.0), visits_wide tasks vs few known.1 starts.1))
@@ -160,13 +168,18 @@ job_one teams tasks ws (kinds.Job j t ks) (kinds.Job j' t' ks') some few (ns, p,
 job_one teams tasks ws (kinds.Job j t ks) _ some few h g = absurd g
 job_one teams tasks ws _ _ some few h g = absurd h
 
+same_counts : (c d : TreeCounts) → c.splits ≡ d.splits → c.closed ≡ d.closed → c.left_open ≡ d.left_open → c.depth ≡ d.depth → c ≡ d
+same_counts c d splits closed left_open depth =
+    ap (λ n. record c { splits = n }) splits ∙ ap (λ n. record c { splits = d.splits; closed = n }) closed
+    ∙ ap (λ n. record d { left_open = n; depth = c.depth }) left_open ∙ ap (λ n. record d { depth = n }) depth
+
 tree_one : (ws : Words) (a b : LineKind) → IsTreeLine ws a → IsTreeLine ws b → a ≡ b
-tree_one ws (kinds.Tree m n p q) (kinds.Tree m' n' p' q') (z, e) (y, f) =
-    let same = one_list (m ∷ n ∷ p ∷ q ∷ []) (m' ∷ n' ∷ p' ∷ q' ∷ [])
+tree_one ws (kinds.Tree c) (kinds.Tree d) (z, e) (y, f) =
+    let same = one_list (c.splits ∷ c.closed ∷ c.left_open ∷ c.depth ∷ []) (d.splits ∷ d.closed ∷ d.left_open ∷ d.depth ∷ [])
     (omega (arith, z.splits), (omega (arith, z.closed), (omega (arith, z.left_open), (omega (arith, z.depth), tt))))
     (omega (arith, y.splits), (omega (arith, y.closed), (omega (arith, y.left_open), (omega (arith, y.depth), tt)))) (behind (codes "tree") ws _ _ e f) in
-    cc
-tree_one ws (kinds.Tree m n p q) _ h g = absurd g
+    ap kinds.Tree (same_counts c d (cc) (cc) (cc) (cc))
+tree_one ws (kinds.Tree c) _ h g = absurd g
 tree_one ws _ _ h g = absurd h
 
 -- the first byte of the first word, and of the second
@@ -288,7 +301,7 @@ form_fits ws kinds.Form h = (h, tt)
 form_fits ws _ h = absurd h
 
 size_fits : (ws : Words) (kind : LineKind) → Fits expected.Size ws kind
-size_fits ws (kinds.Size m n p b) (z, is) = ((_, is, refl), tt)
+size_fits ws (kinds.Size s) (z, is) = ((_, is, refl), tt)
 size_fits ws _ h = absurd h
 
 place_fits : (ws : Words) (kind : LineKind) → Fits expected.Place ws kind
@@ -331,7 +344,7 @@ job_fits teams tasks ws (kinds.Job task start ks) (ns, e, job, is) = ((_, is, om
 job_fits teams tasks ws _ h = absurd h
 
 tree_fits : (ws : Words) (kind : LineKind) → Fits expected.Tree ws kind
-tree_fits ws (kinds.Tree s c o d) (z, is) = ((_, is, refl), tt)
+tree_fits ws (kinds.Tree c) (z, is) = ((_, is, refl), tt)
 tree_fits ws _ h = absurd h
 
 node_fits : (teams tasks : ℕ) (ws : Words) (kind : LineKind) → Fits (expected.Node teams tasks) ws kind

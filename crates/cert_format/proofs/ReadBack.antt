@@ -2,9 +2,10 @@
 use Rattle.std.proofs.Common.{◌≡◌, ◌<◌, ℕ, Ok, sym, refl, subst, arith}
 use Rattle.std.proofs.lemmas.List.Elements.{recursion_from_All}
 use Rattle.crew_terms.specs.Words.{Words, words_of, line_of, IsLine}
-use Rattle.crew_terms.specs.Instance.{IsTeam, IsTask}
+use Rattle.crew_terms.specs.Rules.{IsTeam, IsTask}
 use Rattle.crew_terms.specs.declared.Team.{Team}
 use Rattle.crew_terms.specs.declared.Task.{Task}
+use Rattle.crew_terms.specs.declared.TheConstants.{SKILLS}
 use Rattle.dossier_terms.specs.Dossier.{skills_of}
 use Rattle.dossier_terms.specs.Table.{IsTeamLine, IsTaskLine}
 use Rattle.dossier_laws.specs.Listed.{IsSkillList}
@@ -25,22 +26,21 @@ pub team_spelled : (places : ℕ) (t : Team) → IsTeam places t → IsSkillList
 team_spelled places t h listed = record {
   name = h.name;
   home = h.home;
-  from = omega (arith, h.shift, h.day);
-  until = h.day;
+  from = omega (arith, h.shift.order, h.shift.day);
+  until = h.shift.day;
   none = refl;
-  skills = recursion_from_All (λ s. s < 64) (skills_of t.skills) listed.known;
+  skills = recursion_from_All (λ s. s < SKILLS) (skills_of t.skills) listed.known;
 }
 
 pub task_spelled : (places : ℕ) (t : Task) → IsTask places t → IsSkillList (skills_of t.skills) → IsTaskLine places (record t { skills = 0 }, skills_of t.skills)
 task_spelled places t h listed = record {
   name = h.name;
   place = h.place;
-  earliest = omega (arith, h.order, h.day);
-  latest = h.day;
-  some_minutes = h.some_minutes;
-  minutes = h.minutes;
-  some_teams = h.some_teams;
+  earliest = omega (arith, h.window.order, h.window.day);
+  latest = h.window.day;
+  some_minutes = h.window.some_minutes;
+  minutes = h.window.minutes;
   teams = h.teams;
   none = refl;
-  skills = recursion_from_All (λ s. s < 64) (skills_of t.skills) listed.known;
+  skills = recursion_from_All (λ s. s < SKILLS) (skills_of t.skills) listed.known;
 }

@@ -6,6 +6,7 @@ use Rattle.std.specs.List.{AllByRecursion, flat_map}
 use Rattle.std.specs.Fmt.{decimal, signed_decimal}
 use Rattle.crew_terms.specs.Words.{Words}
 use Rattle.crew_terms.specs.declared.Visit.{Visit}
+use Rattle.crew_terms.specs.declared.TheConstants.{LAST_MINUTE}
 use Rattle.dossier_terms.specs.Lines.{visit_words}
 use Rattle.cert_format.specs.Fields.{SpellVisits, visit_numbers}
 use Rattle.cert_format.proofs.Rests.{signed_map}
@@ -14,7 +15,7 @@ use Rattle.cert_format.proofs.Rests.{signed_map}
 pub record SpellsVisit (tasks : ℕ) (a b : List ℕ) : Type 0 where
   pub visit : Visit
   pub known : visit.task < tasks
-  pub start : visit.start ≤ 2880
+  pub start : visit.start ≤ LAST_MINUTE
   pub first : a ≡ decimal visit.task
   pub second : b ≡ decimal visit.start
 
@@ -29,7 +30,7 @@ later a b ws k = ap (λ n. get_or (a ∷ b ∷ ws) n []) (let e : 2 * suc k ≡ 
 later_second : (a b : List ℕ) (ws : Words) (k : ℕ) → get_or (a ∷ b ∷ ws) (2 * suc k + 1) [] ≡ get_or ws (2 * k + 1) []
 later_second a b ws k = ap (λ n. get_or (a ∷ b ∷ ws) n []) (let e : 2 * suc k + 1 ≡ suc (suc (2 * k + 1)) = omega arith in e)
 
-pub visit_at : (tasks : ℕ) (vs : List Visit) → AllByRecursion (λ (v : Visit). v.task < tasks) vs → AllByRecursion (λ (v : Visit). v.start ≤ 2880) vs → (k : ℕ) → k < length vs
+pub visit_at : (tasks : ℕ) (vs : List Visit) → AllByRecursion (λ (v : Visit). v.task < tasks) vs → AllByRecursion (λ (v : Visit). v.start ≤ LAST_MINUTE) vs → (k : ℕ) → k < length vs
     → SpellsVisit tasks (get_or (flat_map visit_words vs) (2 * k) []) (get_or (flat_map visit_words vs) (2 * k + 1) [])
 visit_at tasks [] known starts k h = absurd (omega arith)
 visit_at tasks (v ∷ vs) known starts zero h = record { visit = v; known = known.0; start = starts.0; first = refl; second = refl }
@@ -73,7 +74,7 @@ visits_map (v ∷ vs) = ap (λ ws. decimal v.task ∷ decimal v.start ∷ ws) (v
 pub visits_signed : (vs : List Visit) → flat_map visit_words vs ≡ map signed_decimal (map pos (flat_map visit_numbers vs))
 visits_signed vs = visits_map vs ∙ signed_map (flat_map visit_numbers vs)
 
-pub visits_fit : (tasks : ℕ) (vs : List Visit) → tasks < 2 ^ 32 → AllByRecursion (λ (v : Visit). v.task < tasks) vs → AllByRecursion (λ (v : Visit). v.start ≤ 2880) vs
+pub visits_fit : (tasks : ℕ) (vs : List Visit) → tasks < 2 ^ 32 → AllByRecursion (λ (v : Visit). v.task < tasks) vs → AllByRecursion (λ (v : Visit). v.start ≤ LAST_MINUTE) vs
     → AllByRecursion (FitsSigned w64) (map pos (flat_map visit_numbers vs))
 visits_fit tasks [] few known starts = tt
 visits_fit tasks (v ∷ vs) few known starts =

@@ -1,9 +1,10 @@
 -- lines whose words no row accepts are no lines of their kind
-use Rattle.std.proofs.Common.{◌≡◌, ◌<◌, ◌+ℤ◌, ◌^◌, ◌++◌, [], ◌∷◌, ℕ, ℤ, pos, List, map, sym, refl, subst, arith}
+use Rattle.std.proofs.Common.{◌≡◌, ◌<◌, ◌+◌, ◌+ℤ◌, ◌^◌, ◌++◌, [], ◌∷◌, ℕ, ℤ, pos, List, map, sym, refl, subst, arith}
 use Rattle.std.specs.Prelude.{codes}
 use Rattle.std.specs.Fmt.{decimal}
 use Rattle.std.proofs.lemmas.Int.{ints}
 use Rattle.crew_terms.specs.Words.{Words}
+use Rattle.crew_terms.specs.declared.TheConstants.{MOST_PLACES, MOST_TEAMS, MOST_TASKS, LAST_MINUTE, MOST_NODES}
 use Rattle.dossier_terms.specs.Rules.{IsShape}
 use Rattle.field_table.specs.Fields.{AreValues}
 use Rattle.field_table.specs.declared.fields.Field.{Field}
@@ -21,27 +22,27 @@ pub none_of : (fs : List Field) (ws : Words) (w : List ℕ) (ns : List ℕ) (res
 none_of fs ws w ns rest none a is = none (map pos ns) (subst (λ (xs : Words). AreValues fs xs (map pos ns)) (sym is) (numbers_read fs w ns rest a))
 
 abbrev pub size_fields : List Field
-size_fields = number_field 0 (pos 64) ∷ number_field 0 (pos 400) ∷ number_field 0 (pos 200) ∷ number_field 0 (pos 100000) ∷ []
+size_fields = number_field 0 (pos MOST_TEAMS) ∷ number_field 0 (pos MOST_TASKS) ∷ number_field 0 (pos MOST_PLACES) ∷ number_field 0 (pos MOST_NODES) ∷ []
 
 pub size_wrong : (ws : Words) → NoneRead size_fields ws → (kind : LineKind) → IsSizeLine ws kind → ⊥
-size_wrong ws none (kinds.Size m n p b) (z, is) =
+size_wrong ws none (kinds.Size s) (z, is) =
     let teams = z.teams in
     let tasks = z.tasks in
     let places = z.places in
     let nodes = z.nodes in
-    none_of size_fields ws (codes "size") (m ∷ n ∷ p ∷ b ∷ []) [] none (refl, omega (arith, ints), omega (arith, ints), omega arith, (refl, omega (arith, ints), omega (arith, ints), omega arith, (refl, omega (arith, ints), omega (arith, ints), omega arith, (refl, omega (arith, ints), omega (arith, ints), omega arith, tt)))) is
+    none_of size_fields ws (codes "size") (s.teams ∷ s.tasks ∷ s.places ∷ s.nodes ∷ []) [] none (refl, omega (arith, ints), omega (arith, ints), omega arith, (refl, omega (arith, ints), omega (arith, ints), omega arith, (refl, omega (arith, ints), omega (arith, ints), omega arith, (refl, omega (arith, ints), omega (arith, ints), omega arith, tt)))) is
 size_wrong ws none _ h = absurd h
 
 abbrev pub tree_fields : List Field
-tree_fields = number_field 0 (pos 100000) ∷ number_field 0 (pos 100000) ∷ number_field 0 (pos 100001) ∷ number_field 0 (pos 100000) ∷ []
+tree_fields = number_field 0 (pos MOST_NODES) ∷ number_field 0 (pos MOST_NODES) ∷ number_field 0 (pos (MOST_NODES + 1)) ∷ number_field 0 (pos MOST_NODES) ∷ []
 
 pub tree_wrong : (ws : Words) → NoneRead tree_fields ws → (kind : LineKind) → IsTreeLine ws kind → ⊥
-tree_wrong ws none (kinds.Tree s c o h) (z, is) =
+tree_wrong ws none (kinds.Tree c) (z, is) =
     let splits = z.splits in
     let closed = z.closed in
     let left_open = z.left_open in
     let depth = z.depth in
-    none_of tree_fields ws (codes "tree") (s ∷ c ∷ o ∷ h ∷ []) [] none (refl, omega (arith, ints), omega (arith, ints), omega arith, (refl, omega (arith, ints), omega (arith, ints), omega arith, (refl, omega (arith, ints), omega (arith, ints), omega arith, (refl, omega (arith, ints), omega (arith, ints), omega arith, tt)))) is
+    none_of tree_fields ws (codes "tree") (c.splits ∷ c.closed ∷ c.left_open ∷ c.depth ∷ []) [] none (refl, omega (arith, ints), omega (arith, ints), omega arith, (refl, omega (arith, ints), omega (arith, ints), omega arith, (refl, omega (arith, ints), omega (arith, ints), omega arith, (refl, omega (arith, ints), omega (arith, ints), omega arith, tt)))) is
 tree_wrong ws none _ h = absurd h
 
 abbrev pub pool_fields : List Field
@@ -60,7 +61,7 @@ plan_wrong tasks ws most e small none _ h = absurd h
 
 -- a number below a count, and a minute
 abbrev pub below_fields : ℤ → List Field
-below_fields last = number_field 0 last ∷ number_field 0 (pos 2880) ∷ []
+below_fields last = number_field 0 last ∷ number_field 0 (pos LAST_MINUTE) ∷ []
 
 pub job_wrong : (teams tasks : ℕ) (ws : Words) (last : ℤ) → last +ℤ pos 1 ≡ pos tasks → tasks < 2 ^ 32
     → NoneRead (below_fields last) ws → (kind : LineKind) → IsJobLine teams tasks ws kind → ⊥

@@ -1,10 +1,10 @@
 -- the kind of line that is due in each state of the table of lines, and why a line with a fault is refused
 use Rattle.std.specs.Prelude.{length}
-use Rattle.crew_terms.specs.Limits.{root_limits, tasks_in, teams_in}
+use Rattle.crew_terms.specs.Limits.{tasks_in}
 use Rattle.dossier_terms.specs.declared.Reason.{Reason}
 use Rattle.dossier_terms.specs.declared.Reason.TheVariants as reasons
-use Rattle.dossier_terms.specs.Dossier.{minute_count, required_teams}
-use Rattle.dossier_terms.specs.Reading.{Reading, limits_below, limits_of}
+use Rattle.crew_terms.specs.Minutes.{minute_count, required_teams}
+use Rattle.dossier_terms.specs.Reading.{Reading, limits_of}
 use Rattle.dossier_terms.specs.Reading as due
 use Rattle.cert_format.specs.declared.kinds.Expect.{Expect}
 use Rattle.cert_format.specs.declared.kinds.Expect.TheVariants.{Form, Size, Place, Travel, Team, Task, Pool, Route, Plan, Job, Tree, Node, Price, Extra, Worth, Phi, End}
@@ -24,7 +24,7 @@ expect_of (due.Routes b k) = Route (length b.instance.teams) (length b.instance.
 expect_of (due.Plans b) = Plan (length b.instance.tasks)
 expect_of (due.Jobs b k from) = Job (length b.instance.teams) (length b.instance.tasks)
 expect_of (due.Trees b) = Tree
-expect_of (due.Nodes b c above) = let n = limits_below (root_limits b.instance) above in Node (teams_in n) (tasks_in n)
+expect_of (due.Nodes b c above) = Node (length b.instance.teams) (length b.instance.tasks)
 expect_of (due.Prices a) = Price (tasks_in (limits_of a))
 expect_of (due.Extras a prices rows j js) = Extra j (length (required_teams (limits_of a) j))
 expect_of (due.Worths a prices extras tables k) = Worth

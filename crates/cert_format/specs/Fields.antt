@@ -5,6 +5,7 @@ use Rattle.std.specs.Int.{w64}
 use Rattle.std.specs.Fmt.{decimal, signed_decimal}
 use Rattle.crew_terms.specs.Words.{Words}
 use Rattle.crew_terms.specs.declared.Visit.{Visit}
+use Rattle.crew_terms.specs.declared.TheConstants.{LAST_MINUTE}
 use Rattle.dossier_terms.specs.Lines.{visit_words}
 use Rattle.field_table.specs.declared.fields.Field.{Field}
 
@@ -31,7 +32,7 @@ visit_numbers v = v.task ∷ v.start ∷ []
 -- the words are those of these visits, whose tasks are below a count
 pub record SpellVisits (tasks : ℕ) (vs : List Visit) (words : Words) : Type 0 where
   pub known : AllByRecursion (λ (v : Visit). v.task < tasks) vs
-  pub starts : AllByRecursion (λ (v : Visit). v.start ≤ 2880) vs
+  pub starts : AllByRecursion (λ (v : Visit). v.start ≤ LAST_MINUTE) vs
   pub spelled : words ≡ flat_map visit_words vs
 
 -- the first word, the decimal of a number, and n words more

@@ -8,9 +8,9 @@ use Rattle.crew_terms.specs.Plan.{Job}
 use Rattle.crew_terms.specs.declared.Team.{Team}
 use Rattle.crew_terms.specs.declared.Task.{Task}
 use Rattle.crew_terms.specs.declared.Visit.{Visit}
-use Rattle.dossier_terms.specs.Dossier.{Route, IsWorthNumber, IsSigned}
-use Rattle.dossier_terms.specs.declared.Size.{Size}
-use Rattle.dossier_terms.specs.Reading.{Counts}
+use Rattle.dossier_terms.specs.Dossier.{IsWorthNumber, IsSigned}
+use Rattle.crew_terms.specs.Limits.{Route}
+use Rattle.crew_terms.specs.declared.TheConstants.{LAST_MINUTE}
 use Rattle.dossier_terms.specs.Rules.{IsShape, IsShapeFrom, Begins}
 use Rattle.dossier_terms.specs.Table.{IsSize, IsTravel, IsTeamLine, IsTaskLine, IsCounts, AreNumbers, HasName, IsPairs, IsRow}
 use Rattle.dossier_terms.specs.Lines.{form_line, size_line, place_line, travel_line, team_words, task_words, pool_line, route_line, plan_line, do_line, tree_line, window_line, pair_line, bare_line, open_line, closed_line, price_line, extra_line, worth_line, phi_line, end_line}
@@ -29,9 +29,7 @@ IsFormLine ws kinds.Form = ws ≡ form_line
 IsFormLine ws _ = ⊥
 
 abbrev pub IsSizeLine : Words → LineKind → Type 0
-IsSizeLine ws (kinds.Size teams tasks places nodes) =
-    let z : Size = record { teams = teams; tasks = tasks; places = places; nodes = nodes } in
-    IsSize z × (ws ≡ size_line z)
+IsSizeLine ws (kinds.Size size) = IsSize size × (ws ≡ size_line size)
 IsSizeLine ws _ = ⊥
 
 abbrev pub IsPlaceLine : Words → LineKind → Type 0
@@ -64,7 +62,7 @@ pub record IsRouteOf (m n : ℕ) (r : Route) : Type 0 where
   pub team : r.team < m
   pub some : 1 ≤ length r.visits
   pub tasks : AllByRecursion (λ (v : Visit). v.task < n) r.visits
-  pub starts : AllByRecursion (λ (v : Visit). v.start ≤ 2880) r.visits
+  pub starts : AllByRecursion (λ (v : Visit). v.start ≤ LAST_MINUTE) r.visits
 
 abbrev pub IsRouteLine : ℕ → ℕ → Words → LineKind → Type 0
 IsRouteLine teams tasks ws (kinds.Route team visits) = (vs : List Visit) × (visits ≡ map pos (flat_map visit_numbers vs))
@@ -78,7 +76,7 @@ IsPlanLine tasks ws _ = ⊥
 -- a job as its line spells it, where there are m teams and n tasks: the ranges of its numbers
 pub record IsJobOf (m n : ℕ) (p : ℕ × Job) : Type 0 where
   pub task : p.0 < n
-  pub start : p.1.start ≤ 2880
+  pub start : p.1.start ≤ LAST_MINUTE
   pub teams : AllByRecursion (λ k. k < m) p.1.teams
 
 abbrev pub IsJobLine : ℕ → ℕ → Words → LineKind → Type 0
@@ -87,13 +85,11 @@ IsJobLine teams tasks ws (kinds.Job task start ks) = (ns : List ℕ) × (ks ≡ 
 IsJobLine teams tasks ws _ = ⊥
 
 abbrev pub IsTreeLine : Words → LineKind → Type 0
-IsTreeLine ws (kinds.Tree splits closed left_open depth) =
-    let c : Counts = record { splits = splits; closed = closed; left_open = left_open; depth = depth } in
-    IsCounts c × (ws ≡ tree_line splits closed left_open depth)
+IsTreeLine ws (kinds.Tree counts) = IsCounts counts × (ws ≡ tree_line counts)
 IsTreeLine ws _ = ⊥
 
 abbrev pub IsNodeLine : ℕ → ℕ → Words → LineKind → Type 0
-IsNodeLine teams tasks ws (kinds.Window task cut) = (task < tasks) × (cut ≤ 2880) × (ws ≡ window_line task cut)
+IsNodeLine teams tasks ws (kinds.Window task cut) = (task < tasks) × (cut ≤ LAST_MINUTE) × (ws ≡ window_line task cut)
 IsNodeLine teams tasks ws (kinds.Pair team task) = (team < teams) × (task < tasks) × (ws ≡ pair_line team task)
 IsNodeLine teams tasks ws kinds.LeafBare = ws ≡ bare_line
 IsNodeLine teams tasks ws kinds.LeafOpen = ws ≡ open_line

@@ -41,7 +41,7 @@ pub record IsReadAs (expect : Expect) (words : Words) (kind : LineKind) : Type 0
 -- ---- what the lines of an instance say
 
 abbrev pub size_kind : Size → LineKind
-size_kind z = kinds.Size z.teams z.tasks z.places z.nodes
+size_kind z = kinds.Size z
 
 abbrev pub place_kind : List ℕ → LineKind
 place_kind name = kinds.Place name

@@ -5,6 +5,7 @@ use crate::kinds::{Expect, LineFault, LineKind};
 use crate::numbers::{read_below, read_visits};
 use crate::ranges::MINUTE;
 use crate::shape::{has_pairs, has_shape, has_shape_from};
+use crew_terms::{MOST_NODES, TreeCounts};
 use field_table::{LineWords, fields};
 
 /// Reads the line `pool`: how many routes are kept, and how many there are.
@@ -85,15 +86,17 @@ pub(crate) fn read_tree<'a>(words: LineWords<'a>) -> Result<LineKind<'a>, LineFa
         return Err(LineFault::Shape);
     }
     fields!(
-        &words, splits: Number(0, 100_000), closed: Number(0, 100_000), left_open: Number(0, 100_001), depth: Number(0, 100_000);
+        &words, splits: Number(0, MOST_NODES as i64), closed: Number(0, MOST_NODES as i64),
+        left_open: Number(0, MOST_NODES as i64 + 1), depth: Number(0, MOST_NODES as i64);
         else fault => LineFault::Number
     );
-    Ok(LineKind::Tree {
+    let counts = TreeCounts {
         splits: splits as u32,
         closed: closed as u32,
         left_open: left_open as u32,
         depth: depth as u32,
-    })
+    };
+    Ok(LineKind::Tree { counts })
 }
 
 /// Reads the line `end`.

@@ -5,6 +5,10 @@ use crate::kinds::{Expect, LineFault, LineKind};
 use crate::numbers::{read_below, read_in};
 use crate::ranges::{MINUTE, read_name};
 use crate::shape::{has_shape, has_shape_from, is_word};
+use crew_terms::{
+    LAST_MINUTE, MOST_NODES, MOST_PLACES, MOST_TASKS, MOST_TEAMS, MOST_TEAMS_PER_TASK, SKILLS,
+};
+use dossier_terms::Size;
 use field_table::{LineWords, field, fields};
 
 /// Reads the line `crew dossier 1`.
@@ -28,15 +32,17 @@ pub(crate) fn read_size<'a>(words: LineWords<'a>) -> Result<LineKind<'a>, LineFa
         return Err(LineFault::Shape);
     }
     fields!(
-        &words, teams: Number(0, 64), tasks: Number(0, 400), places: Number(0, 200), nodes: Number(0, 100_000);
+        &words, teams: Number(0, MOST_TEAMS as i64), tasks: Number(0, MOST_TASKS as i64),
+        places: Number(0, MOST_PLACES as i64), nodes: Number(0, MOST_NODES as i64);
         else fault => LineFault::Number
     );
-    Ok(LineKind::Size {
+    let size = Size {
         teams: teams as u32,
         tasks: tasks as u32,
         places: places as u32,
         nodes: nodes as u32,
-    })
+    };
+    Ok(LineKind::Size { size })
 }
 
 /// Reads a line `place`: a name.
@@ -57,7 +63,7 @@ pub(crate) fn read_travel<'a>(words: LineWords<'a>, places: u32) -> Result<LineK
     if !has_shape(&words, b"travel", places as usize) {
         return Err(LineFault::Shape);
     }
-    let times = read_below(words, 1, 2881)?;
+    let times = read_below(words, 1, LAST_MINUTE + 1)?;
     Ok(LineKind::Travel { times })
 }
 
@@ -73,7 +79,7 @@ pub(crate) fn read_team<'a>(words: LineWords<'a>, places: u32) -> Result<LineKin
     let home = read_in(&words, 2, &field!(Number(0, last)))?;
     let from = read_in(&words, 3, &MINUTE)?;
     let until = read_in(&words, 4, &MINUTE)?;
-    let skills = read_below(words, 5, 64)?;
+    let skills = read_below(words, 5, SKILLS)?;
     Ok(LineKind::Team {
         name,
         home: home as u32,
@@ -95,9 +101,9 @@ pub(crate) fn read_task<'a>(words: LineWords<'a>, places: u32) -> Result<LineKin
     let place = read_in(&words, 2, &field!(Number(0, last)))?;
     let earliest = read_in(&words, 3, &MINUTE)?;
     let latest = read_in(&words, 4, &MINUTE)?;
-    let minutes = read_in(&words, 5, &field!(Number(1, 2880)))?;
-    let teams = read_in(&words, 6, &field!(Number(1, 8)))?;
-    let skills = read_below(words, 7, 64)?;
+    let minutes = read_in(&words, 5, &field!(Number(1, LAST_MINUTE as i64)))?;
+    let teams = read_in(&words, 6, &field!(Number(1, MOST_TEAMS_PER_TASK as i64)))?;
+    let skills = read_below(words, 7, SKILLS)?;
     Ok(LineKind::Task {
         name,
         place: place as u32,

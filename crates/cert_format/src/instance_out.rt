@@ -13,10 +13,13 @@ use crate::lines_out::{Part, put_line};
 use arrayvec::ArrayVec;
 use crew_instance::Instance;
 use crew_io::sink::{Sink, WriteFault};
-use crew_terms::{Task, Team};
+use crew_terms::{MOST_PLACES, SKILLS, Task, Team};
 
-/// The parts of a line of an instance: at most a word and a travel time to each place.
-type Line<'a> = ArrayVec<Part<'a>, 201>;
+/// The most parts of a line of an instance: a word, and a travel time to each place.
+const MOST_PARTS: usize = MOST_PLACES + 1;
+
+/// The parts of a line of an instance.
+type Line<'a> = ArrayVec<Part<'a>, MOST_PARTS>;
 
 /// A number as a part of a line.
 fn number(n: u32) -> Part<'static>
@@ -91,10 +94,10 @@ fn put_travels<K: Sink>(out: &mut K, instance: &Instance) -> Result<(), WriteFau
 
 /// Adds the numbers of the skills of a set, rising.
 fn push_skills(line: &mut Line<'_>, skills: u64)
-    requires { array_vec_len line.old + 64 ≤ 201 }
+    requires { array_vec_len line.old + SKILLS ≤ MOST_PARTS }
     ensures { map text_of line.new.items ≡ map text_of line.old.items ++ map decimal (skills_of skills) }
 {
-    for s in 0..64u32 {
+    for s in 0..SKILLS {
         if skills >> s & 1 == 1 {
             line.push(number(s));
         }

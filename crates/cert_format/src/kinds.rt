@@ -3,8 +3,8 @@ ghost use Rattle.std.specs.Prelude.{◌≡◌};
 ghost use Rattle.cert_format.specs.Expected.{reason_for};
 
 use crate::numbers::Rest;
-use crew_terms::Name;
-use dossier_terms::Reason;
+use crew_terms::{Name, TreeCounts};
+use dossier_terms::{Reason, Size};
 
 /// The kind of line that is due, with the counts that its ranges need.
 #[derive(Clone, Copy, Debug, PartialEq, Eq)]
@@ -31,16 +31,13 @@ pub enum Expect {
     End,
 }
 
-/// What a line says. Minutes are minutes of the day; prices, worths and potentials are in 1/840,000,000 of a task;
+/// What a line says. Minutes are minutes of the day; prices, worths and potentials are in 1/D of a task;
 /// numbers at the end of a line are in its order.
 #[derive(Drop)]
 pub enum LineKind<'a> {
     Form,
     Size {
-        teams: u32,
-        tasks: u32,
-        places: u32,
-        nodes: u32,
+        size: Size,
     },
     Place {
         name: Name,
@@ -85,10 +82,7 @@ pub enum LineKind<'a> {
         teams: Rest<'a>,
     },
     Tree {
-        splits: u32,
-        closed: u32,
-        left_open: u32,
-        depth: u32,
+        counts: TreeCounts,
     },
     /// A split of a task's window after the minute `cut`.
     Window {

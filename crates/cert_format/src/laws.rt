@@ -1,9 +1,11 @@
 // Laws: a line has one answer, and the lines of an instance are read back as what was written.
 ghost use Rattle.std.specs.Prelude.{◌≡◌, ◌≤◌, ℕ, Result, length, All};
 ghost use Rattle.crew_terms.specs.Words.{Words};
-ghost use Rattle.crew_terms.specs.Instance.{Instance, IsInstance};
+ghost use Rattle.crew_terms.specs.Instance.{Instance};
+ghost use Rattle.crew_terms.specs.Rules.{IsInstance};
 ghost use Rattle.crew_terms.specs.declared.Team.{Team};
 ghost use Rattle.crew_terms.specs.declared.Task.{Task};
+ghost use Rattle.crew_terms.specs.declared.TheConstants.{MOST_NODES};
 ghost use Rattle.dossier_terms.specs.Dossier.{skills_of, mask_of};
 ghost use Rattle.dossier_terms.specs.Reading.{Reading, No};
 ghost use Rattle.dossier_terms.specs.Table.{Says};
@@ -31,10 +33,10 @@ pub fn fault_is_refused()
 {}
 
 /// A law: `read_line` reads each line that `write_instance` writes as exactly what was written, where that kind of
-/// line is due; of the line `size` this holds for a node budget of at most 100,000, as a greater one is refused. And
+/// line is due; of the line `size` this holds for a node budget of at most `MOST_NODES`, as a greater one is refused. And
 /// the skills that it reads make the set of the team or the task.
 pub fn instance_is_read_back()
-    ensures size { (i : Instance) (budget : ℕ) → IsInstance i → budget ≤ 100000 → IsReadAs expected.Size (size_line (size_of i budget)) (size_kind (size_of i budget)) }
+    ensures size { (i : Instance) (budget : ℕ) → IsInstance i → budget ≤ MOST_NODES → IsReadAs expected.Size (size_line (size_of i budget)) (size_kind (size_of i budget)) }
     ensures places { (i : Instance) → IsInstance i → All (λ name. IsReadAs expected.Place (place_line name) (place_kind name)) i.places }
     ensures travel { (i : Instance) → IsInstance i → All (λ row. IsReadAs (expected.Travel (length i.places)) (travel_line row) (travel_kind row)) i.travel }
     ensures teams { (i : Instance) → IsInstance i → All (λ t. IsReadAs (expected.Team (length i.places)) (team_line t) (team_kind t)) i.teams }

@@ -7,7 +7,7 @@ use crate::ranges::{POTENTIAL, PRICE};
 use crate::shape::{has_row, has_shape};
 use field_table::{LineWords, fields};
 
-/// Reads the line `price`: a price of each of so many tasks, in 1/840,000,000 of a task.
+/// Reads the line `price`: a price of each of so many tasks, in 1/D of a task.
 pub(crate) fn read_price<'a>(words: LineWords<'a>, tasks: u32) -> Result<LineKind<'a>, LineFault>
     ensures { ReadsLine (Expect.Price tasks) words.entry result }
 {

@@ -3,20 +3,20 @@ ghost use Rattle.std.specs.Prelude.{◌≡◌, ◌<◌, [], length, slice_index_
 ghost use Rattle.dossier_terms.specs.Table.{HasName};
 
 use crate::kinds::LineFault;
-use crew_terms::Name;
+use crew_terms::{LAST_MINUTE, MOST_PRICE, Name};
 use field_table::{Field, Kind, LineWords, Words};
 
 /// A minute of the day, of today and tomorrow.
 pub(crate) const MINUTE: Field = Field {
     low: 0,
-    high: 2880,
+    high: LAST_MINUTE as i64,
     kind: Kind::Number,
 };
 
 /// A price: at most 1,000,000 tasks, either way.
 pub(crate) const PRICE: Field = Field {
-    low: -840_000_000_000_000,
-    high: 840_000_000_000_000,
+    low: -(MOST_PRICE as i64),
+    high: MOST_PRICE as i64,
     kind: Kind::Number,
 };
 

@@ -1,12 +1,12 @@
 -- an input with a line that is refused is accepted as no dossiers
 use Rattle.std.proofs.Common.{◌≡◌, ◌≢◌, ◌<◌, ◌+◌, ◌++◌, ℕ, zero, suc, List, [], ◌∷◌, length, map, take, sym, subst, ap, refl, ◌∙◌, arith, ◌⊎◌, inl, inr, length-append, append_assoc, append-nil}
-use Rattle.std.proofs.lemmas.List.{get_or-append-add}
-use Rattle.std.proofs.lemmas.List.{map-append}
+use Rattle.std.proofs.lemmas.List.{get_or-append-add, map-append}
 use Rattle.std.proofs.lemmas.List.Concat.{flat_map-append}
 use Rattle.std.proofs.lemmas.List.Elements.{All-append, All-map}
 use Rattle.std.specs.Prelude.{All}
 use Rattle.std.specs.List.{flat_map}
-use Rattle.crew_terms.specs.Words.{Words, IsLine, words_of, line_of, with_feed, LONGEST}
+use Rattle.crew_terms.specs.Words.{Words, IsLine, words_of, line_of, with_feed}
+use Rattle.crew_terms.specs.declared.TheConstants.{LONGEST_LINE}
 use Rattle.crew_io.specs.Lines.{NoFeed}
 use Rattle.dossier_terms.specs.declared.Reason.{Reason}
 use Rattle.dossier_terms.specs.Dossier.{Dossier, IsGood}
@@ -83,7 +83,7 @@ whole_line : (room : ℕ) (rest : List ℕ) (reason : Reason) (line after : List
     → IsLine line → length line < room → rest ≡ with_feed line ++ after → ⊥
 whole_line room rest reason line after (Stops partial part why) plain fits is = feed_in line after (subst NoFeed is part.plain.whole)
 whole_line room rest reason line after (LineTooLong long why) plain fits is =
-    feed_at line after (LONGEST + 1) (let a = plain.short in omega arith) (subst (λ x. NoFeed (take (LONGEST + 1) x)) is long.whole)
+    feed_at line after (LONGEST_LINE + 1) (let a = plain.short in omega arith) (subst (λ x. NoFeed (take (LONGEST_LINE + 1) x)) is long.whole)
 whole_line room rest reason line after (InputTooLong long why) plain fits is =
     feed_at line after room fits (subst (λ x. NoFeed (take room x)) is long.whole)
 

@@ -78,6 +78,7 @@ fn put_plan<K: Sink>(out: &mut K, line: u64, verdict: PlanVerdict) -> Result<(),
     let plan = Part::Word(b"Plan");
     match verdict {
         PlanVerdict::Legal => put_line(out, &[no, at, plan, Part::Word(b"Legal")]),
+        PlanVerdict::Frozen(j) => put_line(out, &[no, at, plan, Part::Word(b"Frozen"), number(j)]),
         PlanVerdict::Window(j) => put_line(out, &[no, at, plan, Part::Word(b"Window"), number(j)]),
         PlanVerdict::Count(j) => put_line(out, &[no, at, plan, Part::Word(b"Count"), number(j)]),
         PlanVerdict::Skill(k, j) => {

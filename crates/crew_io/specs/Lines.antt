@@ -1,7 +1,8 @@
 -- the lines of a stream
 use Rattle.std.specs.Prelude.{◌≡◌, ◌≢◌, ◌≤◌, ◌<◌, ◌+◌, ◌-◌, ◌++◌, ℕ, List, [], length, take, drop, Option, None, Some, All, slice_index}
 use Rattle.std.specs.Option.{option_map}
-use Rattle.crew_terms.specs.Words.{IsLine, LONGEST, with_feed}
+use Rattle.crew_terms.specs.Words.{IsLine, with_feed}
+use Rattle.crew_terms.specs.declared.TheConstants.{LONGEST_LINE}
 use Rattle.crew_io.specs.Io.{MOST}
 use Rattle.crew_io.specs.declared.lines.Progress.{Progress}
 use Rattle.crew_io.specs.declared.lines.Progress.TheVariants.{Line, TooLong, TooMuch, End, ReadFault}
@@ -52,13 +53,13 @@ pub record BeginsWithLine (allowed : ℕ) (rest line after : List ℕ) : Type 0 
 
 -- more bytes without an LF than the longest line has, where the allowance is larger than that line
 pub record BeginsTooLong (allowed : ℕ) (rest : List ℕ) : Type 0 where
-  pub large : LONGEST < allowed
-  pub more : LONGEST < length rest
-  pub whole : NoFeed (take (LONGEST + 1) rest)
+  pub large : LONGEST_LINE < allowed
+  pub more : LONGEST_LINE < length rest
+  pub whole : NoFeed (take (LONGEST_LINE + 1) rest)
 
 -- more bytes than the allowance, which is no larger than the longest line, and no LF among as many as it allows
 pub record IsTooMuch (allowed : ℕ) (rest : List ℕ) : Type 0 where
-  pub small : allowed ≤ LONGEST
+  pub small : allowed ≤ LONGEST_LINE
   pub more : allowed < length rest
   pub whole : NoFeed (take allowed rest)
 

@@ -2,29 +2,26 @@
 ghost use Rattle.std.specs.Prelude.{◌≡◌, ◌≤◌, ◌<◌, ◌+◌, ◌-◌, ◌↔◌, ◌≢◌, ⊤, [], Option, Some, None, Ok, length, slice_range, IfOk, OnOk, OnErr, IsOk, IsErr, IsSome, IsTrue};
 ghost use Rattle.std.specs.Borrow.{sem, follows_so};
 ghost use mathlib.Core.Option.{none};
-ghost use Rattle.crew_terms.specs.Words.{LONGEST};
 ghost use Rattle.crew_io.specs.contracts.lines.LineReader.{the_row};
 ghost use Rattle.crew_io.specs.Got.{GotNext};
 ghost use Rattle.crew_io.specs.Io.{MOST, Rose, HasEnded};
 ghost use Rattle.crew_io.specs.Lines.{fresh_reader, allowance, rest_of, with_left, took_line, IsFront, Advances, Steps};
 
 use crate::source::{Failed, Source};
+use crew_terms::LONGEST_LINE;
 use memchr::memchr;
 use std::alloc::{AllocError, Global};
 use std::marker::Model;
 
-/// How many bytes the longest line has, without its LF.
-const LONGEST_LINE: usize = 131_072;
-
 /// How many bytes are held at most: two of the longest lines, so that what is held is seldom moved.
-const ROOM: usize = 262_144;
+const ROOM: usize = 2 * LONGEST_LINE;
 
 /// What a reader answers. After any answer but `Line` it gives that answer again.
 #[derive(Clone, Copy, Debug, PartialEq, Eq)]
 pub enum Progress {
     /// A line was read, with its LF.
     Line,
-    /// More than 131,072 bytes come without an LF.
+    /// More than `LONGEST_LINE` bytes come without an LF.
     TooLong,
     /// More bytes come than the reader may hand out.
     TooMuch,
@@ -39,7 +36,7 @@ pub enum Progress {
 pub enum Got<'a> {
     /// A line was read, with its LF.
     Line(&'a [u8]),
-    /// More than 131,072 bytes come without an LF.
+    /// More than `LONGEST_LINE` bytes come without an LF.
     TooLong,
     /// More bytes come than the reader may hand out.
     TooMuch,
@@ -137,14 +134,14 @@ fn refill<S: Source>(src: &mut S, room: &mut [u8], at: usize, end: usize) -> Res
 
 /// Whether more bytes come without an LF than the longest line has, and more may be handed out.
 fn is_too_long(allowed: u64, front: usize) -> bool
-    ensures { IsTrue result ↔ ((LONGEST < allowed) × (LONGEST < front)) }
+    ensures { IsTrue result ↔ ((LONGEST_LINE < allowed) × (LONGEST_LINE < front)) }
 {
     allowed > LONGEST_LINE as u64 && front > LONGEST_LINE
 }
 
 /// Whether more bytes come than may be handed out, with no line among them.
 fn is_too_much(allowed: u64, front: usize, held: usize) -> bool
-    ensures { IsTrue result ↔ ((allowed ≤ LONGEST) × (allowed ≤ front) × (allowed < held)) }
+    ensures { IsTrue result ↔ ((allowed ≤ LONGEST_LINE) × (allowed ≤ front) × (allowed < held)) }
 {
     allowed <= LONGEST_LINE as u64 && allowed <= front as u64 && allowed < held as u64
 }

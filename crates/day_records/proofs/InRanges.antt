@@ -63,10 +63,10 @@ shift_range : KeepsRange shift_form
 shift_range fields entry (n1, named1, (a, from, (b, until, e))) = subst IsInRange (sym e) ((most from, most until))
 
 skill_range : KeepsRange skill_form
-skill_range fields entry (n1, named1, (t, given, e)) = subst IsInRange (sym e) (most given)
+skill_range fields entry (n1, named1, (t, given, e)) = subst IsInRange (sym e) (let m = most given in omega arith)
 
 unskill_range : KeepsRange unskill_form
-unskill_range fields entry (n1, named1, (t, given, e)) = subst IsInRange (sym e) (most given)
+unskill_range fields entry (n1, named1, (t, given, e)) = subst IsInRange (sym e) (let m = most given in omega arith)
 
 plan_range : KeepsRange plan_form
 plan_range fields entry (t, given, e) = subst IsInRange (sym e) (most given)

@@ -1,7 +1,7 @@
 -- a record says one thing, and a text has one reading
 use Rattle.std.proofs.Common.{◌≡◌, ◌≢◌, ◌<◌, ◌+◌, ◌*◌, ◌/◌, ◌%◌, ◌^◌, ◌++◌, inl, inr, ℕ, zero, suc, ℤ, pos, List, [], ◌∷◌, Result, Ok, Err, Option, Some, length, get_or, refl, sym, subst, ap, ◌∙◌, arith, pow-suc}
 use Rattle.std.specs.Prelude.{Contains, bytes_eq, if◌then◌else◌}
-use Rattle.std.specs.List.{AllByRecursion}
+use Rattle.std.specs.List.{AllByRecursion, AllZip}
 use Rattle.std.specs.Int.{bit_at}
 use Rattle.std.proofs.lemmas.Bool.{cases_eq}
 use Rattle.std.proofs.lemmas.Int.{ints}
@@ -33,6 +33,18 @@ use Rattle.day_records.proofs.ByNumber.{keys}
 abbrev pub SpellsOne : Type 0
 SpellsOne = (kind : Kind) (word : List ℕ) (y z : ℤ) → Spells kind word y → Spells kind word z → y ≡ z
 
+-- where each element of a list goes with one other at most, at most one list goes with it, place by place
+one_by_place : {A B : Type 0} (R : A → B → Type 0) (xs : List A) (ys zs : List B) → ((x : A) (y z : B) → R x y → R x z → y ≡ z) → AllZip R xs ys → AllZip R xs zs → ys ≡ zs
+one_by_place R [] [] [] one a b = refl
+one_by_place R [] [] (z ∷ zs) one a b = absurd b
+one_by_place R [] (y ∷ ys) zs one a b = absurd a
+one_by_place R (x ∷ xs) [] zs one a b = absurd a
+one_by_place R (x ∷ xs) (y ∷ ys) [] one a b = absurd b
+one_by_place R (x ∷ xs) (y ∷ ys) (z ∷ zs) one a b =
+    let e = one x y z a.0 b.0 in
+    let f = one_by_place R xs ys zs one a.1 b.1 in
+    cc
+
 -- ---- sets
 
 same_bits : (k m n : ℕ) → m < 2 ^ k → n < 2 ^ k → ((i : ℕ) → bit_at m i ≡ bit_at n i) → m ≡ n
@@ -58,15 +70,7 @@ set_one numbers a b s t = same_bits 64 a b s.small t.small (λ i. same i)
     ]
 
 spell_all_one : SpellsOne → (words : Words) (ys zs : List ℤ) → SpellAll words ys → SpellAll words zs → ys ≡ zs
-spell_all_one u [] [] [] a b = refl
-spell_all_one u [] [] (z ∷ zs) a b = absurd b
-spell_all_one u [] (y ∷ ys) zs a b = absurd a
-spell_all_one u (w ∷ ws) [] zs a b = absurd a
-spell_all_one u (w ∷ ws) (y ∷ ys) [] a b = absurd b
-spell_all_one u (w ∷ ws) (y ∷ ys) (z ∷ zs) a b =
-    let e = u Number w y z a.0 b.0 in
-    let f = spell_all_one u ws ys zs a.1 b.1 in
-    ap (λ v. v ∷ ys) e ∙ ap (λ vs. z ∷ vs) f
+spell_all_one u words ys zs a b = one_by_place (Spells Number) words ys zs (u Number) a b
 
 -- ---- one field
 
@@ -207,14 +211,8 @@ record_one u fields r s (Good form kind m a x e) y = as_one u form fields r s (W
 -- ---- the records of a day
 
 say_one : SpellsOne → (rows : List Words) (es fs : List Entry) → SayEntries rows es → SayEntries rows fs → es ≡ fs
-say_one u [] [] [] a b = refl
-say_one u [] [] (f ∷ fs) a b = absurd b
-say_one u [] (e ∷ es) fs a b = absurd a
-say_one u (r ∷ rs) [] fs a b = absurd a
-say_one u (r ∷ rs) (e ∷ es) [] a b = absurd b
-say_one u (r ∷ rs) (e ∷ es) (f ∷ fs) a b =
-    let same : e ≡ f = let h = record_one u r (Ok e) (Ok f) a.0 b.0 in cc in
-    ap (λ v. v ∷ es) same ∙ ap (λ vs. f ∷ vs) (say_one u rs es fs a.1 b.1)
+say_one u rows es fs a b =
+    one_by_place (λ fields entry. ReadsRecord fields (Ok entry)) rows es fs (λ fields e f g h. let same = record_one u fields (Ok e) (Ok f) g h in cc) a b
 
 -- a record that says an entry is not bad
 said_not_bad : SpellsOne → (fields : Words) (e : Entry) (c : DayCause) → ReadsRecord fields (Ok e) → ReadsRecord fields (Err c) → ⊥

@@ -1,5 +1,5 @@
 -- sets of skills, word by word
-use Rattle.std.proofs.Common.{◌≡◌, ◌<◌, ◌+◌, ◌*◌, ◌%◌, ◌^◌, ◌⊎◌, ◌++◌, ◌↔◌, inl, inr, ℕ, zero, suc, ℤ, pos, negsuc, ◌≤ℤ◌, Bool, true, false, List, [], ◌∷◌, length, take, get_or, refl, sym, subst, ap, ◌∙◌, arith, FitsSigned, to_z, of_z}
+use Rattle.std.proofs.Common.{◌≡◌, ◌<◌, ◌+◌, ◌*◌, ◌%◌, ◌^◌, ◌⊎◌, ◌++◌, ◌↔◌, inl, inr, ℕ, zero, suc, ℤ, pos, negsuc, ◌≤ℤ◌, ◌<ℤ◌, Bool, true, false, List, [], ◌∷◌, length, take, get_or, refl, sym, subst, ap, ◌∙◌, arith, FitsSigned, to_z, of_z}
 use Rattle.std.specs.Prelude.{Contains, bit_or, ◌==◌}
 use Rattle.std.specs.List.{AllByRecursion}
 use Rattle.std.specs.Int.{bit_at, w64}
@@ -7,13 +7,15 @@ use Rattle.std.proofs.lemmas.Bool.{cases_eq}
 use Rattle.std.proofs.lemmas.Int.{to_z-of_z, ints}
 use Rattle.std.proofs.lemmas.List.{take_more, take_all}
 use Rattle.std.proofs.lemmas.List.Elements.{Contains-append_left, Contains-push, Contains-push_cases}
+use Rattle.std.proofs.lemmas.Slice.Zip.{all_zipped_more}
 use Rattle.std.proofs.lemmas.Nat.Bits.{bit_at_set_same, bit_at_set_other}
+use Rattle.crew_terms.specs.declared.TheConstants.{SKILLS}
 use Rattle.crew_terms.specs.Words.{Words, words_of}
 use Rattle.field_table.specs.Fields.{Spells}
 use Rattle.field_table.specs.declared.fields.Kind.TheVariants.{Number}
 use Rattle.day_terms.specs.Fields.{skill_words, SpellAll, IsSkill, IsSetOf}
 
-with_bit : (set k : ℕ) → k < 64 → (n : ℕ) → (bit_at (bit_or set (1 * 2 ^ k % 18446744073709551616)) n ≡ 1) ↔ ((pos n ≡ pos k) ⊎ (bit_at set n ≡ 1))
+with_bit : (set k : ℕ) → k < SKILLS → (n : ℕ) → (bit_at (bit_or set (1 * 2 ^ k % 18446744073709551616)) n ≡ 1) ↔ ((pos n ≡ pos k) ⊎ (bit_at set n ≡ 1))
 with_bit set k within n = elim (cases_eq n k) [
   | inl e ↦
       let same : bit_at (bit_or set (1 * 2 ^ k % 18446744073709551616)) n ≡ 1 = ap (bit_at (bit_or set (1 * 2 ^ k % 18446744073709551616))) e ∙ bit_at_set_same w64 set k within in
@@ -24,7 +26,7 @@ with_bit set k within n = elim (cases_eq n k) [
 ]
 
 -- the set with one skill more
-pub with_skill_bit : (set : ℕ) (z : ℤ) → FitsSigned w64 z → pos 0 ≤ℤ z → z ≤ℤ pos 63
+pub with_skill_bit : (set : ℕ) (z : ℤ) → FitsSigned w64 z → pos 0 ≤ℤ z → z <ℤ pos SKILLS
     → (n : ℕ) → (bit_at (bit_or set (1 * 2 ^ (lib.IntN.nat_abs (to_z w64 (of_z w64 z))) % 18446744073709551616)) n ≡ 1) ↔ ((pos n ≡ z) ⊎ (bit_at set n ≡ 1))
 with_skill_bit set (pos k) fit low high n = rw (to_z-of_z w64 (pos k) fit) (with_bit set k (omega (arith, ints)) n)
 with_skill_bit set (negsuc k) fit low high n = absurd (omega (arith, ints))
@@ -35,12 +37,6 @@ pub record Tally (words : Words) (k : ℕ) (known : Bool) (set : ℕ) : Type 0 w
   pub spelled : SpellAll (take k words) numbers
   pub good : known ≡ true → AllByRecursion IsSkill numbers × IsSetOf numbers set
   pub bad : known ≡ false → AllByRecursion IsSkill numbers → ⊥
-
-spell_push : (words : Words) (numbers : List ℤ) (w : List ℕ) (z : ℤ) → SpellAll words numbers → Spells Number w z → SpellAll (words ++ w ∷ []) (numbers ++ z ∷ [])
-spell_push [] [] w z all here = (here, tt)
-spell_push [] (y ∷ ys) w z all here = absurd all
-spell_push (v ∷ vs) [] w z all here = absurd all
-spell_push (v ∷ vs) (y ∷ ys) w z all here = (all.0, spell_push vs ys w z all.1 here)
 
 skills_push : (numbers : List ℤ) (z : ℤ) → AllByRecursion IsSkill numbers → IsSkill z → AllByRecursion IsSkill (numbers ++ z ∷ [])
 skills_push [] z all here = (here, tt)
@@ -53,11 +49,11 @@ skills_last (y ∷ ys) z all = let r = skills_last ys z all.1 in ((all.0, r.0), 
 spelled_more : (words : Words) (k : ℕ) (numbers : List ℤ) (w : List ℕ) (z : ℤ) → k < length words → w ≡ get_or words k w → SpellAll (take k words) numbers → Spells Number w z
     → SpellAll (take (k + 1) words) (numbers ++ z ∷ [])
 spelled_more words k numbers w z within is all here =
-    subst (λ ws. SpellAll ws (numbers ++ z ∷ [])) (ap (λ v. take k words ++ v ∷ []) is ∙ sym (take_more words k w within)) (spell_push (take k words) numbers w z all here)
+    subst (λ ws. SpellAll ws (numbers ++ z ∷ [])) (ap (λ v. take k words ++ v ∷ []) is ∙ sym (take_more words k w within)) (all_zipped_more (Spells Number) (take k words) numbers w z all here)
 
 -- one word more, which spells a skill
 pub tally_skill : (words : Words) (k : ℕ) (known : Bool) (set more : ℕ) (w : List ℕ) (z : ℤ) → k < length words → w ≡ get_or words k w → Spells Number w z
-    → pos 0 ≤ℤ z → z ≤ℤ pos 63 → more < 2 ^ 64 → ((n : ℕ) → (bit_at more n ≡ 1) ↔ ((pos n ≡ z) ⊎ (bit_at set n ≡ 1)))
+    → pos 0 ≤ℤ z → z <ℤ pos SKILLS → more < 2 ^ SKILLS → ((n : ℕ) → (bit_at more n ≡ 1) ↔ ((pos n ≡ z) ⊎ (bit_at set n ≡ 1)))
     → Tally words k known set → Tally words (k + 1) known more
 tally_skill words k known set more w z within is here low high small members t =
     let skill : IsSkill z = skill_of z low high in
@@ -83,7 +79,7 @@ tally_skill words k known set more w z within is here low high small members t =
       bad = λ e all. t.bad e (skills_last t.numbers z all).0;
     }
   where
-    skill_of : (z : ℤ) → pos 0 ≤ℤ z → z ≤ℤ pos 63 → IsSkill z
+    skill_of : (z : ℤ) → pos 0 ≤ℤ z → z <ℤ pos SKILLS → IsSkill z
     skill_of (pos n) low high = (n, omega (arith, ints), refl)
     skill_of (negsuc n) low high = absurd (omega (arith, ints))
 
@@ -97,12 +93,12 @@ tally_other words k known set w z within is here not_skill t = record {
   bad = λ _ all. not_skill (skills_last t.numbers z all).1;
 }
 
--- no skill lies below 0 or above 63
+-- no skill lies outside the range
 pub below_skills : (z : ℤ) → (pos 0 ≤ℤ z → ⊥) → IsSkill z → ⊥
 below_skills z low (n, h, e) = low (subst (λ y. pos 0 ≤ℤ y) (sym e) (omega (arith, ints)))
 
-pub above_skills : (z : ℤ) → (z ≤ℤ pos 63 → ⊥) → IsSkill z → ⊥
-above_skills z high (n, h, e) = high (subst (λ y. y ≤ℤ pos 63) (sym e) (omega (arith, ints)))
+pub above_skills : (z : ℤ) → (z <ℤ pos SKILLS → ⊥) → IsSkill z → ⊥
+above_skills z high (n, h, e) = high (subst (λ y. y <ℤ pos SKILLS) (sym e) (omega (arith, ints)))
 
 -- the words of a field that is not empty
 pub words_are : (field : List ℕ) (empty : Bool) → empty ≡ (length field == 0) → empty ≡ false → skill_words field ≡ words_of field

@@ -1,5 +1,6 @@
 -- what was read of a day's text so far
-use Rattle.std.proofs.Common.{◌≡◌, ◌+◌, ◌++◌, ℕ, List, [], ◌∷◌, None, Some, Ok, Err, length, refl, sym, subst, ap, ◌∙◌, arith}
+use Rattle.std.proofs.Common.{◌≡◌, ◌+◌, ◌++◌, ℕ, List, [], ◌∷◌, None, Some, Ok, Err, length, refl, sym, subst, ap, ◌∙◌}
+use Rattle.std.proofs.lemmas.Slice.Zip.{all_zipped_more, AllZip-long}
 use Rattle.crew_terms.specs.Words.{Words}
 use Rattle.csv.specs.Machine.{next_record}
 use Rattle.csv.specs.Reading.{Reached, default_config, strip_bom}
@@ -21,24 +22,16 @@ pub taken_none : (text : List ℕ) (state : State) → state ≡ st.StartRecord 
 unfolding Reached
 taken_none text state is = record { rows = []; reached = (sym is, refl); said = tt }
 
-say_push : (rows : List Words) (entries : List Entry) (row : Words) (entry : Entry) → SayEntries rows entries → ReadsRecord row (Ok entry) → SayEntries (rows ++ row ∷ []) (entries ++ entry ∷ [])
-say_push [] [] row entry said here = (here, tt)
-say_push [] (e ∷ es) row entry said here = absurd said
-say_push (r ∷ rs) [] row entry said here = absurd said
-say_push (r ∷ rs) (e ∷ es) row entry said here = (said.0, say_push rs es row entry said.1 here)
-
-say_length : (rows : List Words) (entries : List Entry) → SayEntries rows entries → length rows ≡ length entries
-say_length [] [] said = refl
-say_length [] (e ∷ es) said = absurd said
-say_length (r ∷ rs) [] said = absurd said
-say_length (r ∷ rs) (e ∷ es) said = let h = say_length rs es said.1 in omega arith
+-- the record says the entry
+abbrev Says : Words → Entry → Type 0
+Says row entry = ReadsRecord row (Ok entry)
 
 -- one record more, which says an entry
 pub taken_more : (text : List ℕ) (old new : State) (y z : List ℕ) (entries more : List Entry) (row : Words) (entry : Entry) (t : HasTaken text old y entries)
     → Reached default_config st.StartRecord (strip_bom text) (t.rows ++ row ∷ []) new z → ReadsRecord row (Ok entry) → more ≡ entries ++ entry ∷ []
     → HasTaken text new z more
 taken_more text old new y z entries more row entry t reached said is =
-    record { rows = t.rows ++ row ∷ []; reached = reached; said = subst (SayEntries (t.rows ++ row ∷ [])) (sym is) (say_push t.rows entries row entry t.said said) }
+    record { rows = t.rows ++ row ∷ []; reached = reached; said = subst (SayEntries (t.rows ++ row ∷ [])) (sym is) (all_zipped_more Says t.rows entries row entry t.said said) }
 
 -- no record more
 pub taken_all : (text : List ℕ) (state : State) (y : List ℕ) (entries told : List Entry) → HasTaken text state y entries → next_record default_config state [] [] y ≡ None → told ≡ entries
@@ -52,5 +45,5 @@ pub taken_bad : (text : List ℕ) (old new : State) (y z : List ℕ) (entries to
     → IsDayOf text told (Some (record { number = count + 1; cause = cause }))
 taken_bad text old new y z entries told row cause count t reached bad is counted =
     let f = first_records (strip_bom text) z new t.rows row reached in
-    let number : count ≡ length t.rows = counted ∙ sym (say_length t.rows entries t.said) in
+    let number : count ≡ length t.rows = counted ∙ AllZip-long Says t.rows entries t.said in
     StopsAt t.rows row f.0 f.1 (subst (SayEntries t.rows) (sym is) t.said) cause bad (ap (λ n. Some (record { number = n + 1; cause = cause })) number)

@@ -7,8 +7,8 @@ ghost use Rattle.day_records.specs.Rows.{ReadsFields, form_at};
 
 use crate::skills::read_skills;
 use crate::words::RecordWords;
-use crew_terms::Name;
-use day_terms::Entry;
+use crew_terms::{LAST_MINUTE, MOST_NODES, Name, SKILLS};
+use day_terms::{Entry, GREATEST_COUNT};
 use field_table::{Field, FieldFault, Kind, Schema, Words, field, fields};
 
 const NAME: Field = Field {
@@ -17,17 +17,17 @@ const NAME: Field = Field {
     kind: Kind::Name,
 };
 
-const MINUTES: Field = field!(Number(0, 2880));
+const MINUTES: Field = field!(Number(0, LAST_MINUTE as i64));
 
-const DURATION: Field = field!(Number(1, 2880));
+const DURATION: Field = field!(Number(1, LAST_MINUTE as i64));
 
-const TIME: Field = field!(Clock(0, 2880));
+const TIME: Field = field!(Clock(0, LAST_MINUTE as i64));
 
-const COUNT: Field = field!(Number(0, 99));
+const COUNT: Field = field!(Number(0, GREATEST_COUNT as i64));
 
-const SKILL: Field = field!(Number(0, 63));
+const SKILL: Field = field!(Number(0, SKILLS as i64 - 1));
 
-const NODES: Field = field!(Number(0, 100_000));
+const NODES: Field = field!(Number(0, MOST_NODES as i64));
 
 /// The first fields of the records, one of each kind.
 pub(crate) const KINDS: Schema = Schema {

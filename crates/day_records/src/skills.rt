@@ -1,5 +1,5 @@
 // Lists of skills.
-ghost use Rattle.std.specs.Prelude.{◌≡◌, ◌<◌, ◌↔◌, ◌⊎◌, ◌≤ℤ◌, ℕ, pos, length, MatchResult};
+ghost use Rattle.std.specs.Prelude.{◌≡◌, ◌<◌, ◌↔◌, ◌⊎◌, ◌≤ℤ◌, ◌<ℤ◌, ℕ, pos, length, MatchResult};
 ghost use Rattle.std.specs.Int.{bit_at};
 ghost use Rattle.day_terms.specs.Forms.{Skilled};
 ghost use Rattle.day_terms.specs.Fields.{ListsSet, IsBad};
@@ -7,12 +7,13 @@ ghost use Rattle.day_terms.specs.Records.{field_of};
 ghost use Rattle.day_records.specs.Rows.{ReadsSkills};
 
 use crate::words::RecordWords;
+use crew_terms::SKILLS;
 use field_table::{Cause, FieldFault, Words, read_number};
 
 /// The set with one skill more.
 fn with_skill(set: u64, skill: i64) -> u64
     requires low { pos 0 ≤ℤ skill }
-    requires high { skill ≤ℤ pos 63 }
+    requires high { skill <ℤ pos SKILLS }
     ensures { (n : ℕ) → (bit_at result n ≡ 1) ↔ ((pos n ≡ skill) ⊎ (bit_at set n ≡ 1)) }
 {
     set | 1 << skill as u32
@@ -32,7 +33,7 @@ fn skill_set(field: &[u8]) -> Result<u64, Cause>
         let Some(skill) = read_number(word) else {
             return Err(Cause::Spelling);
         };
-        if skill < 0 || skill > 63 {
+        if skill < 0 || skill >= SKILLS as i64 {
             known = false;
             continue;
         }

@@ -1,5 +1,6 @@
 -- what a day's text says
-use Rattle.std.specs.Prelude.{◌≡◌, ◌≢◌, ◌+◌, ◌++◌, ℕ, List, [], ◌∷◌, length, Option, None, Some, Result, Ok, Err, Contains}
+use Rattle.std.specs.Prelude.{◌≡◌, ◌≢◌, ◌+◌, ◌++◌, ℕ, List, ◌∷◌, length, Option, None, Some, Result, Ok, Err, Contains}
+use Rattle.std.specs.List.{AllZip}
 use Rattle.crew_terms.specs.Words.{Words}
 use Rattle.field_table.specs.declared.fields.Cause.TheVariants.{Count}
 use Rattle.field_table.specs.declared.fields.FieldFault.{FieldFault}
@@ -28,9 +29,7 @@ pub data ReadsRecord (fields : Words) (told : Result Entry DayCause) : Type 0 wh
 
 -- each record says the entry at its place
 abbrev pub SayEntries : List Words → List Entry → Type 0
-SayEntries [] [] = Unit {0}
-SayEntries (r ∷ rs) (e ∷ es) = ReadsRecord r (Ok e) × SayEntries rs es
-SayEntries _ _ = ⊥
+SayEntries records entries = AllZip (λ fields entry. ReadsRecord fields (Ok entry)) records entries
 
 -- the entries of the records before the first bad one, and the refusal of that one, with its number from 1
 pub data ReadsRecords (records : List Words) (entries : List Entry) (stop : Option Refused) : Type 0 where

@@ -1,7 +1,8 @@
 -- good and bad fields of a record
-use Rattle.std.specs.Prelude.{◌≡◌, ◌≤◌, ◌<◌, ◌+◌, ◌^◌, ◌↔◌, ◌⊎◌, ℕ, ℤ, pos, List, [], ◌∷◌, Contains}
-use Rattle.std.specs.List.{AllByRecursion}
+use Rattle.std.specs.Prelude.{◌≡◌, ◌<◌, ◌+◌, ◌^◌, ◌↔◌, ◌⊎◌, ℕ, ℤ, pos, List, [], ◌∷◌, Contains}
+use Rattle.std.specs.List.{AllByRecursion, AllZip}
 use Rattle.std.specs.Int.{bit_at}
+use Rattle.crew_terms.specs.declared.TheConstants.{SKILLS}
 use Rattle.crew_terms.specs.Name.{IsName}
 use Rattle.crew_terms.specs.Words.{Words, words_of}
 use Rattle.field_table.specs.Fields.{Spells, Accepts, Refuses}
@@ -21,17 +22,15 @@ skill_words (b ∷ bs) = words_of (b ∷ bs)
 
 -- each word spells the number at its place
 abbrev pub SpellAll : Words → List ℤ → Type 0
-SpellAll [] [] = Unit {0}
-SpellAll (w ∷ ws) (z ∷ zs) = Spells Number w z × SpellAll ws zs
-SpellAll _ _ = ⊥
+SpellAll words numbers = AllZip (Spells Number) words numbers
 
--- a number 0 to 63
+-- the number of a skill
 abbrev pub IsSkill : ℤ → Type 0
-IsSkill z = (n : ℕ) × (n ≤ 63) × (z ≡ pos n)
+IsSkill z = (n : ℕ) × (n < SKILLS) × (z ≡ pos n)
 
 -- the set has a bit for each of the numbers, and no other
 pub record IsSetOf (numbers : List ℤ) (set : ℕ) : Type 0 where
-  pub small : set < 2 ^ 64
+  pub small : set < 2 ^ SKILLS
   pub members : (n : ℕ) → (bit_at set n ≡ 1) ↔ Contains numbers (pos n)
 
 -- the set of the skills that a field lists, in any order
@@ -41,10 +40,11 @@ pub record ListsSet (field : List ℕ) (set : ℕ) : Type 0 where
   pub known : AllByRecursion IsSkill numbers
   pub is : IsSetOf numbers set
 
--- a field of this kind and range
+-- the field of a name
 abbrev pub name_field : Field
 name_field = record { low = pos 1; high = pos 32; kind = Name }
 
+-- a field of the slot's kind and range; a list of skills has none of its own
 abbrev pub field_in : Slot → Field
 field_in Named = name_field
 field_in (Ranged kind low high) = record { low = pos low; high = pos high; kind = kind }

@@ -1,7 +1,9 @@
 -- the fifteen kinds of records: what their fields must be, and the entries that they stand for
-use Rattle.std.specs.Prelude.{ℕ, List, [], ◌∷◌, codes}
+use Rattle.std.specs.Prelude.{◌-◌, ℕ, List, [], ◌∷◌, codes}
+use Rattle.crew_terms.specs.declared.TheConstants.{LAST_MINUTE, MOST_NODES, SKILLS}
 use Rattle.field_table.specs.declared.fields.Kind.{Kind}
 use Rattle.field_table.specs.declared.fields.Kind.TheVariants.{Number, Clock}
+use Rattle.day_terms.specs.declared.TheConstants.{GREATEST_COUNT}
 use Rattle.day_terms.specs.declared.Entry.{Entry}
 use Rattle.day_terms.specs.declared.Entry.TheVariants.{Place, Travel, RouteTime, DefaultTravel, Team, Task, Cancel, Move, Longer, Needs, Sick, Shift, Skill, Unskill, Plan}
 
@@ -11,24 +13,29 @@ pub data Slot : Type 0 where
   Ranged : (kind : Kind) (low high : ℕ) → Slot
   Skilled : Slot
 
--- minutes of travel; a duration in minutes; a time of the day; a number of teams; a skill; a budget of nodes
+-- minutes of travel
 abbrev pub minutes : Slot
-minutes = Ranged Number 0 2880
+minutes = Ranged Number 0 LAST_MINUTE
 
+-- minutes of a task
 abbrev pub duration : Slot
-duration = Ranged Number 1 2880
+duration = Ranged Number 1 LAST_MINUTE
 
+-- a time of the day, or of the night behind it
 abbrev pub time : Slot
-time = Ranged Clock 0 2880
+time = Ranged Clock 0 LAST_MINUTE
 
+-- a number of teams
 abbrev pub count : Slot
-count = Ranged Number 0 99
+count = Ranged Number 0 GREATEST_COUNT
 
+-- a skill's number
 abbrev pub skill : Slot
-skill = Ranged Number 0 63
+skill = Ranged Number 0 (SKILLS - 1)
 
+-- a budget of nodes
 abbrev pub nodes : Slot
-nodes = Ranged Number 0 100000
+nodes = Ranged Number 0 MOST_NODES
 
 -- what a field gives: the bytes of a name, a number, or a set of skills
 abbrev pub Value : Slot → Type 0
@@ -47,18 +54,23 @@ pub record Form : Type 0 where
   pub slots : List Slot
   pub entry : Maker slots
 
+-- a place's name
 abbrev pub place_form : Form
 place_form = record { key = codes "place"; slots = Named ∷ []; entry = λ name. Place name }
 
+-- two places, and the minutes either way
 abbrev pub travel_form : Form
 travel_form = record { key = codes "travel"; slots = Named ∷ Named ∷ minutes ∷ []; entry = λ from to n. Travel from to n }
 
+-- two places, and the minutes from the one to the other
 abbrev pub route_time_form : Form
 route_time_form = record { key = codes "route_time"; slots = Named ∷ Named ∷ minutes ∷ []; entry = λ from to n. RouteTime from to n }
 
+-- the minutes between other places
 abbrev pub default_travel_form : Form
 default_travel_form = record { key = codes "default_travel"; slots = minutes ∷ []; entry = λ n. DefaultTravel n }
 
+-- a team: its name, home, shift and skills
 abbrev pub team_form : Form
 team_form = record {
   key = codes "team";
@@ -66,6 +78,7 @@ team_form = record {
   entry = λ name home from until skills. Team name home from until skills;
 }
 
+-- a task: its name, place, window, minutes, teams and skills
 abbrev pub task_form : Form
 task_form = record {
   key = codes "task";
@@ -73,30 +86,39 @@ task_form = record {
   entry = λ name place earliest latest n teams skills. Task name place earliest latest n teams skills;
 }
 
+-- a task that is no more
 abbrev pub cancel_form : Form
 cancel_form = record { key = codes "cancel"; slots = Named ∷ []; entry = λ task. Cancel task }
 
+-- a task, and its new window
 abbrev pub move_form : Form
 move_form = record { key = codes "move"; slots = Named ∷ time ∷ time ∷ []; entry = λ task earliest latest. Move task earliest latest }
 
+-- a task, and its new minutes
 abbrev pub longer_form : Form
 longer_form = record { key = codes "longer"; slots = Named ∷ duration ∷ []; entry = λ task n. Longer task n }
 
+-- a task, and its new number of teams
 abbrev pub needs_form : Form
 needs_form = record { key = codes "needs"; slots = Named ∷ count ∷ []; entry = λ task teams. Needs task teams }
 
+-- a team that is no more
 abbrev pub sick_form : Form
 sick_form = record { key = codes "sick"; slots = Named ∷ []; entry = λ team. Sick team }
 
+-- a team, and its new shift
 abbrev pub shift_form : Form
 shift_form = record { key = codes "shift"; slots = Named ∷ time ∷ time ∷ []; entry = λ team from until. Shift team from until }
 
+-- a team, and the skill that it gets
 abbrev pub skill_form : Form
 skill_form = record { key = codes "skill"; slots = Named ∷ skill ∷ []; entry = λ team n. Skill team n }
 
+-- a team, and the skill that it loses
 abbrev pub unskill_form : Form
 unskill_form = record { key = codes "unskill"; slots = Named ∷ skill ∷ []; entry = λ team n. Unskill team n }
 
+-- a plan is due, with this budget
 abbrev pub plan_form : Form
 plan_form = record { key = codes "plan"; slots = nodes ∷ []; entry = λ n. Plan n }
 

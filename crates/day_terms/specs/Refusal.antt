@@ -1,5 +1,7 @@
 -- why an entry is refused in a state
-use Rattle.std.specs.Prelude.{◌-◌, ◌||◌, ℕ, Bool, List, [], ◌∷◌, Option, None, Some, length, not, nat_le, nat_lt, option_map, if◌then◌else◌}
+use Rattle.std.specs.Prelude.{◌-◌, ◌||◌, ℕ, Bool, List, [], ◌∷◌, Option, None, length, not, nat_le, nat_lt, option_map}
+use Rattle.std.specs.Map.{lookup}
+use Rattle.crew_terms.specs.declared.TheConstants.{MOST_PLACES, MOST_TEAMS, MOST_TASKS, MOST_TEAMS_PER_TASK, WIDEST_WINDOW}
 use Rattle.day_terms.specs.State.{State, has_place, has_team, has_task}
 use Rattle.day_terms.specs.Rounds.{first_missing}
 use Rattle.day_terms.specs.declared.Entry.{Entry}
@@ -19,32 +21,31 @@ pub data Refusal : Type 0 where
 
 -- of these conditions, the refusal of the first that holds
 abbrev pub first_of : List (Bool × Refusal) → Option Refusal
-first_of [] = None
-first_of (row ∷ rows) = if row.0 then Some row.1 else first_of rows
+first_of rows = lookup (λ holds. holds) rows
 
--- a window that ends before it begins, or is wider than 720 minutes
+-- a window that ends before it begins, or is too wide
 abbrev pub is_bad_window : ℕ → ℕ → Bool
-is_bad_window earliest latest = nat_lt latest earliest || nat_lt 720 (latest - earliest)
+is_bad_window earliest latest = nat_lt latest earliest || nat_lt WIDEST_WINDOW (latest - earliest)
 
--- no number of teams from 1 to 8
+-- no team, or too many
 abbrev pub is_bad_count : ℕ → Bool
-is_bad_count teams = nat_lt teams 1 || nat_lt 8 teams
+is_bad_count teams = nat_lt teams 1 || nat_lt MOST_TEAMS_PER_TASK teams
 
 -- the refusal of the entry, if it is refused: of each kind's conditions, the first that holds
 abbrev pub refusal_of : State → Entry → Option Refusal
-refusal_of s (Place name) = first_of ((nat_le 200 (length s.places), TooMany) ∷ (has_place s name, SameName) ∷ [])
+refusal_of s (Place name) = first_of ((nat_le MOST_PLACES (length s.places), TooMany) ∷ (has_place s name, SameName) ∷ [])
 refusal_of s (Travel from to minutes) = first_of ((not (has_place s from) || not (has_place s to), NoPlace) ∷ [])
 refusal_of s (RouteTime from to minutes) = first_of ((not (has_place s from) || not (has_place s to), NoPlace) ∷ [])
 refusal_of s (DefaultTravel minutes) = None
 refusal_of s (Team name home from until skills) = first_of (
-    (nat_le 64 (length s.teams), TooMany)
+    (nat_le MOST_TEAMS (length s.teams), TooMany)
     ∷ (has_team s name, SameName)
     ∷ (not (has_place s home), NoPlace)
     ∷ (nat_le until from, BadShift)
     ∷ []
     )
 refusal_of s (Task name place earliest latest minutes teams skills) = first_of (
-    (nat_le 400 (length s.tasks), TooMany)
+    (nat_le MOST_TASKS (length s.tasks), TooMany)
     ∷ (has_task s name, SameName)
     ∷ (not (has_place s place), NoPlace)
     ∷ (is_bad_window earliest latest, BadWindow)

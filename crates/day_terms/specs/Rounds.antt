@@ -1,6 +1,7 @@
 -- the instance of a state, and the rounds of a day
-use Rattle.std.specs.Prelude.{◌++◌, ◌&&◌, ℕ, Bool, List, [], ◌∷◌, Option, not, bytes_eq, is_none, find, flat_map, map, option_map, unwrap_or, if◌then◌else◌}
+use Rattle.std.specs.Prelude.{◌++◌, ◌&&◌, ℕ, Bool, List, [], ◌∷◌, Option, not, bytes_eq, is_none, length, find, flat_map, map, option_map, unwrap_or, if◌then◌else◌}
 use Rattle.crew_terms.specs.Instance.{Instance}
+use Rattle.crew_terms.specs.Plan.{empty_plan}
 use Rattle.day_terms.specs.State.{State, start, is_way, after_entry}
 use Rattle.day_terms.specs.declared.Entry.{Entry}
 use Rattle.day_terms.specs.declared.Entry.TheVariants.{Plan}
@@ -13,13 +14,14 @@ minutes_given s from to = option_map (λ g. g.minutes) (find (is_way from to) s.
 abbrev pub minutes_from : State → List ℕ → List ℕ → ℕ
 minutes_from s from to = unwrap_or (minutes_given s from to) (if bytes_eq from to then 0 else unwrap_or s.default_minutes 0)
 
--- the instance of a state that lacks no time
+-- the instance of a state that lacks no time; no job is frozen
 abbrev pub instance_of : State → Instance
 instance_of s = record {
   places = s.places;
   teams = s.teams;
   tasks = s.tasks;
   travel = map (λ from. map (minutes_from s from) s.places) s.places;
+  frozen = empty_plan (length s.tasks);
 }
 
 -- the pairs of places, by the first and then by the second

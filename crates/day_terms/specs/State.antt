@@ -30,6 +30,7 @@ start = record { places = []; teams = []; tasks = []; times = []; default_minute
 abbrev pub has_place : State → List ℕ → Bool
 has_place s name = list_any (bytes_eq name) s.places
 
+-- the team has the name
 abbrev pub is_team : List ℕ → Team → Bool
 is_team name t = bytes_eq name t.name
 
@@ -37,6 +38,7 @@ is_team name t = bytes_eq name t.name
 abbrev pub has_team : State → List ℕ → Bool
 has_team s name = list_any (is_team name) s.teams
 
+-- the task has the name
 abbrev pub is_task : List ℕ → Task → Bool
 is_task name t = bytes_eq name t.name
 

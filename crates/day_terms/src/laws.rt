@@ -2,6 +2,7 @@
 // the state, of its teams, tasks and times and of the rounds; and which refusal and which missing time is the first.
 ghost use Rattle.std.specs.Prelude.{◌≡◌, ◌≢◌, ◌<◌, ◌^◌, ◌⊎◌, ◌↔◌, ◌++◌, ℕ, ℤ, Bool, true, false, List, [], ◌∷◌, All, Any, Contains, Some, None, Ok, count_by, length, slice_get, take};
 ghost use Rattle.std.specs.Int.{bit_at};
+ghost use Rattle.crew_terms.specs.declared.TheConstants.{SKILLS};
 ghost use Rattle.crew_terms.specs.declared.Team.{Team};
 ghost use Rattle.crew_terms.specs.declared.Task.{Task};
 ghost use Rattle.crew_terms.specs.Instance.{minutes_between};
@@ -105,7 +106,7 @@ pub fn one_skill_changes()
     ensures skill { (s : State) (name : List ℕ) (n k m : ℕ) (before after : Team) → slice_get s.teams k ≡ Some before → before.name ≡ name
         → slice_get (after_entry s (Skill name n)).teams k ≡ Some after → (bit_at after.skills m ≡ 1) ↔ ((m ≡ n) ⊎ (bit_at before.skills m ≡ 1)) }
     ensures unskill { (s : State) (name : List ℕ) (n k m : ℕ) (before after : Team) → slice_get s.teams k ≡ Some before → before.name ≡ name
-        → slice_get (after_entry s (Unskill name n)).teams k ≡ Some after → n < 64 → before.skills < 2 ^ 64
+        → slice_get (after_entry s (Unskill name n)).teams k ≡ Some after → n < SKILLS → before.skills < 2 ^ SKILLS
         → (bit_at after.skills m ≡ 1) ↔ ((m ≢ n) × (bit_at before.skills m ≡ 1)) }
 {}
 

@@ -14,8 +14,11 @@ pub use laws::{
     time_is_given, travel_is_both_ways,
 };
 
-/// What one record of a day says. Times are minutes of the day, 0 to 2880, as are travel times;
-/// durations are 1 to 2880 minutes; skills are a bit for each of the numbers 0 to 63.
+/// The greatest number of teams that a record may say for a task.
+pub const GREATEST_COUNT: u32 = 99;
+
+/// What one record of a day says. Times are minutes of the day, as are travel times; durations are 1 minute or more, and
+/// all of them at most `LAST_MINUTE`; skills are a bit for each of the numbers below `SKILLS`.
 #[derive(Clone, Copy, Debug, PartialEq, Eq)]
 pub enum Entry {
     /// There is one more place.

@@ -1,16 +1,19 @@
 -- the prices of a leaf: only required pairs have one, and each lies in its range
-use Rattle.std.proofs.Common.{◌≡◌, ◌<◌, ◌≤◌, ℕ, zero, suc, ℤ, List, [], ◌∷◌, length, get_or, ap, sym, subst, refl, ◌∙◌, arith, Bool, true, false, ◌⊎◌, inl, inr, cond}
+use Rattle.std.proofs.Common.{◌≡◌, ◌<◌, ℕ, ℤ, List, [], ◌∷◌, length, get_or, ap, sym, refl, ◌∙◌, arith, Bool, true, false, inl, inr, cond}
 use Rattle.std.specs.Prelude.{◌≢◌, pos, map, filter, ◌==◌}
-use Rattle.std.specs.List.{AllByRecursion}
+use Rattle.std.specs.List.{AllByRecursion, range_with_len}
 use Rattle.std.proofs.lemmas.Int.{ints}
-use Rattle.std.proofs.lemmas.List.{get_or-map, get_or_past, length-map}
-use Rattle.std.proofs.lemmas.Bool.{cases_eq, cases_lt, ne_eqb}
+use Rattle.std.proofs.lemmas.Bool.{cases_eq, ne_eqb}
+use Rattle.std.proofs.lemmas.List.Elements.{All-from_recursion}
+use Rattle.std.proofs.lemmas.List.FromFn.{get_or-map-range_with_len}
 use Rattle.crew_terms.specs.Limits.{Limits, pair_of, tasks_in, teams_in, is_required}
+use Rattle.crew_terms.specs.Minutes.{required_teams, priced}
 use Rattle.crew_terms.specs.Leaf.{IsOnRequired, IsPrice, AreInRange, rho_of}
 use Rattle.crew_terms.specs.declared.Pair.{Pair}
 use Rattle.crew_terms.specs.declared.Pair.TheVariants.{Free, Forbidden, Required}
-use Rattle.dossier_laws.proofs.Below.{length-below, get_below}
-use Rattle.dossier_terms.specs.Dossier.{Leaf, Rows, required_teams, priced, prices_of, extra_of, beside, below}
+use Rattle.dossier_terms.specs.Dossier.{Leaf, Rows, prices_of, extra_of, beside}
+use Rattle.dossier_laws.proofs.Below.{map_at}
+use Rattle.dossier_laws.proofs.Lists.{All-or}
 
 beside_none : {A : Type 0} (P : ℕ → Bool) (ks : List ℕ) (xs : List A) (key : ℕ) (other : A) → P key ≡ false → beside (filter P ks) xs key other ≡ other
 beside_none P [] xs key other h = refl
@@ -33,31 +36,20 @@ not_required Free h = refl
 not_required Forbidden h = refl
 not_required Required h = absurd (h refl)
 
+-- what stands in the prices for a team and a task
 pub rho_at : (n : Limits) (leaf : Leaf) (k j : ℕ) → k < teams_in n → j < tasks_in n → rho_of (prices_of n leaf) k j ≡ extra_of n leaf k j
 rho_at n leaf k j lt l =
-    let e = length-below (teams_in n) in
-    let f = length-below (tasks_in n) in
-    ap (λ r. get_or r j (pos 0)) (get_or-map (λ k. map (extra_of n leaf k) (below (tasks_in n))) (below (teams_in n)) k 0 [] (omega arith) ∙ ap (λ k. map (extra_of n leaf k) (below (tasks_in n))) (get_below (teams_in n) k 0 lt))
-    ∙ get_or-map (extra_of n leaf k) (below (tasks_in n)) j 0 (pos 0) (omega arith) ∙ ap (extra_of n leaf k) (get_below (tasks_in n) j 0 l)
+    ap (λ r. get_or r j (pos 0)) (get_or-map-range_with_len (λ k. map (extra_of n leaf k) (range_with_len 0 (tasks_in n))) 0 (teams_in n) k k [] lt (omega arith))
+    ∙ get_or-map-range_with_len (extra_of n leaf k) 0 (tasks_in n) j j (pos 0) l (omega arith)
 
--- a pair that the leaf tells no price of has none
-rho_either : (n : Limits) (leaf : Leaf) (k j : ℕ) → (rho_of (prices_of n leaf) k j ≡ pos 0) ⊎ (rho_of (prices_of n leaf) k j ≡ extra_of n leaf k j)
-rho_either n leaf k j = at (cases_lt k (teams_in n)) (cases_lt j (tasks_in n))
-  where
-    row : ℕ → List ℤ
-    row k = map (extra_of n leaf k) (below (tasks_in n))
-
-    at : (k < teams_in n) ⊎ (teams_in n ≤ k) → (j < tasks_in n) ⊎ (tasks_in n ≤ j) → (rho_of (prices_of n leaf) k j ≡ pos 0) ⊎ (rho_of (prices_of n leaf) k j ≡ extra_of n leaf k j)
-    at (inr le) c = inl (ap (λ r. get_or r j (pos 0)) (get_or_past (map row (below (teams_in n))) k [] (let e = length-below (teams_in n) in omega (arith, length-map (below (teams_in n)) row))))
-    at (inl lt) (inr le) = inl (ap (λ r. get_or r j (pos 0)) (get_or-map row (below (teams_in n)) k 0 [] (let e = length-below (teams_in n) in omega arith) ∙ ap row (get_below (teams_in n) k 0 lt))
-        ∙ get_or_past (row k) j (pos 0) (let e = length-below (tasks_in n) in omega (arith, length-map (below (tasks_in n)) (extra_of n leaf k))))
-    at (inl lt) (inl l) = inr (rho_at n leaf k j lt l)
+-- what holds of 0 and of the extra of a pair holds of its price
+rho_each : (P : ℤ → Type 0) (n : Limits) (leaf : Leaf) (k j : ℕ) → P (extra_of n leaf k j) → P (pos 0) → P (rho_of (prices_of n leaf) k j)
+rho_each P n leaf k j h none = map_at (λ row. P (get_or row j (pos 0))) (λ k. map (extra_of n leaf k) (range_with_len 0 (tasks_in n))) (teams_in n) k []
+    (λ l. map_at P (extra_of n leaf k) (tasks_in n) j (pos 0) (λ m. h) none) none
 
 pub on_required : (n : Limits) (leaf : Leaf) → IsOnRequired n (prices_of n leaf)
-on_required n leaf k j other = elim (rho_either n leaf k j) [
-  | inl e ↦ e
-  | inr e ↦ e ∙ beside_none (λ k. is_required (pair_of n k j)) (below (teams_in n)) (beside (priced n) leaf.extras j []) k (pos 0) (not_required (pair_of n k j) other)
-]
+on_required n leaf k j other = rho_each (λ v. v ≡ pos 0) n leaf k j
+    (beside_none (λ k. is_required (pair_of n k j)) (range_with_len 0 (teams_in n)) (beside (priced n) leaf.extras j []) k (pos 0) (not_required (pair_of n k j) other)) refl
 
 -- ---- each price lies in its range
 
@@ -76,20 +68,14 @@ rows_in In wants [] (row ∷ rows) h = absurd h
 rows_in In wants (k ∷ ks) [] h = absurd h
 rows_in In wants (k ∷ ks) (row ∷ rows) h = (h.1, rows_in In wants ks rows h.2)
 
-listed_in : (P : ℤ → Type 0) (xs : List ℤ) (k : ℕ) → AllByRecursion P xs → P (pos 0) → P (get_or xs k (pos 0))
-listed_in P [] k h o = o
-listed_in P (x ∷ xs) zero h o = h.0
-listed_in P (x ∷ xs) (suc k) h o = listed_in P xs k h.1 o
-
 no_price : IsPrice (pos 0)
 no_price = record { least = omega (arith, ints); most = omega (arith, ints) }
 
 pub in_range : (n : Limits) (leaf : Leaf) → AllByRecursion IsPrice leaf.prices → Rows IsPrice (λ j. length (required_teams n j)) (priced n) leaf.extras → AreInRange (prices_of n leaf)
 in_range n leaf h rows = record {
-  tasks = λ j. listed_in IsPrice leaf.prices j h no_price;
-  pairs = λ k j. elim (rho_either n leaf k j) [
-    | inl e ↦ subst IsPrice (sym e) no_price
-    | inr e ↦ subst IsPrice (sym e) (beside_in IsPrice (required_teams n j) (beside (priced n) leaf.extras j []) k (pos 0)
-        (beside_in (λ row. AllByRecursion IsPrice row) (priced n) leaf.extras j [] (rows_in IsPrice (λ j. length (required_teams n j)) (priced n) leaf.extras rows) tt) no_price)
-  ];
+  tasks = λ j. All-or IsPrice leaf.prices j (pos 0) (All-from_recursion IsPrice leaf.prices h) no_price;
+  pairs = λ k j. rho_each IsPrice n leaf k j
+      (beside_in IsPrice (required_teams n j) (beside (priced n) leaf.extras j []) k (pos 0)
+      (beside_in (λ row. AllByRecursion IsPrice row) (priced n) leaf.extras j [] (rows_in IsPrice (λ j. length (required_teams n j)) (priced n) leaf.extras rows) tt) no_price)
+      no_price;
 }

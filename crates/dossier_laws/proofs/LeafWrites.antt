@@ -6,43 +6,44 @@ use Rattle.std.proofs.lemmas.List.{get_or-map, length-map, nil_from_length}
 use Rattle.crew_terms.specs.Limits.{Limits, teams_in}
 use Rattle.crew_terms.specs.Plan.{unassigned_count}
 use Rattle.crew_terms.specs.Leaf.{Prices as TaskPrices, HoldsLocally, IsValidLeaf, Proves, bound_of, IsPrice}
-use Rattle.dossier_terms.specs.Dossier.{Leaf, Potentials, no_potentials, Rows, Tables, IsTable, IsWritten, IsSigned, priced, open_tasks, required_teams, minute_count, prices_of, worths_of, phi_in, phi_of}
+use Rattle.dossier_terms.specs.Dossier.{Leaf, Potentials, no_potentials, Rows, Tables, IsTable, IsWritten, IsSigned, prices_of, worths_of, phi_in, phi_of}
+use Rattle.crew_terms.specs.Minutes.{priced, open_tasks, required_teams, minute_count}
 use Rattle.dossier_terms.specs.Lines.{extra_line, phi_line, rows_lines, table_lines, leaf_lines}
-use Rattle.dossier_terms.specs.Reading.{Reading, More, Place, limits_of, leaf_done, Prices, Extras, Worths, Phis}
+use Rattle.dossier_terms.specs.Reading.{Reading, More, limits_of, leaf_done, Prices, Extras, Worths, Phis, LeafSite}
 use Rattle.dossier_terms.specs.Rules.{Holds, HoldsOfAll, Spelled, On}
 use Rattle.dossier_terms.specs.Table.{Reaches, after_table, after_phi, after_extra}
-use Rattle.dossier_laws.proofs.SoFar.{leaf_so_far}
+use Rattle.dossier_laws.proofs.SoFar.{TablesHold, leaf_so_far}
 use Rattle.dossier_laws.proofs.Rules.{reaches-append}
 
 -- ---- what is due after the last line of a part
 
-abbrev tables_next : Place → Leaf → ℕ → Reading
+abbrev tables_next : LeafSite → Leaf → ℕ → Reading
 tables_next a leaf zero = leaf_done a leaf
 tables_next a leaf (suc left) = Worths a leaf.prices leaf.extras leaf.tables left
 
-abbrev phis_next : Place → List ℤ → List (List ℤ) → List Potentials → ℕ → ℤ → List (List ℤ) → List ℕ → Reading
+abbrev phis_next : LeafSite → List ℤ → List (List ℤ) → List Potentials → ℕ → ℤ → List (List ℤ) → List ℕ → Reading
 phis_next a prices extras tables left worth rows [] = tables_next a (leaf_so_far prices extras (tables ++ record { worth = worth; phi = rows } ∷ [])) left
 phis_next a prices extras tables left worth rows (j ∷ js) = Phis a prices extras tables left worth rows j js
 
-abbrev extras_next : Place → List ℤ → List (List ℤ) → List ℕ → Reading
+abbrev extras_next : LeafSite → List ℤ → List (List ℤ) → List ℕ → Reading
 extras_next a prices rows [] = tables_next a (leaf_so_far prices rows []) (teams_in (limits_of a))
 extras_next a prices rows (j ∷ js) = Extras a prices rows j js
 
-abbrev Bounds : Place → Leaf → Type 0
-Bounds a leaf = Proves (bound_of (limits_of a) (prices_of (limits_of a) leaf) (worths_of leaf)) a.draft.bound
-    × (a.is_closed ≡ true → Proves (bound_of (limits_of a) (prices_of (limits_of a) leaf) (worths_of leaf)) (unassigned_count a.draft.plan))
+abbrev Bounds : LeafSite → Leaf → Type 0
+Bounds a leaf = Proves (bound_of (limits_of a) (prices_of (limits_of a) leaf) (worths_of leaf)) a.begun.bound
+    × (a.is_closed ≡ true → Proves (bound_of (limits_of a) (prices_of (limits_of a) leaf) (worths_of leaf)) (unassigned_count a.begun.plan))
 
-after_table_holds : (a : Place) (leaf : Leaf) (left : ℕ) → (left ≡ 0 → Bounds a leaf) → after_table a leaf left (More (tables_next a leaf left))
+after_table_holds : (a : LeafSite) (leaf : Leaf) (left : ℕ) → (left ≡ 0 → Bounds a leaf) → after_table a leaf left (More (tables_next a leaf left))
 after_table_holds a leaf zero h = Holds (h refl).0 (Holds (h refl).1 (On refl))
 after_table_holds a leaf (suc left) h = On refl
 
-after_phi_holds : (a : Place) (prices : List ℤ) (extras : List (List ℤ)) (tables : List Potentials) (left : ℕ) (worth : ℤ) (rows : List (List ℤ)) (keys : List ℕ)
+after_phi_holds : (a : LeafSite) (prices : List ℤ) (extras : List (List ℤ)) (tables : List Potentials) (left : ℕ) (worth : ℤ) (rows : List (List ℤ)) (keys : List ℕ)
     → (keys ≡ [] → HoldsLocally (limits_of a) (length tables) (prices_of (limits_of a) (leaf_so_far prices extras tables)) (phi_in (limits_of a) (length tables) (record { worth = worth; phi = rows })) worth
     × (left ≡ 0 → Bounds a (leaf_so_far prices extras (tables ++ record { worth = worth; phi = rows } ∷ []))))
     → after_phi a prices extras tables left worth rows keys (More (phis_next a prices extras tables left worth rows keys))
 after_phi_holds a prices extras tables left worth rows [] h =
     let v = (h refl).0 in
-    HoldsOfAll (λ j l. record { alone = v.alone j; step = v.step j }) (Holds (record { most = v.most; idle = v.idle })
+    HoldsOfAll (λ j l. v.tasks j) (Holds v.worth_rules
     (after_table_holds a (leaf_so_far prices extras (tables ++ record { worth = worth; phi = rows } ∷ [])) left (h refl).1))
 after_phi_holds a prices extras tables left worth rows (j ∷ js) h = On refl
 
@@ -51,7 +52,7 @@ no_rows In wants keys [] h e = refl
 no_rows In wants [] (r ∷ rows) h e = absurd h
 no_rows In wants (k ∷ keys) (r ∷ rows) h e = absurd (cc)
 
-phis_reached : (a : Place) (prices : List ℤ) (extras : List (List ℤ)) (tables : List Potentials) (left : ℕ) (t : Potentials)
+phis_reached : (a : LeafSite) (prices : List ℤ) (extras : List (List ℤ)) (tables : List Potentials) (left : ℕ) (t : Potentials)
     → HoldsLocally (limits_of a) (length tables) (prices_of (limits_of a) (leaf_so_far prices extras tables)) (phi_in (limits_of a) (length tables) t) t.worth
     → (left ≡ 0 → Bounds a (leaf_so_far prices extras (tables ++ t ∷ [])))
     → (done : List (List ℤ)) (keys : List ℕ) (rows : List (List ℤ)) → t.phi ≡ done ++ rows → Rows IsSigned (minute_count (limits_of a) (length tables)) keys rows
@@ -71,13 +72,8 @@ phis_reached a prices extras tables left t v b done (j ∷ js) (r ∷ rows) e h 
       phis_reached a prices extras tables left t v b (done ++ r ∷ []) js rows whole h.2,
     )
 
--- each table so far is good, and holds
-abbrev Good : Limits → TaskPrices → ℕ → List Potentials → Type 0
-Good n p k [] = Unit {0}
-Good n p k (t ∷ ts) = (IsTable n k t × HoldsLocally n k p (phi_in n k t) t.worth) × Good n p (suc k) ts
-
-tables_reached : (a : Place) (prices : List ℤ) (extras : List (List ℤ)) (all : List Potentials) → Bounds a (leaf_so_far prices extras all)
-    → (done ts : List Potentials) → all ≡ done ++ ts → (k : ℕ) → length done ≡ k → Good (limits_of a) (prices_of (limits_of a) (leaf_so_far prices extras [])) k ts
+tables_reached : (a : LeafSite) (prices : List ℤ) (extras : List (List ℤ)) (all : List Potentials) → Bounds a (leaf_so_far prices extras all)
+    → (done ts : List Potentials) → all ≡ done ++ ts → (k : ℕ) → length done ≡ k → TablesHold (limits_of a) (prices_of (limits_of a) (leaf_so_far prices extras [])) k ts
     → Reaches (tables_next a (leaf_so_far prices extras done) (length ts)) (table_lines (limits_of a) k ts) (leaf_done a (leaf_so_far prices extras all))
 tables_reached a prices extras all b done [] e k q h = ap (λ ts. leaf_done a (leaf_so_far prices extras ts)) (sym (e ∙ append-nil done))
 tables_reached a prices extras all b done (t ∷ ts) e k q h =
@@ -103,12 +99,12 @@ tables_reached a prices extras all b done (t ∷ ts) e k q h =
 
 -- ---- extras
 
-after_extra_holds : (a : Place) (prices : List ℤ) (rows : List (List ℤ)) (keys : List ℕ) → (keys ≡ [] → teams_in (limits_of a) ≡ 0 → Bounds a (leaf_so_far prices rows []))
+after_extra_holds : (a : LeafSite) (prices : List ℤ) (rows : List (List ℤ)) (keys : List ℕ) → (keys ≡ [] → teams_in (limits_of a) ≡ 0 → Bounds a (leaf_so_far prices rows []))
     → after_extra a prices rows keys (More (extras_next a prices rows keys))
 after_extra_holds a prices rows [] h = after_table_holds a (leaf_so_far prices rows []) (teams_in (limits_of a)) (h refl)
 after_extra_holds a prices rows (j ∷ js) h = On refl
 
-extras_reached : (a : Place) (prices : List ℤ) (extras : List (List ℤ)) → (teams_in (limits_of a) ≡ 0 → Bounds a (leaf_so_far prices extras []))
+extras_reached : (a : LeafSite) (prices : List ℤ) (extras : List (List ℤ)) → (teams_in (limits_of a) ≡ 0 → Bounds a (leaf_so_far prices extras []))
     → (done : List (List ℤ)) (keys : List ℕ) (rows : List (List ℤ)) → extras ≡ done ++ rows → Rows IsPrice (λ j. length (required_teams (limits_of a) j)) keys rows
     → Reaches (extras_next a prices done keys) (rows_lines extra_line keys rows) (tables_next a (leaf_so_far prices extras []) (teams_in (limits_of a)))
 extras_reached a prices extras b done [] [] e h = ap (λ rows. tables_next a (leaf_so_far prices rows []) (teams_in (limits_of a))) (sym (e ∙ append-nil done))
@@ -124,7 +120,7 @@ extras_reached a prices extras b done (j ∷ js) (r ∷ rows) e h =
     )
 
 good_tables : (n : Limits) (p : TaskPrices) (k : ℕ) (ts : List Potentials) → Tables n k ts
-    → ((j : ℕ) → j < length ts → HoldsLocally n (k + j) p (phi_in n (k + j) (slice_index_or ts j no_potentials)) (slice_index_or ts j no_potentials).worth) → Good n p k ts
+    → ((j : ℕ) → j < length ts → HoldsLocally n (k + j) p (phi_in n (k + j) (slice_index_or ts j no_potentials)) (slice_index_or ts j no_potentials).worth) → TablesHold n p k ts
 good_tables n p k [] h v = tt
 good_tables n p k (t ∷ ts) h v =
     let e : k + 0 ≡ k = omega arith in
@@ -139,13 +135,13 @@ tables_length : (n : Limits) (k : ℕ) (ts : List Potentials) → Tables n k ts 
 tables_length n k [] h = omega arith
 tables_length n k (t ∷ ts) h = let a = tables_length n (suc k) ts h.1 in omega arith
 
-pub leaf_reached : (a : Place) (leaf : Leaf) → IsWritten (limits_of a) leaf → IsValidLeaf (limits_of a) (prices_of (limits_of a) leaf) (worths_of leaf) (phi_of (limits_of a) leaf) → Bounds a leaf
+pub leaf_reached : (a : LeafSite) (leaf : Leaf) → IsWritten (limits_of a) leaf → IsValidLeaf (limits_of a) (prices_of (limits_of a) leaf) (worths_of leaf) (phi_of (limits_of a) leaf) → Bounds a leaf
     → Reaches (Prices a) (leaf_lines (limits_of a) leaf) (leaf_done a leaf)
 leaf_reached a leaf w v b =
     let n = limits_of a in
     let size : 0 + length leaf.tables ≡ teams_in n = tables_length n 0 leaf.tables w.tables in
     let few : teams_in n ≡ length leaf.tables = omega arith in
-    let good : Good n (prices_of n leaf) 0 leaf.tables = good_tables n (prices_of n leaf) 0 leaf.tables w.tables (λ j l.
+    let good : TablesHold n (prices_of n leaf) 0 leaf.tables = good_tables n (prices_of n leaf) 0 leaf.tables w.tables (λ j l.
     let e : 0 + j ≡ j = omega arith in
     subst (λ q. HoldsLocally n q (prices_of n leaf) (phi_in n q (slice_index_or leaf.tables j no_potentials)) (slice_index_or leaf.tables j no_potentials).worth) (sym e)
     (subst (λ x. HoldsLocally n j (prices_of n leaf) (phi_of n leaf j) x) (get_or-map (λ (t : Potentials). t.worth) leaf.tables j no_potentials (pos 0) l) (v.valid j (omega arith)))) in

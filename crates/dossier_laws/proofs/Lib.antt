@@ -1,9 +1,9 @@
 pub mod Rules
 pub mod Lists
 pub mod Below
-pub mod Kept
 pub mod Skills
-pub mod Minutes
+pub mod Empty
+pub mod Days
 pub mod SoFar
 pub mod HeadReads
 pub mod HeadWrites

@@ -1,16 +1,16 @@
 -- what the numbers of a leaf stand for
 use Rattle.std.proofs.Common.{◌≡◌, ◌<◌, ◌+◌, ◌-◌, ℕ, zero, suc, ℤ, List, [], ◌∷◌, length, ap, refl, ◌∙◌, subst, arith, Bool, true, false, cond}
-use Rattle.std.specs.Prelude.{◌==◌, pos, slice_index, slice_index_or}
+use Rattle.std.specs.Prelude.{◌==◌, nat_lt, pos, slice_index, slice_index_or}
 use Rattle.std.specs.List.Sorted.{IsStrictlyIncreasing}
 use Rattle.std.proofs.lemmas.Bool.{eqb-true, eq-eqb}
-use Rattle.std.proofs.lemmas.List.Elements.{Contains-get_or}
 use Rattle.std.proofs.lemmas.List.Kept.{AllPairs-from_increasing}
-use Rattle.crew_terms.specs.Limits.{Limits, teams_in}
+use Rattle.crew_terms.specs.Limits.{Limits, tasks_in, teams_in, pair_of, is_required, has_required}
 use Rattle.crew_terms.specs.Leaf.{IsPrice, rho_of}
-use Rattle.dossier_terms.specs.Dossier.{Leaf, Potentials, no_potentials, beside, Rows, Tables, IsTable, IsSigned, IsWritten, priced, required_teams, open_tasks, minute_count, first_minute, prices_of, phi_of}
+use Rattle.dossier_terms.specs.Dossier.{Leaf, Potentials, no_potentials, beside, Rows, Tables, IsTable, IsSigned, IsWritten, prices_of, phi_of}
+use Rattle.crew_terms.specs.Minutes.{priced, required_teams, open_tasks, minute_count, first_minute}
 use Rattle.dossier_laws.proofs.Lists.{tail_rises}
 use Rattle.dossier_laws.proofs.LeafPrices.{rho_at}
-use Rattle.dossier_laws.proofs.Minutes.{priced_listed, required_listed, open_listed}
+use Rattle.dossier_laws.proofs.Below.{kept_less, kept_rises}
 
 rows-length : (In : ℤ → Type 0) (wants : ℕ → ℕ) (keys : List ℕ) (rows : List (List ℤ)) → Rows In wants keys rows → length rows ≡ length keys
 rows-length In wants [] [] h = refl
@@ -42,15 +42,12 @@ pub extra_placed : (n : Limits) (leaf : Leaf) (a b : ℕ) → IsWritten n leaf �
     → rho_of (prices_of n leaf) (slice_index (required_teams n (slice_index (priced n) a)) b) (slice_index (priced n) a) ≡ slice_index_or (slice_index_or leaf.extras a []) b (pos 0)
 extra_placed n leaf a b h l m =
     let j = slice_index (priced n) a in
-    let keys = priced_listed n in
-    let teams = required_listed n j in
+    let required : ℕ → Bool = λ k. is_required (pair_of n k j) in
     let k = slice_index (required_teams n j) b in
-    let known = (keys.each j).0 (Contains-get_or (priced n) a 0 l) in
-    let team = (teams.each k).0 (Contains-get_or (required_teams n j) b 0 m) in
     let wants = λ (j : ℕ). length (required_teams n j) in
-    rho_at n leaf k j team.0 known.0
-    ∙ ap (λ row. beside (required_teams n j) row k (pos 0)) (beside_at (priced n) leaf.extras a [] keys.rising l (rows-length IsPrice wants (priced n) leaf.extras h.extras))
-    ∙ beside_at (required_teams n j) (slice_index_or leaf.extras a []) b (pos 0) teams.rising m (row-length IsPrice wants (priced n) leaf.extras a h.extras l)
+    rho_at n leaf k j (kept_less required (teams_in n) b 0 m) (kept_less (has_required n) (tasks_in n) a 0 l)
+    ∙ ap (λ row. beside (required_teams n j) row k (pos 0)) (beside_at (priced n) leaf.extras a [] (kept_rises (has_required n) (tasks_in n)) l (rows-length IsPrice wants (priced n) leaf.extras h.extras))
+    ∙ beside_at (required_teams n j) (slice_index_or leaf.extras a []) b (pos 0) (kept_rises required (teams_in n)) m (row-length IsPrice wants (priced n) leaf.extras a h.extras l)
 
 table_at : (n : Limits) (k : ℕ) (ts : List Potentials) (i : ℕ) → Tables n k ts → k + i < teams_in n → IsTable n (k + i) (slice_index_or ts i no_potentials)
 table_at n k [] i h l = absurd (omega arith)
@@ -62,11 +59,10 @@ table_at n k (t ∷ ts) (suc i) h l =
 pub phi_placed : (n : Limits) (leaf : Leaf) (k a m : ℕ) → IsWritten n leaf → k < teams_in n → a < length (open_tasks n k)
     → phi_of n leaf k (slice_index (open_tasks n k) a) (first_minute n k (slice_index (open_tasks n k) a) + m) ≡ slice_index_or (slice_index_or (slice_index_or leaf.tables k no_potentials).phi a []) m (pos 0)
 phi_placed n leaf k a m h known l =
-    let keys = open_listed n k in
     let j = slice_index (open_tasks n k) a in
     let rows = (slice_index_or leaf.tables k no_potentials).phi in
     let z : 0 + k ≡ k = omega arith in
     let table = subst (λ q. IsTable n q (slice_index_or leaf.tables k no_potentials)) z (table_at n 0 leaf.tables k h.tables (omega arith)) in
     let d : first_minute n k j + m - first_minute n k j ≡ m = omega arith in
     ap (λ t. slice_index_or (beside (open_tasks n k) rows j []) t (pos 0)) d
-    ∙ ap (λ row. slice_index_or row m (pos 0)) (beside_at (open_tasks n k) rows a [] keys.rising l (rows-length IsSigned (minute_count n k) (open_tasks n k) rows table.rows))
+    ∙ ap (λ row. slice_index_or row m (pos 0)) (beside_at (open_tasks n k) rows a [] (kept_rises (λ j. nat_lt 0 (minute_count n k j)) (tasks_in n)) l (rows-length IsSigned (minute_count n k) (open_tasks n k) rows table.rows))

@@ -1,20 +1,22 @@
 -- the plan: what is read is its lines, and legal; and the lines of a legal one are read
-use Rattle.std.proofs.Common.{◌≡◌, ◌<◌, ◌≤◌, ◌+◌, ◌-◌, ℕ, zero, suc, List, [], ◌∷◌, ◌++◌, length, set, ap, sym, refl, ◌∙◌, subst, arith, append_assoc, length-append, Option, None, Some}
-use Rattle.std.proofs.Math.Seq.{get_or-append_seam}
+use Rattle.std.proofs.Common.{◌≡◌, ◌<◌, ◌≤◌, ◌+◌, ◌-◌, ℕ, zero, suc, [], ◌∷◌, ◌++◌, length, set, ap, sym, refl, ◌∙◌, subst, arith, append_assoc, length-append, Option, None, Some}
+use Rattle.std.proofs.Math.Seq.{get_or-append_seam, set-append_seam}
 use Rattle.std.specs.Prelude.{map, slice_index_or, slice_set, is_none, cond}
 use Rattle.std.proofs.lemmas.List.Sums.{sum_by-cons}
-use Rattle.std.proofs.lemmas.List.{map-append, get_or-set_other, length-set}
-use Rattle.std.proofs.lemmas.List.Elements.{Contains-get_or}
-use Rattle.crew_terms.specs.Instance.{Instance, IsInstance, no_task}
-use Rattle.crew_terms.specs.Plan.{Plan, Job, IsLegal, job_of, unassigned_count, Does}
-use Rattle.crew_terms.specs.Limits.{copies}
+use Rattle.std.proofs.lemmas.List.{length-replicate, get_or-set_other, length-set}
+use Rattle.std.proofs.lemmas.List.Elements.{Contains-get_or, recursion_from_All}
+use Rattle.crew_terms.specs.Instance.{Instance, no_task}
+use Rattle.crew_terms.specs.Rules.{IsInstance}
+use Rattle.crew_terms.specs.Plan.{Plan, Job, empty_plan, job_of, unassigned_count}
+use Rattle.crew_terms.specs.Legal.{IsLegal}
 use Rattle.crew_terms.specs.Words.{Words}
 use Rattle.dossier_terms.specs.Lines.{plan_line, do_line, jobs_from, plan_lines}
-use Rattle.dossier_terms.specs.Reading.{Reading, Said, More, Draft, Plans, Jobs, Trees, jobs_due}
+use Rattle.dossier_terms.specs.Reading.{Reading, Said, More, Plans, Jobs, Trees, jobs_due, Begun}
 use Rattle.dossier_terms.specs.Rules.{Holds, HoldsBy, Spelled, On}
 use Rattle.dossier_terms.specs.Table.{Reaches, IsDoLine, plan_row, job_row, after_job}
-use Rattle.dossier_laws.proofs.SoFar.{IsPoolPart, AreRoutes, IsPlanPart, AreJobs, IsReading, spelled, Follows, refused, routes_lines, jobs_lines}
-use Rattle.dossier_laws.proofs.Lists.{at_end, by_recursion}
+use Rattle.dossier_laws.proofs.SoFar.{IsPoolPart, AreRoutes, IsPlanPart, AreJobs, IsReading, spelled, Follows, routes_lines, jobs_lines}
+use Rattle.dossier_laws.proofs.Empty.{job_none, empty_legal}
+use Rattle.dossier_laws.proofs.Lists.{map_more}
 use Rattle.dossier_laws.proofs.Rules.{must_then, by_then, spells_then, goes_then}
 
 -- ---- jobs of plans
@@ -24,18 +26,9 @@ jobs_count o [] = refl
 jobs_count o (None ∷ p) = let a = jobs_count (suc o) p in let e : unassigned_count (None ∷ p) ≡ 1 + unassigned_count p = sum_by-cons (λ (x : Option Job). cond (is_none x) 1 0) None p in omega arith
 jobs_count o (Some job ∷ p) = let a = jobs_count (suc o) p in let e : unassigned_count (Some job ∷ p) ≡ 0 + unassigned_count p = sum_by-cons (λ (x : Option Job). cond (is_none x) 1 0) (Some job) p in omega arith
 
-length-copies : {A : Type 0} (n : ℕ) (x : A) → length (copies n x) ≡ n
-length-copies zero x = refl
-length-copies (suc n) x = let a = length-copies n x in omega arith
-
-jobs_none : (o n : ℕ) → jobs_from o (copies n None) ≡ []
+jobs_none : (o n : ℕ) → jobs_from o (empty_plan n) ≡ []
 jobs_none o zero = refl
 jobs_none o (suc n) = jobs_none (suc o) n
-
-job_none : (n j : ℕ) → job_of (copies n None) j ≡ None
-job_none zero j = refl
-job_none (suc n) zero = refl
-job_none (suc n) (suc j) = job_none n j
 
 jobs_later : (o : ℕ) (p : Plan) → ((i : ℕ) → job_of p i ≡ None) → jobs_from o p ≡ []
 jobs_later o [] h = refl
@@ -53,20 +46,9 @@ jobs_set o (None ∷ p) (suc j) job h l = jobs_set (suc o) p j job (λ i m. h (s
 jobs_set o (Some x ∷ p) (suc j) job h l = ap (λ w. (o, x) ∷ w) (jobs_set (suc o) p j job (λ i m. h (suc i) (omega arith)) (omega arith)
     ∙ ap (λ w. jobs_from (suc o) p ++ (w, job) ∷ []) (let e : suc o + j ≡ o + suc j = omega arith in e))
 
-empty_does : (n k j t : ℕ) → Does (copies n None) k j t → ⊥
-empty_does n k j t d = let a = job_none n j in let b = d.1 in cc
-
-empty_legal : (i : Instance) → IsLegal i (copies (length i.tasks) None)
-empty_legal i = record {
-  whole = length-copies (length i.tasks) None;
-  jobs = λ j job e. absurd (let a = job_none (length i.tasks) j in cc);
-  apart = λ k j h t u d e. absurd (empty_does (length i.tasks) k j t d);
-  follow = λ k j h t u d. absurd (empty_does (length i.tasks) k j t d);
-}
-
 -- ---- what is read
 
-due_jobs : (b : Draft) (k from : ℕ) → AreJobs b k from → (k ≡ 0 → IsLegal b.instance b.plan) → (spelled (jobs_due b k from) ≡ jobs_lines b k) × IsReading (jobs_due b k from)
+due_jobs : (b : Begun) (k from : ℕ) → AreJobs b k from → (k ≡ 0 → IsLegal b.instance b.plan) → (spelled (jobs_due b k from) ≡ jobs_lines b k) × IsReading (jobs_due b k from)
 due_jobs b zero from h legal =
     let a = jobs_count 0 b.plan in
     let w = h.0.whole in (
@@ -75,17 +57,17 @@ due_jobs b zero from h legal =
     )
 due_jobs b (suc k) from h legal = (refl, h)
 
-pub plan_follows : (b : Draft) (ws : Words) (said : Said) → AreRoutes b 0 → plan_row b ws said → Follows (Plans b) ws said
-plan_follows b ws said r h = must_then F (refused s ws) said (λ shape g.
-    spells_then F (refused s ws) said (λ p is e g.
-    let c : Draft = record b { bound = p.1 } in
+pub plan_follows : (b : Begun) (ws : Words) (said : Said) → AreRoutes b 0 → plan_row b ws said → Follows (Plans b) ws said
+plan_follows b ws said r h = must_then s ws said (λ shape g.
+    spells_then s ws said (λ p is e g.
+    let c : Begun = record b { bound = p.1 } in
     let n : ℕ = length b.instance.tasks in
     let none : jobs_from 0 b.plan ≡ [] = ap (jobs_from 0) r.1 ∙ jobs_none 0 n in
     let pool : IsPoolPart c (length c.pool) = record { head = r.0.head; kept = omega (arith, r.0.kept); many = omega (arith, r.0.many); pool = r.0.pool; differ = r.0.differ } in
-    let part : IsPlanPart c 0 = record { pool = pool; bound = is.1; whole = ap length r.1 ∙ length-copies n None; later = λ j l. ap (λ p. job_of p j) r.1 ∙ job_none n j } in
+    let part : IsPlanPart c 0 = record { pool = pool; bound = is.1; whole = ap length r.1 ∙ length-replicate n None; later = λ j l. ap (λ p. job_of p j) r.1 ∙ job_none n j } in
     let a : length (jobs_from 0 b.plan) ≡ 0 = ap length none in
-    let due = due_jobs c (n - p.0) 0 (part, omega arith) (λ z. subst (IsLegal b.instance) (sym r.1) (empty_legal b.instance)) in
-    goes_then F said (
+    let due = due_jobs c (n - p.0) 0 (part, omega arith) (λ z. subst (IsLegal b.instance) (sym r.1) (empty_legal b.instance r.0.head.frozen)) in
+    goes_then s ws said (
       due.0
           ∙ ap (λ m. spelled s ++ plan_line m p.1 ∷ map do_line (jobs_from 0 b.plan)) (let q : n - (length (jobs_from 0 b.plan) + (n - p.0)) ≡ p.0 = omega (arith, is.0) in q)
           ∙ ap (λ js. spelled s ++ plan_line p.0 p.1 ∷ map do_line js) none
@@ -96,92 +78,77 @@ plan_follows b ws said r h = must_then F (refused s ws) said (λ shape g.
     s : Reading
     s = Plans b
 
-    F : Said → Type 0
-    F = Follows s ws
+after_follows : (s : Reading) (ws : Words) (said : Said) (b : Begun) (k from : ℕ) → ((k ≡ 0 → IsLegal b.instance b.plan) → Follows s ws (More (jobs_due b k from)))
+    → after_job b k from said → Follows s ws said
+after_follows s ws said b zero from f h = by_then s ws said (λ legal g. goes_then s ws said (f (λ z. legal)) g) h
+after_follows s ws said b (suc k) from f h = goes_then s ws said (f (λ z. absurd (omega arith))) h
 
-pub job_follows : (b : Draft) (k from : ℕ) (ws : Words) (said : Said) → AreJobs b (suc k) from → job_row b k from ws said → Follows (Jobs b k from) ws said
-job_follows b k from ws said r h = must_then F (refused s ws) said (λ shape g.
-    spells_then F (refused s ws) said (λ p is e g.
-    must_then F (refused s ws) said (λ later g. at p is e later k refl g) g) g) h
+pub job_follows : (b : Begun) (k from : ℕ) (ws : Words) (said : Said) → AreJobs b (suc k) from → job_row b k from ws said → Follows (Jobs b k from) ws said
+job_follows b k from ws said r h = must_then s ws said (λ shape g.
+    spells_then s ws said (λ p is e g.
+    must_then s ws said (λ later g.
+    let c : Begun = record b { plan = slice_set b.plan p.0 (Some p.1) } in
+    let in_plan : p.0 < length b.plan = omega (arith, is.task, r.0.whole) in
+    let jobs : jobs_from 0 c.plan ≡ jobs_from 0 b.plan ++ p ∷ [] =
+    jobs_set 0 b.plan p.0 p.1 (λ i l. r.0.later i (omega arith)) in_plan ∙ ap (λ o. jobs_from 0 b.plan ++ (o, p.1) ∷ []) (let q : 0 + p.0 ≡ p.0 = omega arith in q) in
+    let more : length (jobs_from 0 c.plan) ≡ length (jobs_from 0 b.plan) + 1 = ap length jobs ∙ length-append (jobs_from 0 b.plan) (p ∷ []) in
+    let pool : IsPoolPart c (length c.pool) = record { head = r.0.pool.head; kept = r.0.pool.kept; many = r.0.pool.many; pool = r.0.pool.pool; differ = r.0.pool.differ } in
+    let part : IsPlanPart c (suc p.0) = record {
+      pool = pool;
+      bound = r.0.bound;
+      whole = length-set b.plan p.0 (Some p.1) ∙ r.0.whole;
+      later = λ j l. get_or-set_other b.plan p.0 j (Some p.1) None (λ q. absurd (omega arith)) ∙ r.0.later j (omega arith);
+    } in
+    let unassigned : ℕ = length b.instance.tasks - (length (jobs_from 0 b.plan) + suc k) in
+    let n : length (jobs_from 0 c.plan) + k ≡ length (jobs_from 0 b.plan) + suc k = omega arith in
+    after_follows s ws said c k (suc p.0) (λ legal.
+    let due = due_jobs c k (suc p.0) (part, omega (arith, r.1)) legal in (
+      due.0 ∙ ap (λ m. routes_lines b (length b.pool) ++ plan_line (length b.instance.tasks - m) b.bound ∷ map do_line (jobs_from 0 c.plan)) n
+          ∙ ap (λ js. routes_lines b (length b.pool) ++ plan_line unassigned b.bound ∷ map do_line js) jobs
+          ∙ map_more do_line (routes_lines b (length b.pool)) (plan_line unassigned b.bound) (jobs_from 0 b.plan) p
+          ∙ ap (λ w. spelled s ++ w ∷ []) (sym e),
+      due.1,
+    )) g) g) g) h
   where
     s : Reading
     s = Jobs b k from
 
-    F : Said → Type 0
-    F = Follows s ws
-
-    on : (p : ℕ × Job) (is : IsDoLine b.instance p) → ws ≡ do_line p → from ≤ p.0 → (k ≡ 0 → IsLegal b.instance (slice_set b.plan p.0 (Some p.1)))
-        → F (More (jobs_due (record b { plan = slice_set b.plan p.0 (Some p.1) }) k (suc p.0)))
-    on p is e later legal =
-        let c : Draft = record b { plan = slice_set b.plan p.0 (Some p.1) } in
-        let in_plan : p.0 < length b.plan = omega (arith, is.task, r.0.whole) in
-        let jobs : jobs_from 0 c.plan ≡ jobs_from 0 b.plan ++ p ∷ [] =
-        jobs_set 0 b.plan p.0 p.1 (λ i l. r.0.later i (omega arith)) in_plan ∙ ap (λ o. jobs_from 0 b.plan ++ (o, p.1) ∷ []) (let q : 0 + p.0 ≡ p.0 = omega arith in q) in
-        let more : length (jobs_from 0 c.plan) ≡ length (jobs_from 0 b.plan) + 1 = ap length jobs ∙ length-append (jobs_from 0 b.plan) (p ∷ []) in
-        let pool : IsPoolPart c (length c.pool) = record { head = r.0.pool.head; kept = r.0.pool.kept; many = r.0.pool.many; pool = r.0.pool.pool; differ = r.0.pool.differ } in
-        let part : IsPlanPart c (suc p.0) = record {
-          pool = pool;
-          bound = r.0.bound;
-          whole = length-set b.plan p.0 (Some p.1) ∙ r.0.whole;
-          later = λ j l. get_or-set_other b.plan p.0 j (Some p.1) None (λ q. absurd (omega arith)) ∙ r.0.later j (omega arith);
-        } in
-        let due = due_jobs c k (suc p.0) (part, omega (arith, r.1)) legal in
-        let n : length (jobs_from 0 c.plan) + k ≡ length (jobs_from 0 b.plan) + suc k = omega arith in (
-          due.0 ∙ ap (λ m. routes_lines b (length b.pool) ++ plan_line (length b.instance.tasks - m) b.bound ∷ map do_line (jobs_from 0 c.plan)) n
-              ∙ at_end (routes_lines b (length b.pool)) (plan_line (length b.instance.tasks - (length (jobs_from 0 b.plan) + suc k)) b.bound ∷ map do_line (jobs_from 0 b.plan))
-              (plan_line (length b.instance.tasks - (length (jobs_from 0 b.plan) + suc k)) b.bound ∷ map do_line (jobs_from 0 c.plan)) (do_line p ∷ [])
-              (ap (λ w. plan_line (length b.instance.tasks - (length (jobs_from 0 b.plan) + suc k)) b.bound ∷ w) (ap (map do_line) jobs ∙ map-append do_line (jobs_from 0 b.plan) (p ∷ [])))
-              ∙ ap (λ w. spelled s ++ w ∷ []) (sym e),
-          due.1,
-        )
-
-    at : (p : ℕ × Job) (is : IsDoLine b.instance p) → ws ≡ do_line p → from ≤ p.0 → (left : ℕ) → left ≡ k
-        → after_job (record b { plan = slice_set b.plan p.0 (Some p.1) }) left (suc p.0) said → F said
-    at p is e later zero q g = by_then F (refused s ws) said (λ legal g.
-        goes_then F said (subst (λ n. F (More (jobs_due (record b { plan = slice_set b.plan p.0 (Some p.1) }) n (suc p.0)))) (sym q) (on p is e later (λ z. legal))) g) g
-    at p is e later (suc left) q g =
-        goes_then F said (subst (λ n. F (More (jobs_due (record b { plan = slice_set b.plan p.0 (Some p.1) }) n (suc p.0)))) (sym q) (on p is e later (λ z. absurd (omega arith)))) g
-
 -- ---- what is written
 
-after_holds : (b : Draft) (k from : ℕ) → (k ≡ 0 → IsLegal b.instance b.plan) → after_job b k from (More (jobs_due b k from))
+after_holds : (b : Begun) (k from : ℕ) → (k ≡ 0 → IsLegal b.instance b.plan) → after_job b k from (More (jobs_due b k from))
 after_holds b zero from h = HoldsBy (h refl) (On refl)
 after_holds b (suc k) from h = On refl
 
-no_jobs : (o : ℕ) (q : Plan) → length (jobs_from o q) ≡ 0 → q ≡ copies (length q) None
+no_jobs : (o : ℕ) (q : Plan) → length (jobs_from o q) ≡ 0 → q ≡ empty_plan (length q)
 no_jobs o [] h = refl
 no_jobs o (None ∷ q) h = ap (λ w. None ∷ w) (no_jobs (suc o) q h)
 no_jobs o (Some job ∷ q) h = absurd (omega arith)
 
-set_seam : {A : Type 0} (xs : List A) (y z : A) (ys : List A) → set (xs ++ y ∷ ys) (length xs) z ≡ xs ++ z ∷ ys
-set_seam [] y z ys = refl
-set_seam (x ∷ xs) y z ys = ap (λ w. x ∷ w) (set_seam xs y z ys)
-
 do_fits : (i : Instance) (p : Plan) (j : ℕ) (job : Job) → IsInstance i → IsLegal i p → job_of p j ≡ Some job → j < length p → IsDoLine i (j, job)
 do_fits i p j job w h e l =
-    let fits = h.jobs j job e in
-    let known : j < length i.tasks = omega (arith, h.whole) in
-    let task = w.tasks j no_task known in
+    let fits = h.feasible.jobs j job e in
+    let known : j < length i.tasks = omega (arith, h.feasible.whole) in
+    let task = w.parts.tasks j no_task known in
     record {
       task = known;
-      start = omega (arith, fits.late, task.day);
-      teams = by_recursion (λ k. k < length i.teams) job.teams (λ k d m. fits.known (slice_index_or job.teams k d) (Contains-get_or job.teams k d m));
+      start = omega (arith, fits.window.late, task.window.day);
+      teams = recursion_from_All (λ k. k < length i.teams) job.teams (λ k d m. fits.known (slice_index_or job.teams k d) (Contains-get_or job.teams k d m));
     }
 
-jobs_reached : (b : Draft) → IsInstance b.instance → IsLegal b.instance b.plan → (done q : Plan) (from : ℕ) → b.plan ≡ done ++ q → from ≤ length done
-    → Reaches (jobs_due (record b { plan = done ++ copies (length q) None }) (length (jobs_from (length done) q)) from) (map do_line (jobs_from (length done) q)) (Trees b)
+jobs_reached : (b : Begun) → IsInstance b.instance → IsLegal b.instance b.plan → (done q : Plan) (from : ℕ) → b.plan ≡ done ++ q → from ≤ length done
+    → Reaches (jobs_due (record b { plan = done ++ empty_plan (length q) }) (length (jobs_from (length done) q)) from) (map do_line (jobs_from (length done) q)) (Trees b)
 jobs_reached b w legal done [] from e l = ap (λ p. Trees (record b { plan = p })) (sym e)
 jobs_reached b w legal done (None ∷ q) from e l =
     let n : length (done ++ None ∷ []) ≡ suc (length done) = omega (arith, length-append done (None ∷ [])) in
     let a = jobs_reached b w legal (done ++ None ∷ []) q from (e ∙ sym (append_assoc done (None ∷ []) q)) (omega arith) in
-    subst (λ m. Reaches (jobs_due (record b { plan = done ++ None ∷ copies (length q) None }) (length (jobs_from m q)) from) (map do_line (jobs_from m q)) (Trees b)) n
+    subst (λ m. Reaches (jobs_due (record b { plan = done ++ None ∷ empty_plan (length q) }) (length (jobs_from m q)) from) (map do_line (jobs_from m q)) (Trees b)) n
     (subst (λ p. Reaches (jobs_due (record b { plan = p }) (length (jobs_from (length (done ++ None ∷ [])) q)) from) (map do_line (jobs_from (length (done ++ None ∷ [])) q)) (Trees b))
-    (append_assoc done (None ∷ []) (copies (length q) None)) a)
+    (append_assoc done (None ∷ []) (empty_plan (length q))) a)
 jobs_reached b w legal done (Some job ∷ q) from e l =
     let n : length (done ++ Some job ∷ []) ≡ suc (length done) = omega (arith, length-append done (Some job ∷ [])) in
     let k : ℕ = length (jobs_from (suc (length done)) q) in
-    let c : Draft = record b { plan = set (done ++ None ∷ copies (length q) None) (length done) (Some job) } in
-    let placed : c.plan ≡ done ++ Some job ∷ copies (length q) None = set_seam done None (Some job) (copies (length q) None) in
+    let c : Begun = record b { plan = set (done ++ None ∷ empty_plan (length q)) (length done) (Some job) } in
+    let placed : c.plan ≡ done ++ Some job ∷ empty_plan (length q) = set-append_seam done None (empty_plan (length q)) (Some job) in
     let here : job_of b.plan (length done) ≡ Some job = ap (λ p. job_of p (length done)) e ∙ get_or-append_seam done (Some job) q None in
     let in_plan : length done < length b.plan = omega (arith, ap length e, length-append done (Some job ∷ q)) in
     let last : k ≡ 0 → IsLegal b.instance c.plan = λ (z : k ≡ 0). subst (IsLegal b.instance) (e ∙ ap (λ w. done ++ Some job ∷ w) (no_jobs (suc (length done)) q z) ∙ sym placed) legal in
@@ -190,22 +157,22 @@ jobs_reached b w legal done (Some job ∷ q) from e l =
       Holds (_, refl, omega arith) (Spelled (length done, job) (do_fits b.instance b.plan (length done) job w legal here in_plan) refl
           (Holds l (after_holds c k (suc (length done)) last))),
       subst (λ p. Reaches (jobs_due (record b { plan = p }) k (suc (length done))) (map do_line (jobs_from (suc (length done)) q)) (Trees b)) (sym placed)
-          (subst (λ m. Reaches (jobs_due (record b { plan = done ++ Some job ∷ copies (length q) None }) (length (jobs_from m q)) (suc (length done))) (map do_line (jobs_from m q)) (Trees b)) n
+          (subst (λ m. Reaches (jobs_due (record b { plan = done ++ Some job ∷ empty_plan (length q) }) (length (jobs_from m q)) (suc (length done))) (map do_line (jobs_from m q)) (Trees b)) n
           (subst (λ p. Reaches (jobs_due (record b { plan = p }) (length (jobs_from (length (done ++ Some job ∷ [])) q)) (suc (length done))) (map do_line (jobs_from (length (done ++ Some job ∷ [])) q)) (Trees b))
-          (append_assoc done (Some job ∷ []) (copies (length q) None)) a)),
+          (append_assoc done (Some job ∷ []) (empty_plan (length q))) a)),
     )
 
 -- from the line `plan` on
-pub plan_reached : (b : Draft) → IsInstance b.instance → IsLegal b.instance b.plan → b.bound ≤ length b.instance.tasks
-    → Reaches (Plans (record b { plan = copies (length b.instance.tasks) None; bound = 0 })) (plan_lines b.plan b.bound) (Trees b)
+pub plan_reached : (b : Begun) → IsInstance b.instance → IsLegal b.instance b.plan → b.bound ≤ length b.instance.tasks
+    → Reaches (Plans (record b { plan = empty_plan (length b.instance.tasks); bound = 0 })) (plan_lines b.plan b.bound) (Trees b)
 plan_reached b w legal le =
     let n : ℕ = length b.instance.tasks in
     let a = jobs_count 0 b.plan in
-    let few : unassigned_count b.plan ≤ n = omega (arith, legal.whole) in
-    let left : n - unassigned_count b.plan ≡ length (jobs_from 0 b.plan) = omega (arith, legal.whole) in (
-      jobs_due (record b { plan = copies n None }) (n - unassigned_count b.plan) 0,
+    let few : unassigned_count b.plan ≤ n = omega (arith, legal.feasible.whole) in
+    let left : n - unassigned_count b.plan ≡ length (jobs_from 0 b.plan) = omega (arith, legal.feasible.whole) in (
+      jobs_due (record b { plan = empty_plan n }) (n - unassigned_count b.plan) 0,
       Holds (_, refl, refl) (Spelled (unassigned_count b.plan, b.bound) (few, le) refl (On refl)),
-      subst (λ k. Reaches (jobs_due (record b { plan = copies n None }) k 0) (map do_line (jobs_from 0 b.plan)) (Trees b)) (sym left)
-          (subst (λ m. Reaches (jobs_due (record b { plan = copies m None }) (length (jobs_from 0 b.plan)) 0) (map do_line (jobs_from 0 b.plan)) (Trees b)) legal.whole
+      subst (λ k. Reaches (jobs_due (record b { plan = empty_plan n }) k 0) (map do_line (jobs_from 0 b.plan)) (Trees b)) (sym left)
+          (subst (λ m. Reaches (jobs_due (record b { plan = empty_plan m }) (length (jobs_from 0 b.plan)) 0) (map do_line (jobs_from 0 b.plan)) (Trees b)) legal.feasible.whole
           (jobs_reached b w legal [] b.plan 0 refl (omega arith))),
     )

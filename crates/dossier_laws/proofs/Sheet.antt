@@ -6,23 +6,28 @@ use Rattle.std.proofs.lemmas.List.Sums.{AllPass-from_list_all}
 use Rattle.std.proofs.lemmas.Nat.Bits.{bit_at-pow_other}
 use Rattle.std.proofs.lemmas.Bool.{cases_eq}
 use Rattle.crew_terms.specs.Name.{IsName, name_byte}
-use Rattle.crew_terms.specs.Instance.{IsInstance, IsTeam, IsTask, IsQualified, IsInShift}
-use Rattle.crew_terms.specs.Plan.{Job, IsLegal, IsJob, job_of, Does}
+use Rattle.crew_terms.specs.Instance.{IsQualified}
+use Rattle.crew_terms.specs.Rules.{IsInstance, IsTeam, IsTask}
+use Rattle.crew_terms.specs.Plan.{Job, job_of, Does}
+use Rattle.crew_terms.specs.Legal.{IsLegal, IsJob, IsFit}
 use Rattle.crew_terms.specs.declared.Team.{Team}
 use Rattle.crew_terms.specs.declared.Task.{Task}
-use Rattle.dossier_terms.specs.Dossier.{IsGood, Route}
+use Rattle.crew_terms.specs.declared.TheConstants.{LAST_MINUTE}
+use Rattle.dossier_terms.specs.Dossier.{IsGood}
+use Rattle.crew_terms.specs.Limits.{Route}
 use Rattle.dossier_terms.specs.Lines.{lines_of}
 use Rattle.dossier_laws.specs.Sheet.{sheet, sheet_instance, sheet_plan, sheet_lines}
-use Rattle.dossier_laws.proofs.Lists.{from_recursion}
+use Rattle.std.proofs.lemmas.List.Elements.{All-from_recursion}
+use Rattle.dossier_laws.proofs.Empty.{job_none, empty_feasible}
 
 pub sheet_spelled : lines_of sheet ≡ sheet_lines
 sheet_spelled = refl
 
 one : {A : Type 0} (P : A → Type 0) (x : A) → P x → All P (x ∷ [])
-one P x h = from_recursion P (x ∷ []) (h, tt)
+one P x h = All-from_recursion P (x ∷ []) (h, tt)
 
 two : {A : Type 0} (P : A → Type 0) (x y : A) → P x → P y → All P (x ∷ y ∷ [])
-two P x y h k = from_recursion P (x ∷ y ∷ []) (h, (k, tt))
+two P x y h k = All-from_recursion P (x ∷ y ∷ []) (h, (k, tt))
 
 pairs_none : {A : Type 0} (R : A → A → Type 0) → AllPairs R []
 pairs_none R i j d a l = absurd (omega arith)
@@ -53,20 +58,26 @@ second = record { some = omega arith; short = omega arith; spelled = AllPass-fro
 
 is_instance : IsInstance sheet_instance
 is_instance = record {
-  few_places = omega arith;
-  few_teams = omega arith;
-  few_tasks = omega arith;
-  places = two IsName (codes "BASE") (codes "G1") base gate;
-  teams = one (IsTeam 2) _ (record { name = team; home = omega arith; shift = omega arith; day = omega arith; skills = omega arith });
-  tasks = two (IsTask 2) _ _
-      (record { name = first; place = omega arith; order = omega arith; width = omega arith; day = omega arith; some_minutes = omega arith; minutes = omega arith; some_teams = omega arith; teams = omega arith; skills = omega arith })
-      (record { name = second; place = omega arith; order = omega arith; width = omega arith; day = omega arith; some_minutes = omega arith; minutes = omega arith; some_teams = omega arith; teams = omega arith; skills = omega arith });
-  rows = refl;
-  columns = two (λ row. length row ≡ 2) (0 ∷ 7 ∷ []) (8 ∷ 0 ∷ []) refl refl;
-  minutes = two (All (λ t. t ≤ 2880)) (0 ∷ 7 ∷ []) (8 ∷ 0 ∷ []) (two (λ t. t ≤ 2880) 0 7 (omega arith) (omega arith)) (two (λ t. t ≤ 2880) 8 0 (omega arith) (omega arith));
-  place_names = pairs_two (λ a b. a ≢ b) (codes "BASE") (codes "G1") (λ e. let a : 4 ≡ 2 = ap length e in omega arith);
-  team_names = pairs_one (λ (a b : Team). a.name ≢ b.name) _;
-  task_names = pairs_two (λ (a b : Task). a.name ≢ b.name) _ _ (λ e. let a : 49 ≡ 50 = ap (λ w. slice_index_or w 1 0) e in omega arith);
+  parts = record {
+    few_places = omega arith;
+    few_teams = omega arith;
+    few_tasks = omega arith;
+    places = two IsName (codes "BASE") (codes "G1") base gate;
+    teams = one (IsTeam 2) _ (record { name = team; home = omega arith; shift = record { order = omega arith; day = omega arith }; skills = omega arith });
+    tasks = two (IsTask 2) _ _
+        (record { name = first; place = omega arith; window = record { order = omega arith; width = omega arith; day = omega arith; some_minutes = omega arith; minutes = omega arith }; teams = record { some = omega arith; few = omega arith }; skills = omega arith })
+        (record { name = second; place = omega arith; window = record { order = omega arith; width = omega arith; day = omega arith; some_minutes = omega arith; minutes = omega arith }; teams = record { some = omega arith; few = omega arith }; skills = omega arith });
+    place_names = pairs_two (λ a b. a ≢ b) (codes "BASE") (codes "G1") (λ e. let a : 4 ≡ 2 = ap length e in omega arith);
+    team_names = pairs_one (λ (a b : Team). a.name ≢ b.name) _;
+    task_names = pairs_two (λ (a b : Task). a.name ≢ b.name) _ _ (λ e. let a : 49 ≡ 50 = ap (λ w. slice_index_or w 1 0) e in omega arith);
+  };
+  times = record {
+    rows = refl;
+    columns = two (λ row. length row ≡ 2) (0 ∷ 7 ∷ []) (8 ∷ 0 ∷ []) refl refl;
+    minutes = two (All (λ t. t ≤ LAST_MINUTE)) (0 ∷ 7 ∷ []) (8 ∷ 0 ∷ [])
+        (two (λ t. t ≤ LAST_MINUTE) 0 7 (omega arith) (omega arith)) (two (λ t. t ≤ LAST_MINUTE) 8 0 (omega arith) (omega arith));
+  };
+  frozen = empty_feasible sheet_instance;
 }
 
 -- ---- the plan
@@ -95,26 +106,27 @@ qualified s h = elim (cases_eq s 2) [
 
 is_job : IsJob sheet_instance 0 the_job
 is_job = record {
-  early = omega arith;
-  late = omega arith;
-  rising = λ k l. absurd (omega arith);
-  count = refl;
+  window = record { early = omega arith; late = omega arith };
+  list = record { rising = λ k l. absurd (omega arith); count = refl };
   known = λ k c. let e = only_team k c in omega arith;
-  qualified = λ k c. subst (λ k. IsQualified sheet_instance k 0) (sym (only_team k c)) qualified;
-  in_shift = λ k c. subst (λ k. IsInShift sheet_instance k 0 405) (sym (only_team k c)) (record { comes = omega arith; returns = omega arith });
+  fit = λ k c. subst (IsFit sheet_instance 0 405) (sym (only_team k c)) (record { qualified = qualified; in_shift = record { comes = omega arith; returns = omega arith } });
 }
 
 is_legal : IsLegal sheet_instance sheet_plan
 is_legal = record {
-  whole = refl;
-  jobs = λ j job e. let a = only_job j job e in subst (λ j. IsJob sheet_instance j job) (sym a.0) (subst (λ job. IsJob sheet_instance 0 job) (sym a.1) is_job);
-  apart = λ k j h t u d e other. let a = does_so k j t d in let b = does_so k h u e in absurd (other (a.0 ∙ sym b.0));
-  follow = λ k j h t u d e l. let a = does_so k j t d in let b = does_so k h u e in absurd (omega arith);
+  feasible = record {
+    whole = refl;
+    jobs = λ j job e. let a = only_job j job e in subst (λ j. IsJob sheet_instance j job) (sym a.0) (subst (λ job. IsJob sheet_instance 0 job) (sym a.1) is_job);
+    apart = λ k j h t u d e other. let a = does_so k j t d in let b = does_so k h u e in absurd (other (a.0 ∙ sym b.0));
+    follow = λ k j h t u d e l. let a = does_so k j t d in let b = does_so k h u e in absurd (omega arith);
+  };
+  frozen = λ j job e. absurd (let a = job_none 2 j in cc);
 }
 
 pub sheet_good : IsGood sheet
 sheet_good = record {
   instance = is_instance;
+  frozen = refl;
   budget = omega arith;
   kept = omega arith;
   pool_length = omega arith;

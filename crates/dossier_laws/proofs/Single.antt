@@ -1,5 +1,5 @@
 -- one thing is said of a line
-use Rattle.std.proofs.Common.{◌≡◌, ◌<◌, ◌≤◌, ℕ, zero, suc, ℤ, List, [], ◌∷◌, ◌++◌, length, ap, sym, refl, ◌∙◌, subst, arith, ◌⊎◌, inl, inr}
+use Rattle.std.proofs.Common.{◌≡◌, ◌<◌, ◌≤◌, ℕ, zero, suc, ℤ, List, [], ◌∷◌, ◌++◌, length, ap, sym, ◌∙◌, subst, arith, ◌⊎◌, inl, inr}
 use Rattle.std.proofs.lemmas.Bool.{cases_lt}
 use Rattle.crew_terms.specs.Instance.{Instance}
 use Rattle.crew_terms.specs.Plan.{Plan}
@@ -8,9 +8,8 @@ use Rattle.crew_terms.specs.declared.PlanVerdict.{PlanVerdict}
 use Rattle.dossier_terms.specs.declared.Reason.{Reason}
 use Rattle.dossier_terms.specs.declared.Reason.TheVariants.{Plan as BadPlan}
 use Rattle.dossier_terms.specs.Dossier.{Dossier, Leaf, Potentials}
-use Rattle.crew_terms.specs.Limits.{root_limits, tasks_in, teams_in}
 use Rattle.crew_terms.specs.Words.{Words}
-use Rattle.dossier_terms.specs.Reading.{Reading, Said, No, Draft, Frame, Lower, Upper, Without, With, limits_below, Place, Form, Sizes, Places, Travels, Teams, Tasks, Pools, Routes, Plans, Jobs, Trees, Nodes, Prices, Extras, Worths, Phis, Ends}
+use Rattle.dossier_terms.specs.Reading.{Reading, Said, No, Form, Sizes, Places, Travels, Teams, Tasks, Pools, Routes, Plans, Jobs, Trees, Nodes, Prices, Extras, Worths, Phis, Ends, Begun, LeafSite}
 use Rattle.dossier_terms.specs.Rules.{Must, Holds, Fails, MustEach, HoldsOfAll, FailsAt, MustBy, HoldsBy, FailsBy, When, Then, Else, Spells, Spelled, Unspelled, Goes, On}
 use Rattle.dossier_terms.specs.Table.{Says, Finishes, Finish, BreaksPlan, after_job, after_table, after_phi, after_extra}
 use Rattle.dossier_laws.proofs.SoFar.{IsReading}
@@ -72,37 +71,24 @@ HaveOneVerdict = (i : Instance) (p : Plan) (v w : PlanVerdict) → IsVerdict i p
 one_reason : HaveOneVerdict → (i : Instance) (p : Plan) (r q : Reason) → BreaksPlan i p r → BreaksPlan i p q → r ≡ q
 one_reason verdicts i p r q h k = h.2 ∙ ap BadPlan (verdicts i p h.0 k.0 h.1 k.1) ∙ sym k.2
 
-job_one : HaveOneVerdict → (b : Draft) (k from : ℕ) → Single (after_job b k from)
+job_one : HaveOneVerdict → (b : Begun) (k from : ℕ) → Single (after_job b k from)
 job_one verdicts b zero from = by_one (one_reason verdicts b.instance b.plan) goes_one
 job_one verdicts b (suc k) from = goes_one
 
-table_one : (a : Place) (leaf : Leaf) (left : ℕ) → Single (after_table a leaf left)
+table_one : (a : LeafSite) (leaf : Leaf) (left : ℕ) → Single (after_table a leaf left)
 table_one a leaf zero = must_one (must_one goes_one)
 table_one a leaf (suc left) = goes_one
 
-phi_one : (a : Place) (prices : List ℤ) (extras : List (List ℤ)) (tables : List Potentials) (left : ℕ) (worth : ℤ) (rows : List (List ℤ)) (keys : List ℕ) → Single (after_phi a prices extras tables left worth rows keys)
+phi_one : (a : LeafSite) (prices : List ℤ) (extras : List (List ℤ)) (tables : List Potentials) (left : ℕ) (worth : ℤ) (rows : List (List ℤ)) (keys : List ℕ) → Single (after_phi a prices extras tables left worth rows keys)
 phi_one a prices extras tables left worth rows [] = each_one (must_one (table_one a (record { prices = prices; extras = extras; tables = tables ++ record { worth = worth; phi = rows } ∷ [] }) left))
 phi_one a prices extras tables left worth rows (j ∷ js) = goes_one
 
-extra_one : (a : Place) (prices : List ℤ) (rows : List (List ℤ)) (keys : List ℕ) → Single (after_extra a prices rows keys)
+extra_one : (a : LeafSite) (prices : List ℤ) (rows : List (List ℤ)) (keys : List ℕ) → Single (after_extra a prices rows keys)
 extra_one a prices rows [] = table_one a (record { prices = prices; extras = rows; tables = [] }) _
 extra_one a prices rows (j ∷ js) = goes_one
 
 tail_is : {A : Type 0} (x y : A) (xs ys : List A) → x ∷ xs ≡ y ∷ ys → xs ≡ ys
 tail_is x y xs ys e = cc
-
-same_instance : (b : Draft) (fs : List Frame) → (limits_below (root_limits b.instance) fs).instance ≡ b.instance
-same_instance b [] = refl
-same_instance b (Lower j cut ∷ fs) = same_instance b fs
-same_instance b (Upper j cut low ∷ fs) = same_instance b fs
-same_instance b (Without k j ∷ fs) = same_instance b fs
-same_instance b (With k j low ∷ fs) = same_instance b fs
-
-few_tasks_below : (b : Draft) (fs : List Frame) → length b.instance.tasks ≤ 400 → tasks_in (limits_below (root_limits b.instance) fs) ≤ 400
-few_tasks_below b fs h = subst (λ (i : Instance). length i.tasks ≤ 400) (sym (same_instance b fs)) h
-
-few_teams_below : (b : Draft) (fs : List Frame) → length b.instance.teams ≤ 64 → teams_in (limits_below (root_limits b.instance) fs) ≤ 64
-few_teams_below b fs h = subst (λ (i : Instance). length i.teams ≤ 64) (sym (same_instance b fs)) h
 
 pub says_one : HaveOneVerdict → (s : Reading) (ws : Words) → IsReading s → Single (Says s ws)
 says_one verdicts Form ws r = must_one goes_one
@@ -112,14 +98,14 @@ says_one verdicts (Travels z k i) ws r = must_one (spells_one (travel_one z.plac
 says_one verdicts (Teams z k i) ws r = must_one (must_one (spells_one (team_one z.places r.2.size.places) (λ x h. must_one (must_one goes_one))))
 says_one verdicts (Tasks z k i) ws r = must_one (must_one (spells_one (task_one z.places r.2.size.places) (λ x h. must_one (must_one goes_one))))
 says_one verdicts (Pools i budget) ws r = must_one (spells_one pool_one (λ x h. must_one goes_one))
-says_one verdicts (Routes b k) ws r = must_one (spells_one (route_one b.instance r.0.head.instance.few_teams r.0.head.instance.few_tasks) (λ x h. must_one (must_one goes_one)))
-says_one verdicts (Plans b) ws r = must_one (spells_one (plan_one (length b.instance.tasks) r.0.head.instance.few_tasks) (λ x h. goes_one))
-says_one verdicts (Jobs b k from) ws r = must_one (spells_one (do_one b.instance r.0.pool.head.instance.few_teams r.0.pool.head.instance.few_tasks) (λ x h. must_one (job_one verdicts _ k _)))
+says_one verdicts (Routes b k) ws r = must_one (spells_one (route_one b.instance r.0.head.instance.parts.few_teams r.0.head.instance.parts.few_tasks) (λ x h. must_one (must_one goes_one)))
+says_one verdicts (Plans b) ws r = must_one (spells_one (plan_one (length b.instance.tasks) r.0.head.instance.parts.few_tasks) (λ x h. goes_one))
+says_one verdicts (Jobs b k from) ws r = must_one (spells_one (do_one b.instance r.0.pool.head.instance.parts.few_teams r.0.pool.head.instance.parts.few_tasks) (λ x h. must_one (job_one verdicts _ k _)))
 says_one verdicts (Trees b) ws r = must_one (spells_one tree_one (λ x h. must_one (must_one (must_one goes_one))))
-says_one verdicts (Nodes b c fs) ws r =
-    let i = r.0.planned.pool.head.instance in
-    when_one (must_one (spells_one (window_one _ (few_tasks_below b fs i.few_tasks)) (λ x h. must_one (must_one goes_one))))
-    (when_one (must_one (spells_one (node_pair_one _ _ (few_teams_below b fs i.few_teams) (few_tasks_below b fs i.few_tasks)) (λ x h. must_one (must_one goes_one))))
+says_one verdicts (Nodes b c above) ws r =
+    let parts = r.0.planned.pool.head.instance.parts in
+    when_one (must_one (spells_one (window_one (length b.instance.tasks) parts.few_tasks) (λ x h. must_one (must_one goes_one))))
+    (when_one (must_one (spells_one (node_pair_one (length b.instance.teams) (length b.instance.tasks) parts.few_teams parts.few_tasks) (λ x h. must_one (must_one goes_one))))
     (must_one (when_one (must_one (must_one goes_one)) (when_one (must_one goes_one) (must_one (must_one goes_one))))))
 says_one verdicts (Prices a) ws r = must_one (spells_one (λ x y h k e. prices_one _ x y h k (tail_is _ _ _ _ e)) (λ x h. extra_one a x [] _))
 says_one verdicts (Extras a prices rows j js) ws r = must_one (spells_one (λ x y h k e. prices_one _ x y h k (tail_is _ _ _ _ (tail_is _ _ _ _ e))) (λ x h. extra_one a prices _ js))

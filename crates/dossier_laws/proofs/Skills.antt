@@ -2,26 +2,35 @@
 use Rattle.std.proofs.Common.{◌≡◌, ◌<◌, ◌≤◌, ◌+◌, ◌-◌, ◌*◌, ◌/◌, ◌%◌, ◌^◌, ℕ, zero, suc, List, [], ◌∷◌, ◌++◌, ap, sym, refl, ◌∙◌, subst, arith, Bool, true, false, cond, ◌⊎◌, inl, inr}
 use Rattle.std.specs.Prelude.{filter, ◌==◌, All}
 use Rattle.std.specs.Int.{bit_at}
-use Rattle.std.specs.List.{AllByRecursion}
+use Rattle.std.specs.List.{AllByRecursion, range_with_len}
 use Rattle.std.specs.List.Sorted.{IsStrictlyIncreasing}
 use Rattle.std.proofs.Math.Nat.{pow-suc, mod-eq_of_lt, mul-div_cancel, pow-le-pow_right}
 use Rattle.std.proofs.lemmas.Nat.{mod-pow-add, pow-add, pow_pos}
-use Rattle.std.proofs.lemmas.Nat.Bits.{bit_at-lt}
-use Rattle.std.proofs.lemmas.Bool.{cases_lt, eqb-true}
-use Rattle.std.proofs.lemmas.List.Elements.{filter-append}
-use Rattle.std.proofs.lemmas.List.Kept.{IsStrictlyIncreasing-filter}
-use Rattle.dossier_terms.specs.Dossier.{below, skills_of, mask_of}
-use Rattle.dossier_laws.proofs.Lists.{tail_rises, rec-filter, below_less, from_recursion}
-use Rattle.dossier_laws.proofs.Kept.{below_rises}
+use Rattle.std.proofs.lemmas.Nat.Bits.{bit_at-lt, bit_at_above}
+use Rattle.std.proofs.lemmas.Bool.{cases_lt, eqb-true, eq-eqb}
+use Rattle.std.proofs.lemmas.List.Elements.{filter-append, recursion_from_All}
+use Rattle.crew_terms.specs.Minutes.{IsListOf}
+use Rattle.crew_terms.specs.declared.TheConstants.{SKILLS}
+use Rattle.dossier_terms.specs.Dossier.{skills_of, mask_of}
+use Rattle.dossier_laws.proofs.Below.{range_more, kept_less, kept_rises, list_of}
+use Rattle.dossier_laws.proofs.Lists.{tail_rises}
 
-pub skills_in : (mask : ℕ) → AllByRecursion (λ s. s < 64) (skills_of mask)
-skills_in mask = rec-filter (λ s. s < 64) (λ s. bit_at mask s == 1) (below 64) (below_less 64)
+pub skills_known : (mask : ℕ) → All (λ s. s < SKILLS) (skills_of mask)
+skills_known mask = kept_less (λ s. bit_at mask s == 1) SKILLS
 
-pub skills_known : (mask : ℕ) → All (λ s. s < 64) (skills_of mask)
-skills_known mask = from_recursion (λ s. s < 64) (skills_of mask) (skills_in mask)
+pub skills_in : (mask : ℕ) → AllByRecursion (λ s. s < SKILLS) (skills_of mask)
+skills_in mask = recursion_from_All (λ s. s < SKILLS) (skills_of mask) (skills_known mask)
 
 pub skills_rise : (mask : ℕ) → IsStrictlyIncreasing (skills_of mask)
-skills_rise mask = IsStrictlyIncreasing-filter (λ s. bit_at mask s == 1) (below 64) (below_rises 64)
+skills_rise mask = kept_rises (λ s. bit_at mask s == 1) SKILLS
+
+pub skills_listed : (mask : ℕ) → mask < 2 ^ SKILLS → IsListOf (λ s. bit_at mask s ≡ 1) (skills_of mask)
+skills_listed mask l = list_of (λ s. bit_at mask s ≡ 1) (λ s. bit_at mask s == 1) SKILLS
+    (λ s m e. eqb-true (bit_at mask s) 1 e) (λ s h. (known s h (cases_lt s SKILLS), eq-eqb (bit_at mask s) 1 h))
+  where
+    known : (s : ℕ) → bit_at mask s ≡ 1 → (s < SKILLS) ⊎ (SKILLS ≤ s) → s < SKILLS
+    known s h (inl m) = m
+    known s h (inr m) = absurd (let a : bit_at mask s ≡ 0 = bit_at_above mask SKILLS s l m in omega arith)
 
 -- ---- a set is that of its list
 
@@ -42,11 +51,11 @@ one_bit mask n = at (bit_at mask n == 1) refl
         ] in
         omega (arith, ap (λ m. m * 2 ^ n) a)
 
-mask_to : (mask n : ℕ) → mask_of (filter (λ s. bit_at mask s == 1) (below n)) ≡ mask % 2 ^ n
+mask_to : (mask n : ℕ) → mask_of (filter (λ s. bit_at mask s == 1) (range_with_len 0 n)) ≡ mask % 2 ^ n
 mask_to mask zero = omega arith
 mask_to mask (suc n) =
     let p : ℕ → Bool = λ s. bit_at mask s == 1 in
-    let a = ap mask_of (filter-append p (below n) (n ∷ [])) ∙ mask-append (filter p (below n)) (filter p (n ∷ [])) in
+    let a = ap (λ ss. mask_of (filter p ss)) (range_more n) ∙ ap mask_of (filter-append p (range_with_len 0 n) (n ∷ [])) ∙ mask-append (filter p (range_with_len 0 n)) (filter p (n ∷ [])) in
     let b = mask_to mask n in
     let c = one_bit mask n in
     let d : mask % 2 ^ (1 + n) ≡ (mask / 2 ^ n % 2 ^ 1) * 2 ^ n + mask % 2 ^ n = mod-pow-add mask 1 n in
@@ -54,8 +63,8 @@ mask_to mask (suc n) =
     let f : mask % 2 ^ suc n ≡ bit_at mask n * 2 ^ n + mask % 2 ^ n = subst (λ m. mask % 2 ^ m ≡ bit_at mask n * 2 ^ n + mask % 2 ^ n) e d in
     omega arith
 
-pub mask_again : (mask : ℕ) → mask < 2 ^ 64 → mask_of (skills_of mask) ≡ mask
-mask_again mask l = mask_to mask 64 ∙ mod-eq_of_lt l
+pub mask_again : (mask : ℕ) → mask < 2 ^ SKILLS → mask_of (skills_of mask) ≡ mask
+mask_again mask l = mask_to mask SKILLS ∙ mod-eq_of_lt l
 
 -- ---- a rising list is that of its set
 
@@ -113,8 +122,8 @@ small_from n a (x ∷ xs) l h k =
     let p : 2 ^ a ≤ 2 ^ x = pow-le-pow_right (let two : 0 < 2 = omega arith in two) h.0 in
     omega (arith, r, p, pow-suc 2 x)
 
-pub mask_small : (xs : List ℕ) → IsStrictlyIncreasing xs → AllByRecursion (λ s. s < 64) xs → mask_of xs < 2 ^ 64
-mask_small xs h k = let a = small_from 64 0 xs (omega arith) (rises xs h) k in omega arith
+pub mask_small : (xs : List ℕ) → IsStrictlyIncreasing xs → AllByRecursion (λ s. s < SKILLS) xs → mask_of xs < 2 ^ SKILLS
+mask_small xs h k = let a = small_from SKILLS 0 xs (omega arith) (rises xs h) k in omega arith
 
-pub skills_again : (xs : List ℕ) → IsStrictlyIncreasing xs → AllByRecursion (λ s. s < 64) xs → skills_of (mask_of xs) ≡ xs
+pub skills_again : (xs : List ℕ) → IsStrictlyIncreasing xs → AllByRecursion (λ s. s < SKILLS) xs → skills_of (mask_of xs) ≡ xs
 skills_again xs h k = same_mask 0 0 (skills_of (mask_of xs)) xs (rises (skills_of (mask_of xs)) (skills_rise (mask_of xs))) (rises xs h) (mask_again (mask_of xs) (mask_small xs h k))

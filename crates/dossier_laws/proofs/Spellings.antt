@@ -13,13 +13,15 @@ use Rattle.crew_terms.specs.Instance.{Instance}
 use Rattle.crew_terms.specs.declared.Team.{Team}
 use Rattle.crew_terms.specs.declared.Task.{Task}
 use Rattle.crew_terms.specs.declared.Visit.{Visit}
+use Rattle.crew_terms.specs.declared.TheConstants.{LAST_MINUTE, MOST_PLACES, MOST_TASKS, MOST_TEAMS, SKILLS}
 use Rattle.dossier_terms.specs.declared.Size.{Size}
-use Rattle.dossier_terms.specs.Dossier.{Route, IsWorthNumber, IsSigned}
+use Rattle.dossier_terms.specs.Dossier.{IsWorthNumber, IsSigned}
+use Rattle.crew_terms.specs.Limits.{Route}
 use Rattle.crew_terms.specs.Leaf.{IsPrice}
 use Rattle.dossier_terms.specs.Lines.{size_line, place_line, travel_line, team_words, task_words, pool_line, route_line, visit_words, plan_line, do_line, tree_line, window_line, pair_line, worth_line}
-use Rattle.dossier_terms.specs.Reading.{Counts}
+use Rattle.crew_terms.specs.declared.TreeCounts.{TreeCounts}
 use Rattle.dossier_terms.specs.Table.{IsSize, IsTravel, IsTeamLine, IsTaskLine, IsRouteLine, IsDoLine, IsCounts, AreNumbers}
-use Rattle.dossier_laws.proofs.Lists.{by_recursion}
+use Rattle.std.proofs.lemmas.List.Elements.{recursion_from_All}
 
 -- ---- numbers
 
@@ -89,15 +91,15 @@ below_one : (most : ℕ) → most < 18446744073709551616 → (m n : ℕ) → m <
 below_one most l m n a b e = dec m n (omega arith) (omega arith) e
 
 pub travel_one : (places : ℕ) (x y : List ℕ) → IsTravel places x → IsTravel places y → travel_line x ≡ travel_line y → x ≡ y
-travel_one places x y a b e = map_one decimal (λ t. t ≤ 2880) (small_one 2880 (omega arith)) x y (by_recursion (λ t. t ≤ 2880) x a.minutes) (by_recursion (λ t. t ≤ 2880) y b.minutes) cc
+travel_one places x y a b e = map_one decimal (λ t. t ≤ LAST_MINUTE) (small_one LAST_MINUTE (omega arith)) x y (recursion_from_All (λ t. t ≤ LAST_MINUTE) x a.minutes) (recursion_from_All (λ t. t ≤ LAST_MINUTE) y b.minutes) cc
 
-pub team_one : (places : ℕ) → places ≤ 200 → (x y : Team × List ℕ) → IsTeamLine places x → IsTeamLine places y → team_words x ≡ team_words y → x ≡ y
+pub team_one : (places : ℕ) → places ≤ MOST_PLACES → (x y : Team × List ℕ) → IsTeamLine places x → IsTeamLine places y → team_words x ≡ team_words y → x ≡ y
 team_one places few x y a b e =
     let p = dec x.0.home y.0.home (omega (arith, a.home)) (omega (arith, b.home)) cc in
     let q = dec x.0.from y.0.from (omega (arith, a.from)) (omega (arith, b.from)) cc in
     let r = dec x.0.until y.0.until (omega (arith, a.until)) (omega (arith, b.until)) cc in
     let m : map decimal x.1 ≡ map decimal y.1 = cc in
-    let s = map_one decimal (λ s. s < 64) (below_one 64 (omega arith)) x.1 y.1 a.skills b.skills m in
+    let s = map_one decimal (λ s. s < SKILLS) (below_one SKILLS (omega arith)) x.1 y.1 a.skills b.skills m in
     let n : x.0.name ≡ y.0.name = cc in
     let k : x.0.skills ≡ y.0.skills = a.none ∙ sym b.none in
     ap (λ (w : List ℕ). (record x.0 { name = w }, x.1)) n
@@ -107,7 +109,7 @@ team_one places few x y a b e =
     ∙ ap (λ (w : ℕ). (record y.0 { skills = w }, x.1)) k
     ∙ ap (λ (w : List ℕ). (y.0, w)) s
 
-pub task_one : (places : ℕ) → places ≤ 200 → (x y : Task × List ℕ) → IsTaskLine places x → IsTaskLine places y → task_words x ≡ task_words y → x ≡ y
+pub task_one : (places : ℕ) → places ≤ MOST_PLACES → (x y : Task × List ℕ) → IsTaskLine places x → IsTaskLine places y → task_words x ≡ task_words y → x ≡ y
 task_one places few x y a b e =
     let p = dec x.0.place y.0.place (omega (arith, a.place)) (omega (arith, b.place)) cc in
     let q = dec x.0.earliest y.0.earliest (omega (arith, a.earliest)) (omega (arith, b.earliest)) cc in
@@ -115,7 +117,7 @@ task_one places few x y a b e =
     let u = dec x.0.minutes y.0.minutes (omega (arith, a.minutes)) (omega (arith, b.minutes)) cc in
     let v = dec x.0.teams y.0.teams (omega (arith, a.teams)) (omega (arith, b.teams)) cc in
     let m : map decimal x.1 ≡ map decimal y.1 = cc in
-    let s = map_one decimal (λ s. s < 64) (below_one 64 (omega arith)) x.1 y.1 a.skills b.skills m in
+    let s = map_one decimal (λ s. s < SKILLS) (below_one SKILLS (omega arith)) x.1 y.1 a.skills b.skills m in
     let n : x.0.name ≡ y.0.name = cc in
     let k : x.0.skills ≡ y.0.skills = a.none ∙ sym b.none in
     ap (λ (w : List ℕ). (record x.0 { name = w }, x.1)) n
@@ -136,16 +138,16 @@ pub pool_one : (x y : ℕ × ℕ) → (x.0 ≤ 9223372036854775807) × (x.1 ≤ 
     → pool_line x.0 x.1 ≡ pool_line y.0 y.1 → x ≡ y
 pool_one x y a b e = pair_one x y (omega arith) (omega arith) (omega arith) (omega arith) (cc) (cc)
 
-pub plan_one : (n : ℕ) → n ≤ 400 → (x y : ℕ × ℕ) → (x.0 ≤ n) × (x.1 ≤ n) → (y.0 ≤ n) × (y.1 ≤ n) → plan_line x.0 x.1 ≡ plan_line y.0 y.1 → x ≡ y
+pub plan_one : (n : ℕ) → n ≤ MOST_TASKS → (x y : ℕ × ℕ) → (x.0 ≤ n) × (x.1 ≤ n) → (y.0 ≤ n) × (y.1 ≤ n) → plan_line x.0 x.1 ≡ plan_line y.0 y.1 → x ≡ y
 plan_one n few x y a b e = pair_one x y (omega arith) (omega arith) (omega arith) (omega arith) (cc) (cc)
 
-pub window_one : (n : ℕ) → n ≤ 400 → (x y : ℕ × ℕ) → (x.0 < n) × (x.1 ≤ 2880) → (y.0 < n) × (y.1 ≤ 2880) → window_line x.0 x.1 ≡ window_line y.0 y.1 → x ≡ y
+pub window_one : (n : ℕ) → n ≤ MOST_TASKS → (x y : ℕ × ℕ) → (x.0 < n) × (x.1 ≤ LAST_MINUTE) → (y.0 < n) × (y.1 ≤ LAST_MINUTE) → window_line x.0 x.1 ≡ window_line y.0 y.1 → x ≡ y
 window_one n few x y a b e = pair_one x y (omega arith) (omega arith) (omega arith) (omega arith) (cc) (cc)
 
-pub node_pair_one : (m n : ℕ) → m ≤ 64 → n ≤ 400 → (x y : ℕ × ℕ) → (x.0 < m) × (x.1 < n) → (y.0 < m) × (y.1 < n) → pair_line x.0 x.1 ≡ pair_line y.0 y.1 → x ≡ y
+pub node_pair_one : (m n : ℕ) → m ≤ MOST_TEAMS → n ≤ MOST_TASKS → (x y : ℕ × ℕ) → (x.0 < m) × (x.1 < n) → (y.0 < m) × (y.1 < n) → pair_line x.0 x.1 ≡ pair_line y.0 y.1 → x ≡ y
 node_pair_one m n few some x y a b e = pair_one x y (omega arith) (omega arith) (omega arith) (omega arith) (cc) (cc)
 
-pub tree_one : (x y : Counts) → IsCounts x → IsCounts y → tree_line x.splits x.closed x.left_open x.depth ≡ tree_line y.splits y.closed y.left_open y.depth → x ≡ y
+pub tree_one : (x y : TreeCounts) → IsCounts x → IsCounts y → tree_line x ≡ tree_line y → x ≡ y
 tree_one x y a b e =
     let p = dec x.splits y.splits (omega (arith, a.splits)) (omega (arith, b.splits)) cc in
     let q = dec x.closed y.closed (omega (arith, a.closed)) (omega (arith, b.closed)) cc in
@@ -153,8 +155,8 @@ tree_one x y a b e =
     let s = dec x.depth y.depth (omega (arith, a.depth)) (omega (arith, b.depth)) cc in
     ap (λ n. record x { splits = n }) p ∙ ap (λ n. record x { splits = y.splits; closed = n }) q ∙ ap (λ n. record y { left_open = n; depth = x.depth }) r ∙ ap (λ n. record y { depth = n }) s
 
-visits_one : (n : ℕ) → n ≤ 400 → (xs ys : List Visit) → AllByRecursion (λ (v : Visit). v.task < n) xs → AllByRecursion (λ (v : Visit). v.start ≤ 2880) xs
-    → AllByRecursion (λ (v : Visit). v.task < n) ys → AllByRecursion (λ (v : Visit). v.start ≤ 2880) ys → flat_map visit_words xs ≡ flat_map visit_words ys → xs ≡ ys
+visits_one : (n : ℕ) → n ≤ MOST_TASKS → (xs ys : List Visit) → AllByRecursion (λ (v : Visit). v.task < n) xs → AllByRecursion (λ (v : Visit). v.start ≤ LAST_MINUTE) xs
+    → AllByRecursion (λ (v : Visit). v.task < n) ys → AllByRecursion (λ (v : Visit). v.start ≤ LAST_MINUTE) ys → flat_map visit_words xs ≡ flat_map visit_words ys → xs ≡ ys
 visits_one n few [] [] a b c d e = refl
 visits_one n few [] (y ∷ ys) a b c d e = absurd cc
 visits_one n few (x ∷ xs) [] a b c d e = absurd cc
@@ -166,14 +168,14 @@ visits_one n few (x ∷ xs) (y ∷ ys) a b c d e =
     let v : x ≡ y = ap (λ (m : ℕ). record x { task = m }) p ∙ ap (λ (m : ℕ). record y { start = m }) q in
     ap (λ (w : Visit). w ∷ xs) v ∙ ap (λ ws. y ∷ ws) r
 
-pub route_one : (i : Instance) → length i.teams ≤ 64 → length i.tasks ≤ 400 → (x y : Route) → IsRouteLine i x → IsRouteLine i y → route_line x ≡ route_line y → x ≡ y
+pub route_one : (i : Instance) → length i.teams ≤ MOST_TEAMS → length i.tasks ≤ MOST_TASKS → (x y : Route) → IsRouteLine i x → IsRouteLine i y → route_line x ≡ route_line y → x ≡ y
 route_one i few some x y a b e =
     let p = dec x.team y.team (omega (arith, a.team)) (omega (arith, b.team)) cc in
     let f : flat_map visit_words x.visits ≡ flat_map visit_words y.visits = cc in
     let q = visits_one (length i.tasks) some x.visits y.visits a.tasks a.starts b.tasks b.starts f in
     ap (λ (m : ℕ). record x { team = m }) p ∙ ap (λ vs. record y { visits = vs }) q
 
-pub do_one : (i : Instance) → length i.teams ≤ 64 → length i.tasks ≤ 400 → (x y : ℕ × Job) → IsDoLine i x → IsDoLine i y → do_line x ≡ do_line y → x ≡ y
+pub do_one : (i : Instance) → length i.teams ≤ MOST_TEAMS → length i.tasks ≤ MOST_TASKS → (x y : ℕ × Job) → IsDoLine i x → IsDoLine i y → do_line x ≡ do_line y → x ≡ y
 do_one i few some x y a b e =
     let p = dec x.0 y.0 (omega (arith, a.task)) (omega (arith, b.task)) cc in
     let q = dec x.1.start y.1.start (omega (arith, a.start)) (omega (arith, b.start)) cc in

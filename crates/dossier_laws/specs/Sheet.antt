@@ -4,7 +4,8 @@ use Rattle.std.specs.Fmt.{decimal}
 use Rattle.crew_terms.specs.Words.{Words}
 use Rattle.crew_terms.specs.Instance.{Instance}
 use Rattle.crew_terms.specs.Plan.{Plan}
-use Rattle.dossier_terms.specs.Dossier.{Dossier, Bare}
+use Rattle.dossier_terms.specs.Dossier.{Dossier}
+use Rattle.crew_terms.specs.Branches.{LeafNode, Bare}
 
 -- a team of skills 0 and 2, a task that needs skill 2, and one that needs two teams
 abbrev pub sheet_instance : Instance
@@ -14,6 +15,7 @@ sheet_instance = record {
   tasks = record { name = codes "J1"; place = 1; earliest = 400; latest = 410; minutes = 30; teams = 1; skills = 4 }
       ∷ record { name = codes "J2"; place = 0; earliest = 500; latest = 500; minutes = 15; teams = 2; skills = 0 } ∷ [];
   travel = (0 ∷ 7 ∷ []) ∷ (8 ∷ 0 ∷ []) ∷ [];
+  frozen = None ∷ None ∷ [];
 }
 
 -- the first task is begun at 405, and the second one is not
@@ -21,7 +23,7 @@ abbrev pub sheet_plan : Plan
 sheet_plan = Some (record { start = 405; teams = 0 ∷ [] }) ∷ None ∷ []
 
 abbrev pub sheet : Dossier
-sheet = record { instance = sheet_instance; budget = 0; kept = 0; pool = []; plan = sheet_plan; bound = 0; tree = Bare }
+sheet = record { instance = sheet_instance; budget = 0; kept = 0; pool = []; plan = sheet_plan; bound = 0; tree = LeafNode Bare }
 
 abbrev pub sheet_lines : List Words
 sheet_lines = (codes "crew" ∷ codes "dossier" ∷ codes "1" ∷ [])

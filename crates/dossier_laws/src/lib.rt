@@ -2,21 +2,23 @@
 // and every good dossier's bound holds. Each law is the contract of a function with nothing to do.
 #![tactic(auto)]
 
-ghost use Rattle.std.specs.Prelude.{◌≡◌, ◌≤◌, ◌<◌, ◌^◌, ◌++◌, ◌↔◌, List, [], ◌∷◌, ℕ, ◌+◌, pos, length, slice_index, slice_index_or};
+ghost use Rattle.std.specs.Prelude.{◌≡◌, ◌≤◌, ◌<◌, ◌^◌, ◌++◌, List, [], ◌∷◌, ℕ, ◌+◌, pos, length, slice_index, slice_index_or};
 ghost use Rattle.std.specs.Int.{bit_at};
 ghost use Rattle.crew_terms.specs.Words.{Words};
-ghost use Rattle.crew_terms.specs.Plan.{Plan, IsLegal, unassigned_count};
-ghost use Rattle.crew_terms.specs.Limits.{Limits, IsPermittedVisit, tasks_in, teams_in, pair_of};
+ghost use Rattle.crew_terms.specs.Plan.{Plan, unassigned_count};
+ghost use Rattle.crew_terms.specs.Legal.{IsLegal};
+ghost use Rattle.crew_terms.specs.Limits.{Limits, teams_in};
 ghost use Rattle.crew_terms.specs.Leaf.{AreInRange, IsOnRequired, rho_of};
-ghost use Rattle.crew_terms.specs.declared.Pair.TheVariants.{Required};
 ghost use Rattle.dossier_terms.specs.declared.Reason.{Reason};
-ghost use Rattle.dossier_terms.specs.Dossier.{Dossier, IsGood, skills_of, mask_of, open_tasks, required_teams, priced, first_minute, Written, splits, closed, left_open, depth, Leaf, IsWritten, prices_of, phi_of, no_potentials};
+ghost use Rattle.dossier_terms.specs.Dossier.{Dossier, IsGood, skills_of, mask_of, Written, Leaf, IsWritten, prices_of, phi_of, no_potentials};
+ghost use Rattle.crew_terms.specs.Minutes.{open_tasks, required_teams, priced, first_minute, IsListOf};
+ghost use Rattle.crew_terms.specs.Branches.{splits, closed, left_open, depth};
 ghost use Rattle.dossier_terms.specs.Lines.{lines_of};
 ghost use Rattle.dossier_terms.specs.Reading.{Reading, Said, More, Whole, No, Form};
 ghost use Rattle.dossier_terms.specs.Table.{Says, Reaches, Ended};
 ghost use Rattle.dossier_laws.specs.Sheet.{sheet, sheet_lines};
 ghost use Rattle.dossier_laws.specs.Law.{IsWhole, IsRead};
-ghost use Rattle.dossier_laws.specs.Listed.{IsSkillList, IsListOf, IsMinuteOf};
+ghost use Rattle.dossier_laws.specs.Listed.{IsSkillList};
 
 use crew_laws::{one_verdict, root_has_legal_plans, root_is_limits, tree_proves};
 
@@ -125,26 +127,6 @@ pub fn skills_are_a_set()
 /// The list of a set has the skills of the set, rising.
 pub fn skills_are_listed()
     ensures { (mask : ℕ) → mask < 2 ^ 64 → IsListOf (λ s. bit_at mask s ≡ 1) (skills_of mask) }
-{}
-
-/// The minutes that are counted are those at which the team may begin the task.
-pub fn minutes_are_permitted()
-    ensures { (n : Limits) (k j t : ℕ) → IsPermittedVisit n k j t ↔ IsMinuteOf n k j t }
-{}
-
-/// The open tasks of a team are those that it may begin at some minute.
-pub fn open_tasks_may_begin()
-    ensures { (n : Limits) (k : ℕ) → IsListOf (λ j. (t : ℕ) × IsPermittedVisit n k j t) (open_tasks n k) }
-{}
-
-/// The required teams of a task are those whose pair with it is required.
-pub fn required_teams_are_listed()
-    ensures { (n : Limits) (j : ℕ) → IsListOf (λ k. (k < teams_in n) × (pair_of n k j ≡ Required)) (required_teams n j) }
-{}
-
-/// The priced tasks are those with a required pair.
-pub fn priced_tasks_are_listed()
-    ensures { (n : Limits) → IsListOf (λ j. (j < tasks_in n) × ((k : ℕ) × (k < teams_in n) × (pair_of n k j ≡ Required))) (priced n) }
 {}
 
 /// The number that a leaf writes at the place b of its row a of extras is the price of the pair of the task

@@ -9,6 +9,7 @@ use Rattle.field_table.specs.declared.cuts.Cut.{Cut}
 abbrev pub piece_of : List ℕ → Cut → List ℕ
 piece_of line cut = slice_range line cut.from cut.until
 
+-- the pieces at the cuts
 abbrev pub pieces_of : List ℕ → List Cut → Words
 pieces_of line cuts = map (piece_of line) cuts
 

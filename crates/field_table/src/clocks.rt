@@ -2,6 +2,8 @@
 ghost use Rattle.std.specs.Prelude.{◌≡◌, ◌≢◌, ◌≤◌, ◌<◌, ◌+◌, [], ◌∷◌, ℕ, pos, Some, MatchOption};
 ghost use Rattle.field_table.specs.Clocks.{two_digits, clock_text};
 
+use crew_terms::LAST_MINUTE;
+
 /// The number below 100 that two digits are.
 fn read_two(tens: u8, ones: u8) -> Option<u8>
     ensures { MatchOption result ((n : ℕ) → n < 100 → tens ∷ ones ∷ [] ≢ two_digits n) (λ n. (n < 100) × (tens ∷ ones ∷ [] ≡ two_digits n)) }
@@ -37,9 +39,9 @@ fn digit(n: u32) -> u8
     b'0' + n as u8
 }
 
-/// Writes a minute from 0 to 2880 as a clock shows it. `read_clock` reads it as this minute.
+/// Writes a minute up to `LAST_MINUTE` as a clock shows it. `read_clock` reads it as this minute.
 pub fn write_clock(n: u32, out: &mut [u8; 5])
-    requires { n ≤ 2880 }
+    requires { n ≤ LAST_MINUTE }
     ensures { out.new ≡ clock_text n }
 {
     let hours = n / 60;

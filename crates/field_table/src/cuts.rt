@@ -3,14 +3,13 @@ ghost use Rattle.std.specs.Prelude.{◌≡◌, ◌≢◌, ◌≤◌, ◌<◌, �
 ghost use Rattle.std.specs.Int.{w64};
 ghost use Rattle.std.specs.Fmt.{signed_decimal};
 ghost use Rattle.crew_terms.specs.Words.{words_of};
+ghost use Rattle.crew_terms.specs.declared.TheConstants.{LONGEST_LINE};
 ghost use Rattle.field_table.specs.Pieces.{piece_of, pieces_of, IsCutOf, IsNumberOf};
 
 use crate::numbers::{read_number, short_number};
+use crew_terms::LONGEST_LINE;
 use std::alloc::{AllocError, Global};
 use std::marker::Model;
-
-/// The longest line, in bytes without its LF.
-const LONGEST: usize = 131_072;
 
 /// A list of words.
 pub trait Words {
@@ -89,20 +88,20 @@ impl<'a> Words for LineWords<'a> {
 #[derive(Drop)]
 pub struct Cuts {
     cuts: Vec<Cut>,
-    ghost room: { 131073 ≤ vec_capacity cuts },
+    ghost room: { LONGEST_LINE < vec_capacity cuts },
 }
 
 impl Cuts {
     /// Takes room for the words of any line; AllocError where there is none.
     pub fn new(alloc: Global) -> Result<Cuts, AllocError> {
         Ok(Cuts {
-            cuts: Vec::with_capacity(alloc, LONGEST + 1)?,
+            cuts: Vec::with_capacity(alloc, LONGEST_LINE + 1)?,
         })
     }
 
     /// Cuts a line into the room that was taken, and gives how many words it has.
     fn fill(&mut self, line: &[u8]) -> usize
-        requires { length line.now ≤ 131072 }
+        requires { length line.now ≤ LONGEST_LINE }
         ensures count { result ≤ vec_len self.new.cuts }
         ensures words { pieces_of line.now (take result self.new.cuts.items) ≡ words_of line.now }
         ensures cuts { All (IsCutOf line.now) (take result self.new.cuts.items) }
@@ -113,7 +112,7 @@ impl Cuts {
 
     /// Cuts a line of at most 131,072 bytes at each space, and reads each word's number; it takes no memory.
     pub fn split<'a>(&'a mut self, line: &'a [u8]) -> LineWords<'a>
-        requires { length line.now ≤ 131072 }
+        requires { length line.now ≤ LONGEST_LINE }
         ensures { result ≡ words_of line.now }
     {
         let count = self.fill(line);
@@ -126,10 +125,10 @@ impl Cuts {
 
 /// Makes cuts that can be written over, until there is one for each word that a line of this length can have.
 fn make_room(cuts: &mut Vec<Cut>, length: usize)
-    requires room { 131073 ≤ vec_capacity cuts.old }
-    requires short { length ≤ 131072 }
+    requires room { LONGEST_LINE < vec_capacity cuts.old }
+    requires short { length ≤ LONGEST_LINE }
     ensures count { length < vec_len cuts.new }
-    ensures room { 131073 ≤ vec_capacity cuts.new }
+    ensures room { LONGEST_LINE < vec_capacity cuts.new }
 {
     while cuts.len() <= length {
         cuts.push(NO_WORD).unwrap();
@@ -202,7 +201,7 @@ fn cut_at(line: &[u8], from: usize) -> Cut
 /// Cuts a line at each space, and gives how many words it has.
 fn cut_line(cuts: &mut [Cut], line: &[u8]) -> usize
     requires room { length line.now < length cuts.old }
-    requires short { length line.now ≤ 131072 }
+    requires short { length line.now ≤ LONGEST_LINE }
     ensures count { result ≤ length cuts.new }
     ensures words { pieces_of line.now (take result cuts.new) ≡ words_of line.now }
     ensures cuts { All (IsCutOf line.now) (take result cuts.new) }

@@ -1,44 +1,36 @@
--- the instance of a state within the limits is one
+-- the travel times of a state within the limits
 use Rattle.std.proofs.Common.{◌≡◌, ◌≤◌, ℕ, Bool, true, false, List, [], ◌∷◌, Option, None, Some, length, map, arith, if◌then◌else◌}
 use Rattle.std.specs.Prelude.{All, IfSome, bytes_eq, find, option_map, unwrap_or}
 use Rattle.std.proofs.lemmas.List.{length-map}
 use Rattle.std.proofs.lemmas.List.Elements.{All-map, All-head, All-tail}
-use Rattle.crew_terms.specs.Instance.{IsInstance}
+use Rattle.crew_terms.specs.Rules.{AreTimes}
+use Rattle.crew_terms.specs.declared.TheConstants.{LAST_MINUTE}
 use Rattle.day_terms.specs.State.{State, Given, is_way}
 use Rattle.day_terms.specs.Rounds.{minutes_given, minutes_from, instance_of}
 use Rattle.flight_changes.specs.Limits.{IsState}
 use Rattle.flight_changes.proofs.Keyed.{Bytes, by_test}
 
 abbrev Few : Given → Type 0
-Few g = g.minutes ≤ 2880
+Few g = g.minutes ≤ LAST_MINUTE
 
-few_found : (gs : List Given) (from to : Bytes) → All Few gs → IfSome (option_map (λ g. g.minutes) (find (is_way from to) gs)) (λ m. m ≤ 2880)
+few_found : (gs : List Given) (from to : Bytes) → All Few gs → IfSome (option_map (λ g. g.minutes) (find (is_way from to) gs)) (λ m. m ≤ LAST_MINUTE)
 few_found [] from to all = tt
 few_found (g ∷ gs) from to all =
     by_test (is_way from to g) (λ t. rw t (All-head Few g gs all)) (λ t. rw t (few_found gs from to (All-tail Few g gs all)))
 
-few_by : (t : Option ℕ) (e : Bool) (default : Option ℕ) → IfSome t (λ m. m ≤ 2880) → IfSome default (λ m. m ≤ 2880) → unwrap_or t (if e then 0 else unwrap_or default 0) ≤ 2880
+few_by : (t : Option ℕ) (e : Bool) (default : Option ℕ) → IfSome t (λ m. m ≤ LAST_MINUTE) → IfSome default (λ m. m ≤ LAST_MINUTE) → unwrap_or t (if e then 0 else unwrap_or default 0) ≤ LAST_MINUTE
 few_by (Some m) e default h k = h
 few_by None true default h k = omega arith
 few_by None false (Some m) h k = k
 few_by None false None h k = omega arith
 
 module _ (s : State) (is : IsState s) where
-  few : (from to : Bytes) → minutes_from s from to ≤ 2880
+  few : (from to : Bytes) → minutes_from s from to ≤ LAST_MINUTE
   few from to = few_by (minutes_given s from to) (bytes_eq from to) s.default_minutes (few_found s.times from to is.times) is.default_minutes
 
-  pub is_instance : IsInstance (instance_of s)
-  is_instance = record {
-    few_places = is.few_places;
-    few_teams = is.few_teams;
-    few_tasks = is.few_tasks;
-    places = is.places;
-    teams = is.teams;
-    tasks = is.tasks;
+  pub are_times : AreTimes (length s.places) (instance_of s).travel
+  are_times = record {
     rows = length-map s.places (λ from. map (minutes_from s from) s.places);
     columns = All-map (λ row. length row ≡ length s.places) (λ from. map (minutes_from s from) s.places) s.places (λ k x h. length-map s.places (minutes_from s _));
-    minutes = All-map (All (λ t. t ≤ 2880)) (λ from. map (minutes_from s from) s.places) s.places (λ k x h. All-map (λ t. t ≤ 2880) (minutes_from s _) s.places (λ i y l. few _ _));
-    place_names = is.place_names;
-    team_names = is.team_names;
-    task_names = is.task_names;
+    minutes = All-map (All (λ t. t ≤ LAST_MINUTE)) (λ from. map (minutes_from s from) s.places) s.places (λ k x h. All-map (λ t. t ≤ LAST_MINUTE) (minutes_from s _) s.places (λ i y l. few _ _));
   }

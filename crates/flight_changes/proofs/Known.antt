@@ -20,7 +20,7 @@ module _ (s : State) (is : IsState s) (name : Bytes) (old : Team) (found : find 
   pub team_changed : (change : Team → Team) → with_team s old.name (λ _. change old) ≡ with_team s name change
   team_changed change =
       let with : List Team → State = λ ts. record s { teams = ts } in
-      let d = IsDistinct-from_AllPairs bytes_eq-Decides (map (λ t. t.name) s.teams) (named_pairs (λ t. t.name) s.teams is.team_names) in
+      let d = IsDistinct-from_AllPairs bytes_eq-Decides (map (λ t. t.name) s.teams) (named_pairs (λ t. t.name) s.teams is.parts.team_names) in
       ap (λ n. with_team s n (λ _. change old)) (sym team_name) ∙ ap with (changed_one (λ t. t.name) s.teams name change old d found)
 
 module _ (s : State) (is : IsState s) (name : Bytes) (old : Task) (found : find (is_task name) s.tasks ≡ Some old) where
@@ -34,5 +34,5 @@ module _ (s : State) (is : IsState s) (name : Bytes) (old : Task) (found : find 
   pub task_changed : (change : Task → Task) → with_task s old.name (λ _. change old) ≡ with_task s name change
   task_changed change =
       let with : List Task → State = λ ts. record s { tasks = ts } in
-      let d = IsDistinct-from_AllPairs bytes_eq-Decides (map (λ t. t.name) s.tasks) (named_pairs (λ t. t.name) s.tasks is.task_names) in
+      let d = IsDistinct-from_AllPairs bytes_eq-Decides (map (λ t. t.name) s.tasks) (named_pairs (λ t. t.name) s.tasks is.parts.task_names) in
       ap (λ n. with_task s n (λ _. change old)) (sym task_name) ∙ ap with (changed_one (λ t. t.name) s.tasks name change old d found)

@@ -4,7 +4,8 @@ use Rattle.std.specs.Prelude.{All, AllPairs}
 use Rattle.std.proofs.lemmas.List.{length_push}
 use Rattle.std.proofs.lemmas.List.Elements.{All-weaker, All-push, All-cons, All-head, All-tail, All-nil}
 use Rattle.crew_terms.specs.Name.{IsName}
-use Rattle.crew_terms.specs.Instance.{IsTeam, IsTask}
+use Rattle.crew_terms.specs.Rules.{IsTeam, IsTask}
+use Rattle.crew_terms.specs.declared.TheConstants.{MOST_PLACES, MOST_TEAMS, MOST_TASKS, LAST_MINUTE}
 use Rattle.crew_terms.specs.declared.Team.{Team}
 use Rattle.crew_terms.specs.declared.Task.{Task}
 use Rattle.day_terms.specs.State.{State, Given}
@@ -12,18 +13,13 @@ use Rattle.flight_changes.specs.Limits.{IsState}
 use Rattle.flight_changes.proofs.Keyed.{Bytes, by_test}
 
 team_at_home : (n : ℕ) (t : Team) → IsTeam n t → IsTeam (n + 1) t
-team_at_home n t is = record { name = is.name; home = let h = is.home in omega arith; shift = is.shift; day = is.day; skills = is.skills }
+team_at_home n t is = record { name = is.name; home = let h = is.home in omega arith; shift = is.shift; skills = is.skills }
 
 task_in_place : (n : ℕ) (t : Task) → IsTask n t → IsTask (n + 1) t
 task_in_place n t is = record {
   name = is.name;
   place = let h = is.place in omega arith;
-  order = is.order;
-  width = is.width;
-  day = is.day;
-  some_minutes = is.some_minutes;
-  minutes = is.minutes;
-  some_teams = is.some_teams;
+  window = is.window;
   teams = is.teams;
   skills = is.skills;
 }
@@ -47,64 +43,58 @@ length_filter test (x ∷ xs) =
     by_test (test x) (λ t. rw t (omega arith)) (λ t. rw t (omega arith))
 
 module _ (s : State) (is : IsState s) where
-  pub place_more : (name : Bytes) → length s.places < 200 → IsName name → AllPairs (λ a b. a ≢ b) (s.places ++ name ∷ []) → IsState (record s { places = s.places ++ name ∷ [] })
+  pub place_more : (name : Bytes) → length s.places < MOST_PLACES → IsName name → AllPairs (λ a b. a ≢ b) (s.places ++ name ∷ []) → IsState (record s { places = s.places ++ name ∷ [] })
   place_more name room spelled new =
       let n = length_push s.places name in
       record {
-        few_places = omega arith;
-        few_teams = is.few_teams;
-        few_tasks = is.few_tasks;
-        places = All-push IsName s.places name is.places spelled;
-        teams = rw n (All-weaker (IsTeam (length s.places)) (IsTeam (length s.places + 1)) (team_at_home (length s.places)) s.teams is.teams);
-        tasks = rw n (All-weaker (IsTask (length s.places)) (IsTask (length s.places + 1)) (task_in_place (length s.places)) s.tasks is.tasks);
+        parts = record {
+          few_places = omega arith;
+          few_teams = is.parts.few_teams;
+          few_tasks = is.parts.few_tasks;
+          places = All-push IsName s.places name is.parts.places spelled;
+          teams = rw n (All-weaker (IsTeam (length s.places)) (IsTeam (length s.places + 1)) (team_at_home (length s.places)) s.teams is.parts.teams);
+          tasks = rw n (All-weaker (IsTask (length s.places)) (IsTask (length s.places + 1)) (task_in_place (length s.places)) s.tasks is.parts.tasks);
+          place_names = new;
+          team_names = is.parts.team_names;
+          task_names = is.parts.task_names;
+        };
         times = is.times;
         default_minutes = is.default_minutes;
-        place_names = new;
-        team_names = is.team_names;
-        task_names = is.task_names;
       }
 
-  pub other_teams : (ts : List Team) → length ts ≤ 64 → All (IsTeam (length s.places)) ts → AllPairs (λ (a b : Team). a.name ≢ b.name) ts → IsState (record s { teams = ts })
+  pub other_teams : (ts : List Team) → length ts ≤ MOST_TEAMS → All (IsTeam (length s.places)) ts → AllPairs (λ (a b : Team). a.name ≢ b.name) ts → IsState (record s { teams = ts })
   other_teams ts few all names = record {
-    few_places = is.few_places;
-    few_teams = few;
-    few_tasks = is.few_tasks;
-    places = is.places;
-    teams = all;
-    tasks = is.tasks;
+    parts = record {
+      few_places = is.parts.few_places;
+      few_teams = few;
+      few_tasks = is.parts.few_tasks;
+      places = is.parts.places;
+      teams = all;
+      tasks = is.parts.tasks;
+      place_names = is.parts.place_names;
+      team_names = names;
+      task_names = is.parts.task_names;
+    };
     times = is.times;
     default_minutes = is.default_minutes;
-    place_names = is.place_names;
-    team_names = names;
-    task_names = is.task_names;
   }
 
-  pub other_tasks : (ts : List Task) → length ts ≤ 400 → All (IsTask (length s.places)) ts → AllPairs (λ (a b : Task). a.name ≢ b.name) ts → IsState (record s { tasks = ts })
+  pub other_tasks : (ts : List Task) → length ts ≤ MOST_TASKS → All (IsTask (length s.places)) ts → AllPairs (λ (a b : Task). a.name ≢ b.name) ts → IsState (record s { tasks = ts })
   other_tasks ts few all names = record {
-    few_places = is.few_places;
-    few_teams = is.few_teams;
-    few_tasks = few;
-    places = is.places;
-    teams = is.teams;
-    tasks = all;
+    parts = record {
+      few_places = is.parts.few_places;
+      few_teams = is.parts.few_teams;
+      few_tasks = few;
+      places = is.parts.places;
+      teams = is.parts.teams;
+      tasks = all;
+      place_names = is.parts.place_names;
+      team_names = is.parts.team_names;
+      task_names = names;
+    };
     times = is.times;
     default_minutes = is.default_minutes;
-    place_names = is.place_names;
-    team_names = is.team_names;
-    task_names = names;
   }
 
-  pub other_times : (ts : List Given) → All (λ g. g.minutes ≤ 2880) ts → IsState (record s { times = ts })
-  other_times ts all = record {
-    few_places = is.few_places;
-    few_teams = is.few_teams;
-    few_tasks = is.few_tasks;
-    places = is.places;
-    teams = is.teams;
-    tasks = is.tasks;
-    times = all;
-    default_minutes = is.default_minutes;
-    place_names = is.place_names;
-    team_names = is.team_names;
-    task_names = is.task_names;
-  }
+  pub other_times : (ts : List Given) → All (λ g. g.minutes ≤ LAST_MINUTE) ts → IsState (record s { times = ts })
+  other_times ts all = record { parts = is.parts; times = all; default_minutes = is.default_minutes }

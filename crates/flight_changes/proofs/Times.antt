@@ -4,6 +4,7 @@ use Rattle.std.specs.Prelude.{All, bytes_eq, find, option_map}
 use Rattle.std.specs.Map.{lookup}
 use Rattle.std.proofs.lemmas.List.Elements.{All-cons, All-head, All-tail, All-nil}
 use Rattle.indexmap.specs.IndexMap.{insert_entry}
+use Rattle.crew_terms.specs.declared.TheConstants.{LAST_MINUTE}
 use Rattle.day_terms.specs.State.{Given, is_way, given_time}
 use Rattle.flight_changes.specs.Kept.{given_of}
 use Rattle.flight_changes.proofs.Keyed.{Bytes, by_test}
@@ -24,9 +25,9 @@ looked_up [] from to = refl
 looked_up (e ∷ es) from to = by_test (same_way (from, to) e.0) (λ t. rw t refl) (λ t. rw t (looked_up es from to))
 
 abbrev Few : Given → Type 0
-Few g = g.minutes ≤ 2880
+Few g = g.minutes ≤ LAST_MINUTE
 
-pub few_given : (gs : List Given) (from to : Bytes) (minutes : ℕ) → minutes ≤ 2880 → All Few gs → All Few (given_time gs from to minutes)
+pub few_given : (gs : List Given) (from to : Bytes) (minutes : ℕ) → minutes ≤ LAST_MINUTE → All Few gs → All Few (given_time gs from to minutes)
 few_given [] from to minutes few all = All-cons Few _ [] few (All-nil Few)
 few_given (g ∷ gs) from to minutes few all =
     by_test (is_way from to g) (λ t. rw t (All-cons Few _ gs few (All-tail Few g gs all))) (λ t. rw t (All-cons Few g _ (All-head Few g gs all) (few_given gs from to minutes few (All-tail Few g gs all))))

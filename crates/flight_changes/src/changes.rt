@@ -1,7 +1,7 @@
 // What each entry that is not refused makes of the state.
 ghost use Rattle.std.specs.Prelude.{◌≡◌, ◌≤◌, ◌<◌, ◌++◌, ◌∷◌, [], None, Some, true, false, length, find, OnOk, OnErr};
-ghost use Rattle.crew_terms.specs.Instance.{IsTask, IsTeam};
-ghost use Rattle.crew_instance.specs.Rules.{IsShift, IsTeamCount, IsWindow};
+ghost use Rattle.crew_terms.specs.Rules.{IsTask, IsTeam, IsShift, IsTeamCount, IsWindow};
+ghost use Rattle.crew_terms.specs.declared.TheConstants.{LAST_MINUTE, MOST_TASKS, MOST_TEAMS, SKILLS};
 ghost use Rattle.day_terms.specs.Ranges.{IsInRange};
 ghost use Rattle.day_terms.specs.Refusal.{refusal_of};
 ghost use Rattle.flight_changes.specs.Limits.{IsState};
@@ -69,7 +69,7 @@ impl Desk {
     }
 
     fn set_time(&mut self, from: Name, to: Name, minutes: u32) -> Result<(), AllocError>
-        requires { minutes ≤ 2880 }
+        requires { minutes ≤ LAST_MINUTE }
         ensures ok { OnOk result (self.new ≡ after_entry self.old (Entry.RouteTime from to minutes)) }
         ensures err { OnErr result (self.new ≡ self.old) }
     {
@@ -78,7 +78,7 @@ impl Desk {
     }
 
     fn set_both_ways(&mut self, from: Name, to: Name, minutes: u32) -> Result<(), AllocError>
-        requires { minutes ≤ 2880 }
+        requires { minutes ≤ LAST_MINUTE }
         ensures ok { OnOk result (self.new ≡ after_entry self.old (Entry.Travel from to minutes)) }
         ensures err { OnErr result (self.new ≡ self.old) }
     {
@@ -89,7 +89,7 @@ impl Desk {
     }
 
     fn set_default(&mut self, minutes: u32)
-        requires { minutes ≤ 2880 }
+        requires { minutes ≤ LAST_MINUTE }
         ensures { self.new ≡ after_entry self.old (Entry.DefaultTravel minutes) }
     {
         self.default_minutes = Some(minutes);
@@ -157,7 +157,7 @@ impl Desk {
     }
 
     fn add_team(&mut self, team: Team) -> Result<(), AllocError>
-        requires room { length self.old.teams < 64 }
+        requires room { length self.old.teams < MOST_TEAMS }
         requires new { has_team self.old team.name ≡ false }
         requires home { team.home < length self.old.places }
         requires shift { IsShift team }
@@ -170,7 +170,7 @@ impl Desk {
     }
 
     fn add_task(&mut self, task: Task) -> Result<(), AllocError>
-        requires room { length self.old.tasks < 400 }
+        requires room { length self.old.tasks < MOST_TASKS }
         requires new { has_task self.old task.name ≡ false }
         requires place { task.place < length self.old.places }
         requires window { IsWindow task }
@@ -232,7 +232,7 @@ impl Desk {
     }
 
     fn set_window(&mut self, task: &Name, earliest: u32, latest: u32)
-        requires day { latest ≤ 2880 }
+        requires day { latest ≤ LAST_MINUTE }
         requires accepted { refusal_of self.old (Entry.Move task.now earliest latest) ≡ None }
         ensures { self.new ≡ after_entry self.old (Entry.Move task.now earliest latest) }
     {
@@ -246,7 +246,7 @@ impl Desk {
 
     fn set_minutes(&mut self, task: &Name, minutes: u32)
         requires some { 1 ≤ minutes }
-        requires day { minutes ≤ 2880 }
+        requires day { minutes ≤ LAST_MINUTE }
         requires accepted { refusal_of self.old (Entry.Longer task.now minutes) ≡ None }
         ensures { self.new ≡ after_entry self.old (Entry.Longer task.now minutes) }
     {
@@ -263,7 +263,7 @@ impl Desk {
     }
 
     fn set_shift(&mut self, team: &Name, from: u32, until: u32)
-        requires day { until ≤ 2880 }
+        requires day { until ≤ LAST_MINUTE }
         requires accepted { refusal_of self.old (Entry.Shift team.now from until) ≡ None }
         ensures { self.new ≡ after_entry self.old (Entry.Shift team.now from until) }
     {
@@ -272,7 +272,7 @@ impl Desk {
     }
 
     fn add_skill(&mut self, team: &Name, skill: u32)
-        requires range { skill ≤ 63 }
+        requires range { skill < SKILLS }
         requires accepted { refusal_of self.old (Entry.Skill team.now skill) ≡ None }
         ensures { self.new ≡ after_entry self.old (Entry.Skill team.now skill) }
     {
@@ -284,7 +284,7 @@ impl Desk {
     }
 
     fn drop_skill(&mut self, team: &Name, skill: u32)
-        requires range { skill ≤ 63 }
+        requires range { skill < SKILLS }
         requires accepted { refusal_of self.old (Entry.Unskill team.now skill) ≡ None }
         ensures { self.new ≡ after_entry self.old (Entry.Unskill team.now skill) }
     {

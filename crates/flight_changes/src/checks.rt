@@ -6,18 +6,8 @@ ghost use Rattle.flight_changes.specs.Faults.{answer_of};
 
 use crate::desks::Desk;
 use crate::faults::ChangeFault;
-use crew_terms::Name;
+use crew_terms::{MOST_PLACES, MOST_TASKS, MOST_TEAMS, MOST_TEAMS_PER_TASK, Name, WIDEST_WINDOW};
 use day_terms::Entry;
-
-const MOST_PLACES: usize = 200;
-
-const MOST_TEAMS: usize = 64;
-
-const MOST_TASKS: usize = 400;
-
-const WIDEST_WINDOW: u32 = 720;
-
-const MOST_TEAMS_PER_TASK: u32 = 8;
 
 /// Whether the window ends before it begins, or is too wide.
 fn is_bad_window(earliest: u32, latest: u32) -> bool
@@ -30,7 +20,7 @@ fn is_bad_window(earliest: u32, latest: u32) -> bool
 fn is_bad_count(teams: u32) -> bool
     ensures { result ≡ is_bad_count teams }
 {
-    teams < 1 || teams > MOST_TEAMS_PER_TASK
+    teams < 1 || teams as usize > MOST_TEAMS_PER_TASK
 }
 
 impl Desk {

@@ -1,5 +1,7 @@
 // The rows of the desk, and each of its refusals.
 ghost use Rattle.std.specs.Prelude.{◌≤◌, IfOk};
+ghost use Rattle.crew_terms.specs.declared.TheConstants.{LAST_MINUTE};
+ghost use Rattle.day_terms.specs.declared.TheConstants.{GREATEST_COUNT};
 ghost use Rattle.day_terms.specs.Ranges.{IsInRange};
 
 mod refusals;
@@ -47,8 +49,8 @@ fn place(called: &[u8]) -> Result<Entry, Fail>
 }
 
 fn team(called: &[u8], home: &[u8], from: u32, until: u32) -> Result<Entry, Fail>
-    requires first { from ≤ 2880 }
-    requires last { until ≤ 2880 }
+    requires first { from ≤ LAST_MINUTE }
+    requires last { until ≤ LAST_MINUTE }
     ensures { IfOk result IsInRange }
 {
     Ok(Entry::Team {
@@ -62,9 +64,9 @@ fn team(called: &[u8], home: &[u8], from: u32, until: u32) -> Result<Entry, Fail
 
 /// A task of half an hour.
 fn task(called: &[u8], place: &[u8], earliest: u32, latest: u32, teams: u32) -> Result<Entry, Fail>
-    requires first { earliest ≤ 2880 }
-    requires last { latest ≤ 2880 }
-    requires count { teams ≤ 99 }
+    requires first { earliest ≤ LAST_MINUTE }
+    requires last { latest ≤ LAST_MINUTE }
+    requires count { teams ≤ GREATEST_COUNT }
     ensures { IfOk result IsInRange }
 {
     Ok(Entry::Task {

@@ -1,5 +1,5 @@
 -- the rows of the table for the lines of an instance
-use Rattle.std.proofs.Common.{◌≡◌, ◌≤◌, ◌<◌, ◌-◌, ◌++◌, ℕ, suc, List, [], ◌∷◌, length, map, get_or, ap, subst, sym, refl, ◌∙◌, arith, ◌⊎◌, inl, inr, Some, length-append}
+use Rattle.std.proofs.Common.{◌≡◌, ◌≤◌, ◌<◌, ◌++◌, ℕ, suc, List, [], ◌∷◌, length, map, get_or, ap, subst, sym, refl, ◌∙◌, arith, ◌⊎◌, inl, inr, None, Some, length-append}
 use Rattle.std.proofs.Math.ListN.{get_or-append}
 use Rattle.std.specs.Prelude.{codes, All, Any, slice_index_or}
 use Rattle.std.specs.List.{range_with_len}
@@ -12,16 +12,16 @@ use Rattle.std.proofs.lemmas.List.FromFn.{length-map-range_with_len, get_or-map-
 use Rattle.crew_terms.specs.Words.{Words}
 use Rattle.crew_terms.specs.Name.{IsName}
 use Rattle.crew_terms.specs.Instance.{Instance}
+use Rattle.crew_terms.specs.Rules.{IsShift, IsWindow}
 use Rattle.crew_terms.specs.declared.Team.{Team}
 use Rattle.crew_terms.specs.declared.Task.{Task}
 use Rattle.crew_instance.specs.Draft.{Draft as Parts, time_of, with_row, minutes_of, minutes_from}
 use Rattle.dossier_terms.specs.declared.Size.{Size}
-use Rattle.dossier_terms.specs.declared.Reason.TheVariants.{Name, Instance as BadInstance}
 use Rattle.dossier_terms.specs.Dossier.{mask_of}
 use Rattle.dossier_terms.specs.Lines.{size_line, place_line, travel_line, team_words, task_words}
 use Rattle.dossier_terms.specs.Reading.{Said, More as Goes, nothing, places_due, teams_due, tasks_due}
-use Rattle.dossier_terms.specs.Rules.{Must, Holds, Fails, Spelled, Goes as GoesTo, On, IsShape}
-use Rattle.dossier_terms.specs.Table.{IsSize, IsTravel, IsTeamLine, IsTaskLine, IsNewTeam, IsNewTask, size_row, place_row, travel_row, team_row, task_row, after_place, after_travel, after_team, after_task}
+use Rattle.dossier_terms.specs.Rules.{Holds, Fails, Spelled, On, IsShape}
+use Rattle.dossier_terms.specs.Table.{IsSize, IsTravel, IsTeamLine, IsTaskLine, size_row, place_row, travel_row, team_row, task_row, after_place, after_travel, after_team, after_task}
 use Rattle.head_check.specs.Head.{parts_of}
 use Rattle.head_check.proofs.GivenRow.{time_in_row, time_elsewhere}
 
@@ -86,25 +86,13 @@ size_more ws z said fits is e = Holds (_, is, refl) (Spelled z fits is (On e))
 place_shape : (ws : Words) (name : List ℕ) → ws ≡ place_line name → IsShape (codes "place") 1 ws
 place_shape ws name is = (name ∷ [], is, refl)
 
--- the rules of a team after its words
-abbrev pub team_rest : Size → ℕ → Instance → Team × List ℕ → Said → Type 0
-team_rest z k i p = Must (IsNewTeam i.teams p.0) Name
-    (Must ((p.0.from < p.0.until) × IsStrictlyIncreasing p.1) BadInstance
-    (GoesTo (teams_due z k (record i { teams = i.teams ++ record p.0 { skills = mask_of p.1 } ∷ [] }))))
-
 pub team_says : (z : Size) (k : ℕ) (i : Instance) (ws : Words) (p : Team × List ℕ) (said : Said) → IsTeamLine z.places p → ws ≡ team_words p
-    → team_rest z k i p said → team_row z k i ws said
+    → after_team z k i (record p.0 { skills = mask_of p.1 }) (IsStrictlyIncreasing p.1) said → team_row z k i ws said
 team_says z k i ws p said fits is rest = Holds (_, is, omega arith)
     (Holds (subst (λ w. IsName (slice_index_or w 1 [])) (sym is) fits.name) (Spelled p fits is rest))
 
--- the rules of a task after its words
-abbrev pub task_rest : Size → ℕ → Instance → Task × List ℕ → Said → Type 0
-task_rest z k i p = Must (IsNewTask i.tasks p.0) Name
-    (Must ((p.0.earliest ≤ p.0.latest) × (p.0.latest - p.0.earliest ≤ 720) × IsStrictlyIncreasing p.1) BadInstance
-    (GoesTo (tasks_due z k (record i { tasks = i.tasks ++ record p.0 { skills = mask_of p.1 } ∷ [] }))))
-
 pub task_says : (z : Size) (k : ℕ) (i : Instance) (ws : Words) (p : Task × List ℕ) (said : Said) → IsTaskLine z.places p → ws ≡ task_words p
-    → task_rest z k i p said → task_row z k i ws said
+    → after_task z k i (record p.0 { skills = mask_of p.1 }) (IsStrictlyIncreasing p.1) said → task_row z k i ws said
 task_says z k i ws p said fits is rest = Holds (_, is, omega arith)
     (Holds (subst (λ w. IsName (slice_index_or w 1 [])) (sym is) fits.name) (Spelled p fits is rest))
 
@@ -112,26 +100,33 @@ task_says z k i ws p said fits is rest = Holds (_, is, omega arith)
 pub none_of : {A : Type 0} (P : A → Type 0) (xs : List A) → (Any P xs → ⊥) → All (λ x. P x → ⊥) xs
 none_of P xs h = λ k d l p. h (k, get_or xs k d, l, get_or_default xs k (get_or xs k d) d l, p)
 
--- the rules of a team, told by its value and whether its skills rise
-pub team_rules : (z : Size) (k : ℕ) (i : Instance) (name : List ℕ) (home from until skills : ℕ) (ss : List ℕ) (Rises : Type 0) (said : Said)
-    → (Rises → IsStrictlyIncreasing ss × (skills ≡ mask_of ss)) → ((Rises → ⊥) → IsStrictlyIncreasing ss → ⊥)
-    → after_team z k i (record { name = name; home = home; from = from; until = until; skills = skills }) Rises said
-    → team_rest z k i (record { name = name; home = home; from = from; until = until; skills = 0 }, ss) said
-team_rules z k i name home from until skills ss Rises said rise fall (Fails broken told) = Fails broken told
-team_rules z k i name home from until skills ss Rises said rise fall (Holds new (Fails broken told)) = Holds new (Fails (λ h. fall (λ r. broken (h.0, r)) h.1) told)
-team_rules z k i name home from until skills ss Rises said rise fall (Holds new (Holds fact (On e))) =
-    let y = rise fact.1 in
-    Holds new (Holds (fact.0, y.0) (On (e ∙ ap (λ s. Goes (teams_due z k (record i { teams = i.teams ++ record { name = name; home = home; from = from; until = until; skills = s } ∷ [] }))) y.1)))
+-- a shift and a window are the same whatever the skills
+same_shift : (t : Team) (skills : ℕ) → IsShift t → IsShift (record t { skills = skills })
+same_shift t skills s = record { order = s.order; day = s.day }
 
-pub task_rules : (z : Size) (k : ℕ) (i : Instance) (name : List ℕ) (place earliest latest minutes teams skills : ℕ) (ss : List ℕ) (Rises : Type 0) (said : Said)
-    → (Rises → IsStrictlyIncreasing ss × (skills ≡ mask_of ss)) → ((Rises → ⊥) → IsStrictlyIncreasing ss → ⊥)
-    → after_task z k i (record { name = name; place = place; earliest = earliest; latest = latest; minutes = minutes; teams = teams; skills = skills }) Rises said
-    → task_rest z k i (record { name = name; place = place; earliest = earliest; latest = latest; minutes = minutes; teams = teams; skills = 0 }, ss) said
-task_rules z k i name place earliest latest minutes teams skills ss Rises said rise fall (Fails broken told) = Fails broken told
-task_rules z k i name place earliest latest minutes teams skills ss Rises said rise fall (Holds new (Fails broken told)) = Holds new (Fails (λ h. fall (λ r. broken (h.0, h.1, r)) h.2) told)
-task_rules z k i name place earliest latest minutes teams skills ss Rises said rise fall (Holds new (Holds fact (On e))) =
-    let y = rise fact.2 in
-    Holds new (Holds (fact.0, fact.1, y.0) (On (e ∙ ap (λ s. Goes (tasks_due z k (record i { tasks = i.tasks ++ record { name = name; place = place; earliest = earliest; latest = latest; minutes = minutes; teams = teams; skills = s } ∷ [] }))) y.1)))
+same_window : (t : Task) (skills : ℕ) → IsWindow t → IsWindow (record t { skills = skills })
+same_window t skills w = record { order = w.order; width = w.width; day = w.day; some_minutes = w.some_minutes; minutes = w.minutes }
+
+-- the rules of a team, told by its value and whether its skills rise
+pub team_rules : (z : Size) (k : ℕ) (i : Instance) (t : Team) (ss : List ℕ) (Rises : Type 0) (said : Said)
+    → (Rises → IsStrictlyIncreasing ss × (t.skills ≡ mask_of ss)) → ((Rises → ⊥) → IsStrictlyIncreasing ss → ⊥)
+    → after_team z k i t Rises said → after_team z k i (record t { skills = mask_of ss }) (IsStrictlyIncreasing ss) said
+team_rules z k i t ss Rises said rise fall (Fails broken told) = Fails broken told
+team_rules z k i t ss Rises said rise fall (Holds new (Fails broken told)) =
+    Holds new (Fails (λ h. fall (λ r. broken (same_shift (record t { skills = mask_of ss }) t.skills h.0, r)) h.1) told)
+team_rules z k i t ss Rises said rise fall (Holds new (Holds fact (On e))) =
+    let y = rise fact.1 in
+    Holds new (Holds (same_shift t (mask_of ss) fact.0, y.0) (On (e ∙ ap (λ s. Goes (teams_due z k (record i { teams = i.teams ++ record t { skills = s } ∷ [] }))) y.1)))
+
+pub task_rules : (z : Size) (k : ℕ) (i : Instance) (t : Task) (ss : List ℕ) (Rises : Type 0) (said : Said)
+    → (Rises → IsStrictlyIncreasing ss × (t.skills ≡ mask_of ss)) → ((Rises → ⊥) → IsStrictlyIncreasing ss → ⊥)
+    → after_task z k i t Rises said → after_task z k i (record t { skills = mask_of ss }) (IsStrictlyIncreasing ss) said
+task_rules z k i t ss Rises said rise fall (Fails broken told) = Fails broken told
+task_rules z k i t ss Rises said rise fall (Holds new (Fails broken told)) =
+    Holds new (Fails (λ h. fall (λ r. broken (same_window (record t { skills = mask_of ss }) t.skills h.0, r)) h.1) told)
+task_rules z k i t ss Rises said rise fall (Holds new (Holds fact (On e))) =
+    let y = rise fact.1 in
+    Holds new (Holds (same_window t (mask_of ss) fact.0, y.0) (On (e ∙ ap (λ s. Goes (tasks_due z k (record i { tasks = i.tasks ++ record t { skills = s } ∷ []; frozen = i.frozen ++ None ∷ [] }))) y.1)))
 
 pub place_says : (z : Size) (k : ℕ) (i : Instance) (ws : Words) (name : List ℕ) (said : Said) → IsName name → ws ≡ place_line name
     → after_place z k i name said → place_row z k i ws said

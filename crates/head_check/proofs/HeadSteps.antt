@@ -5,8 +5,10 @@ use Rattle.std.specs.List.Sorted.{IsStrictlyIncreasing}
 use Rattle.std.proofs.lemmas.Bool.{cases_lt, cases_eq}
 use Rattle.crew_terms.specs.declared.Team.{Team}
 use Rattle.crew_terms.specs.declared.Task.{Task}
-use Rattle.crew_instance.specs.Draft.{Draft as Parts, time_of, with_row}
-use Rattle.crew_instance.specs.Rules.{HasTeam, HasTask, TakesTeam, TakesTask, IsShift, IsWindow}
+use Rattle.crew_instance.specs.Draft.{Draft as Parts, time_of, with_row, with_task}
+use Rattle.crew_instance.specs.Rules.{HasTeam, HasTask, TakesTeam, TakesTask}
+use Rattle.crew_terms.specs.Rules.{IsShift, IsWindow}
+use Rattle.crew_terms.specs.declared.TheConstants.{MOST_TEAMS, MOST_TASKS, LAST_MINUTE, WIDEST_WINDOW}
 use Rattle.dossier_terms.specs.declared.Size.{Size}
 use Rattle.dossier_terms.specs.Dossier.{mask_of}
 use Rattle.dossier_terms.specs.Reading.{More as Goes, teams_due, tasks_due}
@@ -14,7 +16,6 @@ use Rattle.dossier_terms.specs.Rules.{Holds, On}
 use Rattle.head_check.specs.Numbers.{naturals, AreBelow}
 use Rattle.head_check.specs.Head.{IsHead, IsDue, Tells, parts_of}
 use Rattle.dossier_terms.specs.Table.{after_team, after_task}
-use Rattle.head_check.specs.Ranges.{IsTaskRange}
 use Rattle.head_check.specs.declared.due.HeadDue.{HeadDue}
 use Rattle.head_check.specs.declared.due.HeadStep.TheVariants.{More}
 use Rattle.head_check.proofs.Steps.{plainly}
@@ -26,51 +27,54 @@ pub if_ok : {X E : Type 0} (r : Result X E) (P Q : X → Type 0) → IfOk r P �
 if_ok (Ok x) P Q h f = f x h
 if_ok (Err e) P Q h f = tt
 
+at_most : (a b : ℕ) → ((a ≤ b → ⊥) → ⊥) → a ≤ b
+at_most a b h = elim (cases_lt b a) [
+  | inl l ↦ absurd (h (λ le. absurd (omega arith)))
+  | inr l ↦ l
+]
+
+-- a shift and a window that aren't refused
+shift_held : (t : Team) → ((IsShift t → ⊥) → ⊥) → IsShift t
+shift_held t h = record {
+  order = at_most (suc t.from) t.until (λ no. h (λ s. no s.order));
+  day = at_most t.until LAST_MINUTE (λ no. h (λ s. no s.day));
+}
+
+window_held : (t : Task) → ((IsWindow t → ⊥) → ⊥) → IsWindow t
+window_held t h = record {
+  order = at_most t.earliest t.latest (λ no. h (λ w. no w.order));
+  width = at_most (t.latest - t.earliest) WIDEST_WINDOW (λ no. h (λ w. no w.width));
+  day = at_most t.latest LAST_MINUTE (λ no. h (λ w. no w.day));
+  some_minutes = at_most 1 t.minutes (λ no. h (λ w. no w.some_minutes));
+  minutes = at_most t.minutes LAST_MINUTE (λ no. h (λ w. no w.minutes));
+}
+
 -- a team that is taken
 pub team_more : (z : Size) (k : ℕ) (d new : Parts) (p : ℕ) (t : Team) (Rises : Type 0) (due : HeadDue) → Rises
-    → length d.teams < 64 → length d.places ≡ p → t.home < p → t.until ≤ 2880
-    → ((length d.teams < 64) × HasTeam d t.name → ⊥)
+    → length d.teams < MOST_TEAMS → length d.places ≡ p → t.home < p
+    → ((length d.teams < MOST_TEAMS) × HasTeam d t.name → ⊥)
     → (TakesTeam d t.name × (t.home < length d.places) × (IsShift t → ⊥) → ⊥)
     → new ≡ record d { teams = d.teams ++ t ∷ [] } → IsDue (teams_due z k (parts_of new p)) due → Tells (after_team z k (parts_of d p) t Rises) (More due)
-team_more z k d new p t Rises due rises room places home day same shift is next =
+team_more z k d new p t Rises due rises room places home same shift is next =
+    let held = shift_held t (λ broken. shift (record { room = room; new = λ has. same (room, has) }, omega arith, broken)) in
     plainly (Holds (none_of (λ (o : Team). o.name ≡ t.name) d.teams (λ has. same (room, has)))
-    (Holds (order, rises) (On (ap Goes (next.is ∙ ap (λ x. teams_due z k (parts_of x p)) is))))) next.holds
-  where
-    order : t.from < t.until
-    order = elim (cases_lt t.from t.until) [
-      | inl l ↦ l
-      | inr l ↦ absurd (shift (record { room = room; new = λ has. same (room, has) }, (omega arith), (λ (s : IsShift t). let o = s.order in absurd (omega arith))))
-    ]
+    (Holds (held, rises) (On (ap Goes (next.is ∙ ap (λ x. teams_due z k (parts_of x p)) is))))) next.holds
 
 -- a task that is taken
 pub task_more : (z : Size) (k : ℕ) (d new : Parts) (p : ℕ) (t : Task) (Rises : Type 0) (due : HeadDue) → Rises
-    → length d.tasks < 400 → length d.places ≡ p → IsTaskRange p t
-    → ((length d.tasks < 400) × HasTask d t.name → ⊥)
+    → length d.tasks < MOST_TASKS → length d.places ≡ p → t.place < p
+    → ((length d.tasks < MOST_TASKS) × HasTask d t.name → ⊥)
     → (TakesTask d t.name × (t.place < length d.places) × (IsWindow t → ⊥) → ⊥)
-    → new ≡ record d { tasks = d.tasks ++ t ∷ [] } → IsDue (tasks_due z k (parts_of new p)) due → Tells (after_task z k (parts_of d p) t Rises) (More due)
-task_more z k d new p t Rises due rises room places range same window is next =
+    → new ≡ with_task d t → IsDue (tasks_due z k (parts_of new p)) due → Tells (after_task z k (parts_of d p) t Rises) (More due)
+task_more z k d new p t Rises due rises room places place same window is next =
+    let held = window_held t (λ broken. window (record { room = room; new = λ has. same (room, has) }, omega arith, broken)) in
     plainly (Holds (none_of (λ (o : Task). o.name ≡ t.name) d.tasks (λ has. same (room, has)))
-    (Holds (order, width, rises) (On (ap Goes (next.is ∙ ap (λ x. tasks_due z k (parts_of x p)) is))))) next.holds
-  where
-    bad : (IsWindow t → ⊥) → ⊥
-    bad broken = window (record { room = room; new = λ has. same (room, has) }, (let a = range.place in omega arith), broken)
-
-    order : t.earliest ≤ t.latest
-    order = elim (cases_lt t.latest t.earliest) [
-      | inl l ↦ absurd (bad (λ w. let o = w.order in absurd (omega arith)))
-      | inr l ↦ l
-    ]
-
-    width : t.latest - t.earliest ≤ 720
-    width = elim (cases_lt 720 (t.latest - t.earliest)) [
-      | inl l ↦ absurd (bad (λ w. let o = w.width in absurd (omega arith)))
-      | inr l ↦ l
-    ]
+    (Holds (held, rises) (On (ap Goes (next.is ∙ ap (λ x. tasks_due z k (parts_of x p)) is))))) next.holds
 
 -- a row of travel times more is given
 pub head_more : (z : Size) (d : Parts) (r p : ℕ) (row : List ℕ) → IsHead (record { size = z; builder = d }) p r 0 0
     → r < length d.times → length row ≡ p → IsHead (record { size = z; builder = with_row d r row }) p (r + 1) 0 0
-head_more z d r p row h below n = record { size = h.size; places = h.places; given = λ a b l m. at a b l m (cases_eq a r); teams = h.teams; tasks = h.tasks }
+head_more z d r p row h below n = record { size = h.size; places = h.places; given = λ a b l m. at a b l m (cases_eq a r); teams = h.teams; tasks = h.tasks; frozen = h.frozen }
   where
     at : (a b : ℕ) → a < r + 1 → b < length d.places → (a ≡ r) ⊎ (a ≢ r) → time_of (with_row d r row) a b ≢ None
     at a b l m (inl e) none =
@@ -78,7 +82,7 @@ head_more z d r p row h below n = record { size = h.size; places = h.places; giv
         let f : Some (get_or row b 0) ≡ None = sym (time_in_row d r b row below (omega arith)) ∙ ap (λ x. time_of (with_row d r row) x b) (sym e) ∙ none in cc
     at a b l m (inr ne) none = h.given a b (omega arith) m (sym (time_elsewhere d r a b row ne) ∙ none)
 
-pub minutes_below : (row : List ℕ) → All (λ t. t ≤ 2880) row → AreBelow 2881 (map pos row)
+pub minutes_below : (row : List ℕ) → All (λ t. t ≤ LAST_MINUTE) row → AreBelow (LAST_MINUTE + 1) (map pos row)
 minutes_below [] h k d l = absurd (omega arith)
 minutes_below (t ∷ row) h zero d l = (t, refl, (let a = h 0 0 (omega arith) in omega arith))
 minutes_below (t ∷ row) h (suc k) d l = minutes_below row (λ n x m. h (suc n) x (omega arith)) k d (omega arith)

@@ -3,6 +3,7 @@ use Rattle.std.specs.Prelude.{◌≡◌, ◌≢◌, ◌<◌, ◌+◌, ◌-◌, �
 use Rattle.std.specs.List.{range_with_len}
 use Rattle.crew_terms.specs.Words.{Words}
 use Rattle.crew_terms.specs.Instance.{Instance}
+use Rattle.crew_terms.specs.Rules.{HasNoFrozen}
 use Rattle.crew_instance.specs.Draft.{Draft as Parts, time_of, minutes_from}
 use Rattle.dossier_terms.specs.Reading.{Reading, Said, More as Goes, No as Refuses, Form as FormDue, Sizes, Places, Travels, Teams, Tasks, Pools}
 use Rattle.dossier_terms.specs.Table.{IsSize, Says}
@@ -14,7 +15,13 @@ use Rattle.head_check.specs.declared.due.HeadStep.TheVariants.{More, No}
 
 -- the parts of an instance that a builder holds, of whose travel times the first rows are read
 abbrev pub parts_of : Parts → ℕ → Instance
-parts_of d rows = record { places = d.places; teams = d.teams; tasks = d.tasks; travel = map (λ a. minutes_from d a) (range_with_len 0 rows) }
+parts_of d rows = record {
+  places = d.places;
+  teams = d.teams;
+  tasks = d.tasks;
+  travel = map (λ a. minutes_from d a) (range_with_len 0 rows);
+  frozen = d.frozen;
+}
 
 -- how many rows of travel times are read where so many more come after the next
 abbrev pub rows_read : Head → ℕ → ℕ
@@ -39,13 +46,14 @@ IsLineDue _ = Unit {0}
 abbrev pub AreGiven : Parts → ℕ → Type 0
 AreGiven d rows = (a b : ℕ) → a < rows → b < length d.places → time_of d a b ≢ None
 
--- what holds of a head of which p places, r rows of travel times, m teams and n tasks are read
+-- what holds of a head of which p places, r rows of travel times, m teams and n tasks are read; no task has a frozen job
 pub record IsHead (head : Head) (p r m n : ℕ) : Type 0 where
   pub size : IsSize head.size
   pub places : length head.builder.places ≡ p
   pub given : AreGiven head.builder r
   pub teams : length head.builder.teams ≡ m
   pub tasks : length head.builder.tasks ≡ n
+  pub frozen : HasNoFrozen (parts_of head.builder r)
 
 -- what holds of what is held
 abbrev pub Holds : HeadDue → Type 0
@@ -55,7 +63,7 @@ Holds (Place head more) = (p : ℕ) × (p + suc more ≡ head.value.size.places)
 Holds (Travel head more) = (p : ℕ) × (p + suc more ≡ head.value.size.places) × IsHead head.value head.value.size.places p 0 0
 Holds (Team head more) = (p : ℕ) × (p + suc more ≡ head.value.size.teams) × IsHead head.value head.value.size.places head.value.size.places p 0
 Holds (Task head more) = (p : ℕ) × (p + suc more ≡ head.value.size.tasks) × IsHead head.value head.value.size.places head.value.size.places head.value.size.teams p
-Holds (Whole base) = Unit {0}
+Holds (Whole base) = HasNoFrozen base.value.instance
 
 -- this is due, and what is held stands for it
 pub record IsDue (reading : Reading) (due : HeadDue) : Type 0 where

@@ -1,9 +1,10 @@
 // The lines of an instance: `size`, `place`, `travel`, `team` and `task`.
 ghost use Rattle.std.specs.Prelude.{◌≡◌, ◌<◌, ◌≤◌, ◌+◌, ◌-◌, ℕ, List, pos, map, length, IfOk, OnOk, IsTrue};
+ghost use Rattle.crew_terms.specs.Rules.{IsTeamCount};
+ghost use Rattle.crew_terms.specs.declared.TheConstants.{LAST_MINUTE};
 ghost use Rattle.dossier_terms.specs.Table.{IsTravel, after_place, after_travel, after_team, after_task};
 ghost use Rattle.crew_instance.specs.Draft.{with_row};
 ghost use Rattle.head_check.specs.Numbers.{AreBelow, naturals};
-ghost use Rattle.head_check.specs.Ranges.{IsTaskRange};
 ghost use Rattle.dossier_terms.specs.Reading.{places_due, travels_due, teams_due, tasks_due};
 ghost use Rattle.head_check.specs.Head.{Holds, IsHead, IsStep, IsDue, Tells, parts_of, rows_read};
 
@@ -11,7 +12,7 @@ use crate::due::{Base, Head, HeadDue, HeadStep};
 use crate::numbers::{number_list, skill_set};
 use cert_format::{Expect, LineKind, Rest, fault_is_refused, read_line};
 use crew_instance::{BuildFault, Builder, Name, Task, Team};
-use dossier_terms::{Reason, Size};
+use dossier_terms::Reason;
 use field_table::LineWords;
 use std::alloc::{AllocError, Global};
 
@@ -114,27 +115,15 @@ pub fn size_line(alloc: Global, words: LineWords<'_>) -> Result<HeadStep, AllocE
         Ok(kind) => kind,
         Err(fault) => return Ok(HeadStep::No(fault.reason())),
     };
-    let LineKind::Size {
-        teams,
-        tasks,
-        places,
-        nodes,
-    } = kind
-    else {
+    let LineKind::Size { size } = kind else {
         unreachable!()
-    };
-    let size = Size {
-        teams,
-        tasks,
-        places,
-        nodes,
     };
     let head = Head {
         size,
         builder: Builder::new(alloc),
     };
     let head = Box::new(alloc, head)?;
-    Ok(HeadStep::More(due_places(alloc, head, places)?))
+    Ok(HeadStep::More(due_places(alloc, head, size.places)?))
 }
 
 /// Adds a place that a line spells.
@@ -186,7 +175,7 @@ fn set_row(
 ) -> Result<(), AllocError>
     requires place { place < length builder.old.places }
     requires count { length times.now ≡ length builder.old.places }
-    requires day { AreBelow 2881 times.now }
+    requires day { AreBelow (LAST_MINUTE + 1) times.now }
     ensures { OnOk result (builder.new ≡ with_row builder.old place (naturals times.now)) }
 {
     let row = number_list(alloc, times)?;
@@ -245,7 +234,6 @@ fn add_team(
 ) -> Result<HeadStep, AllocError>
     requires held { Holds (HeadDue.Team head more) }
     requires home { team.home < head.value.size.places }
-    requires day { team.until ≤ 2880 }
     ensures { IfOk result (Tells (after_team head.value.size more (parts_of head.value.builder head.value.size.places) team (IsTrue rises))) }
 {
     let held = &mut *head;
@@ -304,7 +292,8 @@ fn add_task(
     rises: bool,
 ) -> Result<HeadStep, AllocError>
     requires held { Holds (HeadDue.Task head more) }
-    requires ranges { IsTaskRange head.value.size.places task }
+    requires place { task.place < head.value.size.places }
+    requires teams { IsTeamCount task.teams }
     ensures { IfOk result (Tells (after_task head.value.size more (parts_of head.value.builder head.value.size.places) task (IsTrue rises))) }
 {
     let held = &mut *head;

@@ -1,20 +1,19 @@
 // The numbers at the end of a line, as the sets and lists that they say.
-ghost use Rattle.std.specs.Prelude.{◌≡◌, ◌<◌, pos, length, slice_index_or, MatchOption, IfOk};
+ghost use Rattle.std.specs.Prelude.{◌≡◌, ◌<◌, ◌+◌, pos, length, slice_index_or, MatchOption, IfOk};
 ghost use Rattle.std.specs.List.Sorted.{IsStrictlyIncreasing};
+ghost use Rattle.crew_terms.specs.declared.TheConstants.{LAST_MINUTE, MOST_TEAMS, SKILLS};
 ghost use Rattle.dossier_terms.specs.Dossier.{mask_of};
 ghost use Rattle.head_check.specs.Numbers.{AreBelow, naturals};
 
 use cert_format::Rest;
+use crew_terms::MOST_TEAMS_PER_TASK;
 use smallvec::SmallVec;
 use std::alloc::{AllocError, Global};
-
-/// A task of a legal plan has at most so many teams. A list of no more of them needs no memory of its own.
-pub const MOST_TEAMS_PER_TASK: usize = 8;
 
 /// The number at a place, which is a minute, a skill or a team.
 pub fn number_at(numbers: &Rest<'_>, n: usize) -> u32
     requires place { n < length numbers.now }
-    requires range { AreBelow 2881 numbers.now }
+    requires range { AreBelow (LAST_MINUTE + 1) numbers.now }
     ensures { slice_index_or numbers.now n (pos 0) ≡ pos result }
 {
     numbers.get(n) as u32
@@ -22,7 +21,7 @@ pub fn number_at(numbers: &Rest<'_>, n: usize) -> u32
 
 /// The set of the skills that are listed, a bit for each; None exactly where they don't rise strictly.
 pub fn skill_set(skills: &Rest<'_>) -> Option<u64>
-    requires { AreBelow 64 skills.now }
+    requires { AreBelow SKILLS skills.now }
     ensures { let ss = naturals skills.now in MatchOption result (IsStrictlyIncreasing ss → ⊥) (λ set. IsStrictlyIncreasing ss × (set ≡ mask_of ss)) }
 {
     let mut set = 0u64;
@@ -40,7 +39,7 @@ pub fn skill_set(skills: &Rest<'_>) -> Option<u64>
 
 /// The numbers at the end of a line, copied out of it.
 pub(crate) fn number_list(alloc: Global, numbers: &Rest<'_>) -> Result<Vec<u32>, AllocError>
-    requires { AreBelow 2881 numbers.now }
+    requires { AreBelow (LAST_MINUTE + 1) numbers.now }
     ensures { IfOk result (λ list. list.items ≡ naturals numbers.now) }
 {
     let mut list = Vec::with_capacity(alloc, numbers.len())?;
@@ -50,12 +49,12 @@ pub(crate) fn number_list(alloc: Global, numbers: &Rest<'_>) -> Result<Vec<u32>,
     Ok(list)
 }
 
-/// The numbers of teams, copied out of a line.
+/// The numbers of teams, copied out of a line. As many as a task may need take no memory of their own.
 pub fn team_list(
     alloc: Global,
     teams: &Rest<'_>,
 ) -> Result<SmallVec<u32, MOST_TEAMS_PER_TASK>, AllocError>
-    requires { AreBelow 64 teams.now }
+    requires { AreBelow MOST_TEAMS teams.now }
     ensures { IfOk result (λ list. list.items ≡ naturals teams.now) }
 {
     let mut list = SmallVec::new(alloc);

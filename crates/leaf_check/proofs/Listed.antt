@@ -1,45 +1,31 @@
 -- keys of rows: which come next, and what stands beside them
-use Rattle.std.proofs.Common.{◌≡◌, ◌<◌, ◌≤◌, ◌+◌, ◌-◌, ℕ, zero, suc, List, [], ◌∷◌, ◌++◌, length, get_or, take, drop, ap, sym, refl, ◌∙◌, arith, Bool, true, false, cond, ◌⊎◌, inl, inr, length-append}
+use Rattle.std.proofs.Common.{◌≡◌, ◌<◌, ◌≤◌, ◌+◌, ◌-◌, ℕ, zero, suc, List, [], ◌∷◌, ◌++◌, length, get_or, ap, sym, refl, ◌∙◌, arith, add-one, zero-add, Bool, true, false, cond, ◌⊎◌, inl, inr, length-append}
 use Rattle.std.specs.Prelude.{◌≢◌, ◌==◌, ℤ, filter, Option, None, Some}
-use Rattle.std.specs.List.{AllByRecursion}
-use Rattle.std.proofs.Math.Seq.{get_or-append_seam, drop-cons, take-suc, drop-length}
-use Rattle.std.proofs.lemmas.List.{get_or_append_left, take-append-drop, append-nil, drop_all}
+use Rattle.std.specs.List.{AllByRecursion, range_with_len}
+use Rattle.std.proofs.lemmas.List.{append-nil}
 use Rattle.std.proofs.lemmas.List.Elements.{filter-append}
 use Rattle.std.proofs.lemmas.Bool.{cases_lt, eq-eqb, ne_eqb}
-use Rattle.dossier_terms.specs.Dossier.{below, beside}
-use Rattle.leaf_check.specs.Keys.{IsNextKey, IsRowDue, AreLeft, keys_from}
+use Rattle.dossier_terms.specs.Dossier.{beside}
+use Rattle.leaf_check.specs.Keys.{IsNextKey, IsRowDue, AreLeft, keys_below, keys_from}
 
--- ---- the numbers below another
+-- ---- numbers in a row
 
-pub length-below : (n : ℕ) → length (below n) ≡ n
-length-below zero = refl
-length-below (suc n) = let a = length-below n in omega (arith, length-append (below n) (n ∷ []))
+range_append : (a m n : ℕ) → range_with_len a (m + n) ≡ range_with_len a m ++ range_with_len (a + m) n
+range_append a zero n =
+    let e : a ≡ a + 0 = omega arith in
+    ap (range_with_len a) (zero-add n) ∙ ap (λ b. range_with_len b n) e
+range_append a (suc m) n =
+    let e : suc m + n ≡ suc (m + n) = omega arith in
+    let f : a + 1 + m ≡ a + suc m = omega arith in
+    ap (range_with_len a) e ∙ ap (λ xs. a ∷ xs) (range_append (a + 1) m n ∙ ap (λ b. range_with_len (a + 1) m ++ range_with_len b n) f)
 
-pub get_below : (n i d : ℕ) → i < n → get_or (below n) i d ≡ i
-get_below zero i d l = absurd (omega arith)
-get_below (suc n) i d l = at (cases_lt i n) (get_below n i d)
-  where
-    at : (i < n) ⊎ (n ≤ i) → (i < n → get_or (below n) i d ≡ i) → get_or (below n ++ n ∷ []) i d ≡ i
-    at (inl lt) k = get_or_append_left (below n) (n ∷ []) d i (let e = length-below n in omega arith) ∙ k lt
-    at (inr le) k =
-        let e : i ≡ length (below n) = let e = length-below n in omega arith in
-        let f : n ≡ i = omega arith in
-        ap (λ m. get_or (below n ++ n ∷ []) m d) e ∙ get_or-append_seam (below n) n [] d ∙ f
+range_more : (n : ℕ) → range_with_len 0 (suc n) ≡ range_with_len 0 n ++ n ∷ []
+range_more n = ap (range_with_len 0) (sym (add-one n)) ∙ range_append 0 n 1 ∙ ap (λ m. range_with_len 0 n ++ m ∷ []) (zero-add n)
 
-drop_below : (n j : ℕ) → j < n → drop j (below n) ≡ j ∷ drop (suc j) (below n)
-drop_below n j l =
-    drop-cons (below n) j 0 (let e = length-below n in omega arith)
-    ∙ ap (λ x. x ∷ drop (suc j) (below n)) (get_below n j 0 l)
-
-drop_end : (n : ℕ) → drop n (below n) ≡ []
-drop_end n = ap (λ m. drop m (below n)) (sym (length-below n)) ∙ drop-length (below n)
-
-take_below : (n j : ℕ) → j ≤ n → take j (below n) ≡ below j
-take_below n zero l = refl
-take_below n (suc j) l =
-    take-suc (below n) j 0 (let e = length-below n in omega arith)
-    ∙ ap (λ xs. xs ++ get_or (below n) j 0 ∷ []) (take_below n j (omega arith))
-    ∙ ap (λ x. below j ++ x ∷ []) (get_below n j 0 (omega arith))
+range_split : (n j : ℕ) → j ≤ n → range_with_len 0 n ≡ range_with_len 0 j ++ range_with_len j (n - j)
+range_split n j l =
+    let e : n ≡ j + (n - j) = omega arith in
+    ap (range_with_len 0) e ∙ range_append 0 j (n - j) ∙ ap (λ m. range_with_len 0 j ++ range_with_len m (n - j)) (zero-add j)
 
 -- ---- the keys from a number on
 
@@ -50,20 +36,28 @@ module _ (p : ℕ → Bool) where
   keep : (x : ℕ) (xs : List ℕ) → p x ≡ true → filter p (x ∷ xs) ≡ x ∷ filter p xs
   keep x xs h = ap (λ b. cond b (x ∷ filter p xs) (filter p xs)) h
 
-  pub keys_split : (n j : ℕ) → j ≤ n → filter p (below n) ≡ filter p (below j) ++ keys_from p n j
-  keys_split n j l =
-      ap (filter p) (sym (take-append-drop j (below n)))
-      ∙ filter-append p (take j (below n)) (drop j (below n))
-      ∙ ap (λ xs. filter p xs ++ keys_from p n j) (take_below n j l)
+  pub keys_split : (n j : ℕ) → j ≤ n → keys_below p n ≡ keys_below p j ++ keys_from p n j
+  keys_split n j l = ap (filter p) (range_split n j l) ∙ filter-append p (range_with_len 0 j) (range_with_len j (n - j))
+
+  pub keys_all : (n : ℕ) → keys_below p n ≡ keys_from p n 0
+  keys_all n = let e : n ≡ n - 0 = omega arith in ap (λ m. filter p (range_with_len 0 m)) e
+
+  -- the number itself, and those after it
+  range_first : (n j : ℕ) → j < n → range_with_len j (n - j) ≡ j ∷ range_with_len (suc j) (n - suc j)
+  range_first n j l =
+      let e : n - j ≡ suc (n - suc j) = omega arith in
+      ap (range_with_len j) e ∙ ap (λ m. j ∷ range_with_len m (n - suc j)) (add-one j)
 
   keys_skip : (n j : ℕ) → j < n → p j ≡ false → keys_from p n j ≡ keys_from p n (suc j)
-  keys_skip n j l h = ap (filter p) (drop_below n j l) ∙ skip j (drop (suc j) (below n)) h
+  keys_skip n j l h = ap (filter p) (range_first n j l) ∙ skip j (range_with_len (suc j) (n - suc j)) h
 
   pub keys_keep : (n j : ℕ) → j < n → p j ≡ true → keys_from p n j ≡ j ∷ keys_from p n (suc j)
-  keys_keep n j l h = ap (filter p) (drop_below n j l) ∙ keep j (drop (suc j) (below n)) h
+  keys_keep n j l h = ap (filter p) (range_first n j l) ∙ keep j (range_with_len (suc j) (n - suc j)) h
 
-  keys_end : (n : ℕ) → keys_from p n n ≡ []
-  keys_end n = ap (filter p) (drop_end n)
+  keys_end : (n from : ℕ) → n ≤ from → keys_from p n from ≡ []
+  keys_end n from l =
+      let e : n - from ≡ 0 = omega arith in
+      ap (λ m. filter p (range_with_len from m)) e
 
   -- none of so many numbers is a key
   keys_gap : (n from gap : ℕ) → from + gap ≤ n → ((i : ℕ) → from ≤ i → i < from + gap → p i ≡ false) → keys_from p n from ≡ keys_from p n (from + gap)
@@ -85,22 +79,23 @@ module _ (p : ℕ → Bool) where
   keys_over n from h = at (cases_lt from n)
     where
       at : (from < n) ⊎ (n ≤ from) → keys_from p n from ≡ []
-      at (inl l) = keys_to n from n (omega arith) (omega arith) h ∙ keys_end n
-      at (inr l) = ap (filter p) (drop_all from (below n) (let e = length-below n in omega arith))
+      at (inl l) = keys_to n from n (omega arith) (omega arith) h ∙ keys_end n n (omega arith)
+      at (inr l) = keys_end n from l
 
   -- the keys below the next one are those below the number that it is sought from
-  pub keys_before : (n from j : ℕ) → IsNextKey p n from (Some j) → filter p (below j) ≡ filter p (below from)
+  pub keys_before : (n from j : ℕ) → IsNextKey p n from (Some j) → keys_below p j ≡ keys_below p from
   keys_before n from j h =
       keys_split j from h.0
-      ∙ ap (λ xs. filter p (below from) ++ xs) (keys_to j from j h.0 (omega arith) h.3 ∙ keys_end j)
-      ∙ append-nil (filter p (below from))
+      ∙ ap (λ xs. keys_below p from ++ xs) (keys_to j from j h.0 (omega arith) h.3 ∙ keys_end j j (omega arith))
+      ∙ append-nil (keys_below p from)
 
   -- the keys below the number after a key
-  pub keys_with : (j : ℕ) → p j ≡ true → filter p (below (suc j)) ≡ filter p (below j) ++ j ∷ []
-  keys_with j h = filter-append p (below j) (j ∷ []) ∙ ap (λ xs. filter p (below j) ++ xs) (keep j [] h)
+  pub keys_with : (j : ℕ) → p j ≡ true → keys_below p (suc j) ≡ keys_below p j ++ j ∷ []
+  keys_with j h = ap (filter p) (range_more j) ∙ filter-append p (range_with_len 0 j) (j ∷ []) ∙ ap (λ xs. keys_below p j ++ xs) (keep j [] h)
 
-  pub keys_without : (j : ℕ) → p j ≡ false → filter p (below (suc j)) ≡ filter p (below j)
-  keys_without j h = filter-append p (below j) (j ∷ []) ∙ ap (λ xs. filter p (below j) ++ xs) (skip j [] h) ∙ append-nil (filter p (below j))
+  pub keys_without : (j : ℕ) → p j ≡ false → keys_below p (suc j) ≡ keys_below p j
+  keys_without j h =
+      ap (filter p) (range_more j) ∙ filter-append p (range_with_len 0 j) (j ∷ []) ∙ ap (λ xs. keys_below p j ++ xs) (skip j [] h) ∙ append-nil (keys_below p j)
 
   -- a number is not among the keys below it
   absent_one : (j x : ℕ) (xs : List ℕ) → x ≢ j → AllByRecursion (λ k. k ≢ j) (filter p xs) → (b : Bool) → AllByRecursion (λ k. k ≢ j) (cond b (x ∷ filter p xs) (filter p xs))
@@ -111,16 +106,12 @@ module _ (p : ℕ → Bool) where
   absent [] j h = h
   absent (x ∷ xs) j h = absent_one j x xs h.0 (absent xs j h.1) (p x)
 
-  pub not_below : (j : ℕ) → AllByRecursion (λ k. k ≢ j) (filter p (below j))
-  not_below j = absent (below j) j (others j (omega arith))
+  pub not_below : (j : ℕ) → AllByRecursion (λ k. k ≢ j) (keys_below p j)
+  not_below j = absent (range_with_len 0 j) j (others 0 j (omega arith))
     where
-      snoc : (xs : List ℕ) (m : ℕ) → m ≢ j → AllByRecursion (λ k. k ≢ j) xs → AllByRecursion (λ k. k ≢ j) (xs ++ m ∷ [])
-      snoc [] m l h = (l, h)
-      snoc (x ∷ xs) m l h = (h.0, snoc xs m l h.1)
-
-      others : (m : ℕ) → m ≤ j → AllByRecursion (λ k. k ≢ j) (below m)
-      others zero l = tt
-      others (suc m) l = snoc (below m) m (λ e. absurd (omega arith)) (others m (omega arith))
+      others : (a m : ℕ) → a + m ≤ j → AllByRecursion (λ k. k ≢ j) (range_with_len a m)
+      others a zero l = tt
+      others a (suc m) l = ((λ e. absurd (omega arith)), others (a + 1) m (omega arith))
 
 -- ---- what stands beside a key
 
@@ -167,29 +158,29 @@ beside_same (i ∷ ks) k key (v ∷ vs) none h = ap (cond (i == key) v) (beside_
 -- ---- rows
 
 module _ (p : ℕ → Bool) (n : ℕ) (rows : List (List ℤ)) (j : ℕ) (js : List ℕ) (due : IsRowDue p n rows j js) where
-  all_keys : filter p (below n) ≡ filter p (below j) ++ j ∷ js
+  all_keys : keys_below p n ≡ keys_below p j ++ j ∷ js
   all_keys =
       keys_split p n j (let l = due.known in omega arith)
-      ∙ ap (λ xs. filter p (below j) ++ xs) (keys_keep p n j due.known due.key ∙ ap (λ xs. j ∷ xs) (sym due.later))
+      ∙ ap (λ xs. keys_below p j ++ xs) (keys_keep p n j due.known due.key ∙ ap (λ xs. j ∷ xs) (sym due.later))
 
-  pub row_new : (row none : List ℤ) → beside (filter p (below n)) (rows ++ row ∷ []) j none ≡ row
+  pub row_new : (row none : List ℤ) → beside (keys_below p n) (rows ++ row ∷ []) j none ≡ row
   row_new row none =
       ap (λ ks. beside ks (rows ++ row ∷ []) j none) all_keys
-      ∙ beside_past (filter p (below j)) (j ∷ js) rows (row ∷ []) j none due.read (not_below p j)
+      ∙ beside_past (keys_below p j) (j ∷ js) rows (row ∷ []) j none due.read (not_below p j)
       ∙ hit j js row [] none
 
   -- a row that is not read yet
-  pub row_absent : (none : List ℤ) → beside (filter p (below n)) rows j none ≡ none
+  pub row_absent : (none : List ℤ) → beside (keys_below p n) rows j none ≡ none
   row_absent none =
       ap (λ ks. beside ks rows j none) all_keys
-      ∙ ap (λ xs. beside (filter p (below j) ++ j ∷ js) xs j none) (sym (append-nil rows))
-      ∙ beside_past (filter p (below j)) (j ∷ js) rows [] j none due.read (not_below p j)
+      ∙ ap (λ xs. beside (keys_below p j ++ j ∷ js) xs j none) (sym (append-nil rows))
+      ∙ beside_past (keys_below p j) (j ∷ js) rows [] j none due.read (not_below p j)
 
-  pub row_other : (row none : List ℤ) (key : ℕ) → key ≢ j → beside (filter p (below n)) (rows ++ row ∷ []) key none ≡ beside (filter p (below n)) rows key none
+  pub row_other : (row none : List ℤ) (key : ℕ) → key ≢ j → beside (keys_below p n) (rows ++ row ∷ []) key none ≡ beside (keys_below p n) rows key none
   row_other row none key differ =
       ap (λ ks. beside ks (rows ++ row ∷ []) key none) all_keys
-      ∙ beside_later (filter p (below j)) (j ∷ js) rows (row ∷ []) [] key none due.read (miss j key js row [] none (λ e. differ (sym e)) ∙ beside_nothing js key none)
-      ∙ ap (λ xs. beside (filter p (below j) ++ j ∷ js) xs key none) (append-nil rows)
+      ∙ beside_later (keys_below p j) (j ∷ js) rows (row ∷ []) [] key none due.read (miss j key js row [] none (λ e. differ (sym e)) ∙ beside_nothing js key none)
+      ∙ ap (λ xs. beside (keys_below p j ++ j ∷ js) xs key none) (append-nil rows)
       ∙ ap (λ ks. beside ks rows key none) (sym all_keys)
 
   -- the keys that are left after this row
@@ -203,8 +194,8 @@ module _ (p : ℕ → Bool) (n : ℕ) (rows : List (List ℤ)) (j : ℕ) (js : L
       key = h.2;
       read =
           let e : length (rows ++ row ∷ []) ≡ length rows + 1 = length-append rows (row ∷ []) in
-          let f : length (filter p (below i)) ≡ length (filter p (below j) ++ j ∷ []) = ap length (keys_before p n (suc j) i h ∙ keys_with p j due.key) in
-          let g = length-append (filter p (below j)) (j ∷ []) in
+          let f : length (keys_below p i) ≡ length (keys_below p j ++ j ∷ []) = ap length (keys_before p n (suc j) i h ∙ keys_with p j due.key) in
+          let g = length-append (keys_below p j) (j ∷ []) in
           let r = due.read in
           omega arith;
       later = refl;
@@ -212,11 +203,11 @@ module _ (p : ℕ → Bool) (n : ℕ) (rows : List (List ℤ)) (j : ℕ) (js : L
   )
 
 -- the keys that are left before the first row
-pub left_first : (p : ℕ → Bool) (n : ℕ) (next : Option ℕ) → IsNextKey p n 0 next → AreLeft p n [] next (filter p (below n))
-left_first p n None h = keys_over p n 0 h
+pub left_first : (p : ℕ → Bool) (n : ℕ) (next : Option ℕ) → IsNextKey p n 0 next → AreLeft p n [] next (keys_below p n)
+left_first p n None h = keys_all p n ∙ keys_over p n 0 h
 left_first p n (Some i) h = (
   keys_from p n (suc i),
-  keys_next p n 0 i h,
+  keys_all p n ∙ keys_next p n 0 i h,
   record {
     known = h.1;
     key = h.2;

@@ -3,8 +3,8 @@ use Rattle.std.proofs.Common.{◌≡◌, ◌<◌, ◌≤◌, ◌+◌, ◌-◌, �
 use Rattle.std.specs.Prelude.{◌≢◌, ℤ, pos, Option, None, Some}
 use Rattle.std.proofs.lemmas.Bool.{cases_lt, cases_eq, lt-ltb}
 use Rattle.crew_terms.specs.Limits.{Limits, IsPermittedVisit, tasks_in}
-use Rattle.dossier_terms.specs.Dossier.{Potentials, first_minute, minute_count, phi_in}
-use Rattle.dossier_laws.specs.Listed.{IsMinuteOf}
+use Rattle.dossier_terms.specs.Dossier.{Potentials, phi_in}
+use Rattle.crew_terms.specs.Minutes.{first_minute, minute_count, IsMinuteOf}
 use Rattle.node_limits.specs.Minutes.{AreMinutes, HasNoMinute}
 use Rattle.potentials.specs.Table.{Row, phi}
 use Rattle.leaf_check.specs.Keys.{AreCounted, IsNextKey, IsRowDue, has_minutes}

@@ -1,20 +1,23 @@
 -- prices that are set one by one
-use Rattle.std.proofs.Common.{◌≡◌, ◌<◌, ◌≤◌, ◌+◌, ℕ, zero, suc, ℤ, List, [], ◌∷◌, ◌++◌, length, get_or, set, take, drop, ap, sym, subst, refl, ◌∙◌, arith, Bool, true, false, cond, ◌⊎◌, inl, inr, length-append, add-one, get_or-set_same, get_or-set_other}
-use Rattle.std.specs.Prelude.{◌≢◌, pos, filter, map}
+use Rattle.std.proofs.Common.{◌≡◌, ◌<◌, ◌≤◌, ◌+◌, ℕ, zero, suc, ℤ, List, [], ◌∷◌, ◌++◌, length, get_or, set, take, ap, sym, subst, refl, ◌∙◌, arith, Bool, true, false, cond, ◌⊎◌, inl, inr, length-append, add-one, zero-add, get_or-set_same, get_or-set_other}
+use Rattle.std.specs.Prelude.{◌≢◌, pos, map}
 use Rattle.std.proofs.lemmas.Bool.{cases_eq, cases_Bool}
-use Rattle.std.proofs.lemmas.List.{length-set, length-map, get_or-map, ext_get_or, take_more, take_more_set}
+use Rattle.std.proofs.lemmas.List.{length-set, ext_get_or, take_more, take_more_set}
 use Rattle.std.proofs.lemmas.List.Elements.{All-get_or, All-set}
-use Rattle.std.specs.List.{count_by}
+use Rattle.std.specs.List.{count_by, range_with_len}
 use Rattle.std.proofs.lemmas.List.Sums.{length-filter, count_by-le-length, count_by_more_yes, count_by_more_no}
+use Rattle.std.proofs.lemmas.List.FromFn.{length-range_with_len, length-map-range_with_len, get_or-map-range_with_len}
 use Rattle.crew_terms.specs.declared.Pair.{Pair}
 use Rattle.crew_terms.specs.declared.Pair.TheVariants.{Free}
 use Rattle.std.proofs.Math.Seq.{take-length}
 use Rattle.crew_terms.specs.Limits.{Limits, pair_of, is_required, tasks_in, teams_in}
 use Rattle.crew_terms.specs.Leaf.{Prices, rho_of}
-use Rattle.dossier_terms.specs.Dossier.{Leaf, below, beside, extra_of, prices_of, required_teams}
+use Rattle.dossier_terms.specs.Dossier.{Leaf, beside, extra_of, prices_of}
+use Rattle.crew_terms.specs.Minutes.{required_teams}
 use Rattle.potentials.specs.Prices.{with_rho}
+use Rattle.leaf_check.specs.Keys.{keys_below, keys_from}
 use Rattle.leaf_check.specs.Prices.{ArePricesIn, SamePairsBut}
-use Rattle.leaf_check.proofs.Listed.{length-below, get_below, keys_split, keys_keep, keys_with, keys_without, not_below, beside_more, beside_same}
+use Rattle.leaf_check.proofs.Listed.{keys_split, keys_keep, keys_with, keys_without, not_below, beside_more, beside_same}
 
 -- ---- one price
 
@@ -60,7 +63,7 @@ pub record Cleared (n : Limits) (old new : Prices) (j k : ℕ) : Type 0 where
 -- ---- the required pairs of a task that are set to the given numbers, team by team
 
 abbrev pub required_below : Limits → ℕ → ℕ → List ℕ
-required_below n j k = filter (λ k. is_required (pair_of n k j)) (below k)
+required_below n j k = keys_below (λ k. is_required (pair_of n k j)) k
 
 pub record Given (n : Limits) (old new : Prices) (j k : ℕ) (given : List ℤ) (read : ℕ) : Type 0 where
   pub prices : ArePricesIn n new
@@ -72,17 +75,17 @@ pub record Given (n : Limits) (old new : Prices) (j k : ℕ) (given : List ℤ) 
 pub given_few : (n : Limits) (j k : ℕ) → length (required_below n j k) ≤ k
 given_few n j k =
     let p : ℕ → Bool = λ k. is_required (pair_of n k j) in
-    let e = length-filter p (below k) in
-    let f = count_by-le-length p (below k) in
-    let g = length-below k in
+    let e = length-filter p (range_with_len 0 k) in
+    let f = count_by-le-length p (range_with_len 0 k) in
+    let g = length-range_with_len 0 k in
     omega arith
 
 -- there is a number left for a required pair
 pub given_left : (n : Limits) (j k : ℕ) (given : List ℤ) → k < teams_in n → length given ≡ length (required_teams n j) → is_required (pair_of n k j) ≡ true → length (required_below n j k) < length given
 given_left n j k given team count is =
     let p : ℕ → Bool = λ k. is_required (pair_of n k j) in
-    let e = ap length (keys_split p (teams_in n) k (omega arith) ∙ ap (λ xs. filter p (below k) ++ xs) (keys_keep p (teams_in n) k team is)) in
-    let f = length-append (filter p (below k)) (k ∷ filter p (drop (suc k) (below (teams_in n)))) in
+    let e = ap length (keys_split p (teams_in n) k (omega arith) ∙ ap (λ xs. keys_below p k ++ xs) (keys_keep p (teams_in n) k team is)) in
+    let f = length-append (keys_below p k) (k ∷ keys_from p (teams_in n) (suc k)) in
     omega arith
 
 module _ (n : Limits) (old new : Prices) (j k : ℕ) (given : List ℤ) (read : ℕ) (team : k < teams_in n) (task : j < tasks_in n) (so : Given n old new j k given read) where
@@ -199,10 +202,8 @@ tasks_more n old cleared new j given task count so are but zeros e = subst (λ p
 
 pub rho_at : (n : Limits) (leaf : Leaf) (k j : ℕ) → k < teams_in n → j < tasks_in n → rho_of (prices_of n leaf) k j ≡ extra_of n leaf k j
 rho_at n leaf k j lt l =
-    let e = length-below (teams_in n) in
-    let f = length-below (tasks_in n) in
-    ap (λ r. get_or r j (pos 0)) (get_or-map (λ k. map (extra_of n leaf k) (below (tasks_in n))) (below (teams_in n)) k 0 [] (omega arith) ∙ ap (λ k. map (extra_of n leaf k) (below (tasks_in n))) (get_below (teams_in n) k 0 lt))
-    ∙ get_or-map (extra_of n leaf k) (below (tasks_in n)) j 0 (pos 0) (omega arith) ∙ ap (extra_of n leaf k) (get_below (tasks_in n) j 0 l)
+    ap (λ r. get_or r j (pos 0)) (get_or-map-range_with_len (λ k. map (extra_of n leaf k) (range_with_len 0 (tasks_in n))) 0 (teams_in n) k k [] lt (zero-add k))
+    ∙ get_or-map-range_with_len (extra_of n leaf k) 0 (tasks_in n) j j (pos 0) l (zero-add j)
 
 -- prices are those of a leaf where each of them is
 pub prices_by_each : (n : Limits) (leaf : Leaf) (p : Prices) → ArePricesIn n p → p.pi ≡ leaf.prices
@@ -213,15 +214,13 @@ prices_by_each n leaf p are tasks each = ap (λ pi. record { pi = pi; rho = p.rh
     teams = are.prices.teams
 
     written_teams : length (prices_of n leaf).rho ≡ teams_in n
-    written_teams = length-map (below (teams_in n)) (λ k. map (extra_of n leaf k) (below (tasks_in n))) ∙ length-below (teams_in n)
+    written_teams = length-map-range_with_len (λ k. map (extra_of n leaf k) (range_with_len 0 (tasks_in n))) 0 (teams_in n)
 
-    written_row : (k : ℕ) → k < teams_in n → get_or (prices_of n leaf).rho k [] ≡ map (extra_of n leaf k) (below (tasks_in n))
-    written_row k l =
-        get_or-map (λ k. map (extra_of n leaf k) (below (tasks_in n))) (below (teams_in n)) k 0 [] (let e = length-below (teams_in n) in omega arith)
-        ∙ ap (λ k. map (extra_of n leaf k) (below (tasks_in n))) (get_below (teams_in n) k 0 l)
+    written_row : (k : ℕ) → k < teams_in n → get_or (prices_of n leaf).rho k [] ≡ map (extra_of n leaf k) (range_with_len 0 (tasks_in n))
+    written_row k l = get_or-map-range_with_len (λ k. map (extra_of n leaf k) (range_with_len 0 (tasks_in n))) 0 (teams_in n) k k [] l (zero-add k)
 
     written_length : (k : ℕ) → k < teams_in n → length (get_or (prices_of n leaf).rho k []) ≡ tasks_in n
-    written_length k l = ap length (written_row k l) ∙ length-map (below (tasks_in n)) (extra_of n leaf k) ∙ length-below (tasks_in n)
+    written_length k l = ap length (written_row k l) ∙ length-map-range_with_len (extra_of n leaf k) 0 (tasks_in n)
 
     kept_length : (k : ℕ) → k < teams_in n → length (get_or p.rho k []) ≡ tasks_in n
     kept_length k l = All-get_or (λ r. length r ≡ tasks_in n) p.rho k [] (let e = teams in omega arith) are.columns

@@ -5,7 +5,8 @@ use Rattle.std.proofs.lemmas.Bool.{cases_eq}
 use Rattle.std.proofs.lemmas.List.{take-set}
 use Rattle.crew_terms.specs.Limits.{Limits, has_required, tasks_in, teams_in}
 use Rattle.crew_terms.specs.Leaf.{Prices, rho_of}
-use Rattle.dossier_terms.specs.Dossier.{Leaf, beside, extra_of, prices_of, priced, required_teams, worths_of}
+use Rattle.dossier_terms.specs.Dossier.{Leaf, beside, extra_of, prices_of, worths_of}
+use Rattle.crew_terms.specs.Minutes.{priced, required_teams}
 use Rattle.leaf_check.specs.Keys.{IsRowDue}
 use Rattle.leaf_check.specs.Prices.{ArePricesIn, SamePairsBut}
 use Rattle.leaf_check.specs.Reader.{priced_leaf}

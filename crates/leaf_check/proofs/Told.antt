@@ -4,18 +4,18 @@ use Rattle.std.specs.Prelude.{ℤ, pos, ◌≤ℤ◌, ◌+ℤ◌}
 use Rattle.std.proofs.lemmas.List.{map-append, take_more}
 use Rattle.std.proofs.Math.Seq.{take-length}
 use Rattle.crew_terms.specs.Limits.{Limits, IsPermittedVisit, has_required, tasks_in, teams_in}
-use Rattle.crew_terms.specs.Leaf.{Prices as TaskPrices, Proves, bound_of, reward}
+use Rattle.crew_terms.specs.Leaf.{Prices as TaskPrices, Proves, bound_of, reward, HoldsPotential, HoldsWorth}
 use Rattle.crew_terms.specs.Plan.{unassigned_count}
 use Rattle.dossier_terms.specs.declared.Reason.TheVariants.{Bound, Potential, Worth as LowWorth}
 use Rattle.dossier_terms.specs.Dossier.{Leaf, Potentials, phi_in, prices_of, worths_of}
-use Rattle.dossier_terms.specs.Reading.{Reading, Said, Place, More as Goes, No as Refuses, Extras, Worths, Phis, limits_of, leaf_done}
+use Rattle.dossier_terms.specs.Reading.{Reading, Said, More as Goes, No as Refuses, Extras, Worths, Phis, limits_of, leaf_done, LeafSite}
 use Rattle.dossier_terms.specs.Rules.{Holds, Fails, HoldsOfAll, FailsAt, On}
-use Rattle.dossier_terms.specs.Table.{HoldsPotential, HoldsWorth, Says, after_extra, after_phi, after_table, extra_row, phi_row, price_row, worth_row}
+use Rattle.dossier_terms.specs.Table.{Says, after_extra, after_phi, after_table, extra_row, phi_row, price_row, worth_row}
 use Rattle.potentials.specs.Table.{phi}
 use Rattle.potentials.specs.Rules.{IsLocalVerdict}
 use Rattle.potentials.specs.declared.rules.LocalVerdict.TheVariants as verdicts
 use Rattle.leaf_check.specs.Keys.{IsRowDue, has_minutes}
-use Rattle.leaf_check.specs.Reader.{HasRead, HasPotentials, StandsFor, AtPrices, AtExtras, AtWorths, AtPhis, Tells, TellsMore, TellsDone, TellsNo, priced_leaf}
+use Rattle.leaf_check.specs.Reader.{HasRead, HasPotentials, StandsFor, AtPrices, AtExtras, AtWorths, AtPhis, LeafTells, TellsMore, TellsDone, TellsNo, priced_leaf}
 use Rattle.crew_terms.specs.Words.{Words}
 use Rattle.leaf_check.specs.declared.reader.LeafDue.{LeafDue}
 use Rattle.leaf_check.specs.declared.reader.LeafDue.TheVariants as due
@@ -24,31 +24,31 @@ use Rattle.leaf_check.specs.declared.reader.LeafStep.{LeafStep}
 use Rattle.leaf_check.specs.declared.reader.LeafStep.TheVariants.{More, Done, No}
 
 -- what some rules tell is told by the rules that they are the rest of
-pub tells_rest : (a : Place) (Rest Rules : Said → Type 0) (step : LeafStep) (new : LeafReader) → ((said : Said) → Rest said → Rules said) → Tells a Rest step new → Tells a Rules step new
+pub tells_rest : (a : LeafSite) (Rest Rules : Said → Type 0) (step : LeafStep) (new : LeafReader) → ((said : Said) → Rest said → Rules said) → LeafTells a Rest step new → LeafTells a Rules step new
 tells_rest a Rest Rules step new f (TellsMore next says stands is) = TellsMore next (f (Goes next) says) stands is
 tells_rest a Rest Rules step new f (TellsDone leaf says is) = TellsDone leaf (f (Goes (leaf_done a leaf)) says) is
 tells_rest a Rest Rules step new f (TellsNo reason says is) = TellsNo reason (f (Refuses reason) says) is
 
 -- ---- a line is due
 
-pub extra_due : (a : Place) (n : Limits) (r : LeafReader) (prices : List ℤ) (rows : List (List ℤ)) (j : ℕ) (js all : List ℕ) → limits_of a ≡ n → r.due ≡ due.Extra j
-    → HasRead n r (priced_leaf prices rows) → all ≡ j ∷ js → IsRowDue (has_required n) (tasks_in n) rows j js → Tells a (after_extra a prices rows all) More r
+pub extra_due : (a : LeafSite) (n : Limits) (r : LeafReader) (prices : List ℤ) (rows : List (List ℤ)) (j : ℕ) (js all : List ℕ) → limits_of a ≡ n → r.due ≡ due.Extra j
+    → HasRead n r (priced_leaf prices rows) → all ≡ j ∷ js → IsRowDue (has_required n) (tasks_in n) rows j js → LeafTells a (after_extra a prices rows all) More r
 extra_due a n r prices rows j js all e line read keys row =
-    subst (λ ks. Tells a (after_extra a prices rows ks) More r) (sym keys)
+    subst (λ ks. LeafTells a (after_extra a prices rows ks) More r) (sym keys)
     (TellsMore (Extras a prices rows j js) (On refl)
     (AtExtras prices rows j js line (subst (λ m. HasRead m r (priced_leaf prices rows)) (sym e) read) (subst (λ m. IsRowDue (has_required m) (tasks_in m) rows j js) (sym e) row) refl) refl)
 
-pub worth_due : (a : Place) (n : Limits) (r : LeafReader) (leaf : Leaf) (team left : ℕ) → limits_of a ≡ n → r.due ≡ due.Worth team → length leaf.tables ≡ team
-    → HasRead n r leaf → team + suc left ≡ teams_in n → Tells a (after_table a leaf (suc left)) More r
+pub worth_due : (a : LeafSite) (n : Limits) (r : LeafReader) (leaf : Leaf) (team left : ℕ) → limits_of a ≡ n → r.due ≡ due.Worth team → length leaf.tables ≡ team
+    → HasRead n r leaf → team + suc left ≡ teams_in n → LeafTells a (after_table a leaf (suc left)) More r
 worth_due a n r leaf team left e line count read teams =
     TellsMore (Worths a leaf.prices leaf.extras leaf.tables left) (On refl)
     (AtWorths leaf left (line ∙ ap due.Worth (sym count)) (subst (λ m. HasRead m r leaf) (sym e) read) (ap (λ k. k + suc left) count ∙ teams ∙ ap teams_in (sym e)) refl) refl
 
-pub phi_due : (a : Place) (n : Limits) (r : LeafReader) (leaf : Leaf) (team left : ℕ) (table : Potentials) (j : ℕ) (js all : List ℕ) → limits_of a ≡ n → r.due ≡ due.Phi team j → length leaf.tables ≡ team
+pub phi_due : (a : LeafSite) (n : Limits) (r : LeafReader) (leaf : Leaf) (team left : ℕ) (table : Potentials) (j : ℕ) (js all : List ℕ) → limits_of a ≡ n → r.due ≡ due.Phi team j → length leaf.tables ≡ team
     → HasRead n r leaf → team + suc left ≡ teams_in n → HasPotentials n r team table j → all ≡ j ∷ js → IsRowDue (has_minutes n team) (tasks_in n) table.phi j js
-    → Tells a (after_phi a leaf.prices leaf.extras leaf.tables left table.worth table.phi all) More r
+    → LeafTells a (after_phi a leaf.prices leaf.extras leaf.tables left table.worth table.phi all) More r
 phi_due a n r leaf team left table j js all e line count read teams potentials keys row =
-    subst (λ ks. Tells a (after_phi a leaf.prices leaf.extras leaf.tables left table.worth table.phi ks) More r) (sym keys)
+    subst (λ ks. LeafTells a (after_phi a leaf.prices leaf.extras leaf.tables left table.worth table.phi ks) More r) (sym keys)
     (TellsMore (Phis a leaf.prices leaf.extras leaf.tables left table.worth table.phi j js) (On refl)
     (AtPhis leaf left table j js
     (line ∙ ap (λ k. due.Phi k j) (sym count))
@@ -59,37 +59,37 @@ phi_due a n r leaf team left table j js all e line count read teams potentials k
     refl) refl)
 
 -- where teams are left
-pub worth_due_for : (a : Place) (n : Limits) (r : LeafReader) (leaf : Leaf) (team left : ℕ) → limits_of a ≡ n → r.due ≡ due.Worth team → length leaf.tables ≡ team
-    → HasRead n r leaf → team + left ≡ teams_in n → team < teams_in n → Tells a (after_table a leaf left) More r
+pub worth_due_for : (a : LeafSite) (n : Limits) (r : LeafReader) (leaf : Leaf) (team left : ℕ) → limits_of a ≡ n → r.due ≡ due.Worth team → length leaf.tables ≡ team
+    → HasRead n r leaf → team + left ≡ teams_in n → team < teams_in n → LeafTells a (after_table a leaf left) More r
 worth_due_for a n r leaf team zero e line count read teams less = absurd (omega arith)
 worth_due_for a n r leaf team (suc left) e line count read teams less = worth_due a n r leaf team left e line count read teams
 
 -- ---- the end of a leaf
 
 -- the bound of the kept prices and worths is the one of the leaf
-pub bound_at : (a : Place) (n : Limits) (r : LeafReader) (leaf : Leaf) (worths : List ℤ) → limits_of a ≡ n → HasRead n r leaf → length leaf.tables ≡ teams_in n → length r.worths.items ≡ teams_in n
+pub bound_at : (a : LeafSite) (n : Limits) (r : LeafReader) (leaf : Leaf) (worths : List ℤ) → limits_of a ≡ n → HasRead n r leaf → length leaf.tables ≡ teams_in n → length r.worths.items ≡ teams_in n
     → worths ≡ r.worths.items → bound_of n r.prices worths ≡ bound_of (limits_of a) (prices_of (limits_of a) leaf) (worths_of leaf)
 bound_at a n r leaf worths e read count all is =
     ap (λ p. bound_of n p worths) read.prices
     ∙ ap (bound_of n (prices_of n leaf)) (is ∙ sym (take-length r.worths.items) ∙ ap (λ k. take k r.worths.items) (all ∙ sym count) ∙ read.worths)
     ∙ ap (λ m. bound_of m (prices_of m leaf) (worths_of leaf)) (sym e)
 
-module _ (a : Place) (n : Limits) (r : LeafReader) (leaf : Leaf) (bound unassigned : ℕ) (closed : Bool) (e : limits_of a ≡ n)
-    (b : bound ≡ a.draft.bound) (u : unassigned ≡ unassigned_count a.draft.plan) (c : closed ≡ a.is_closed) (proved : ℤ) (is : proved ≡ bound_of (limits_of a) (prices_of (limits_of a) leaf) (worths_of leaf)) where
-  at_place : (l m : ℕ) → l ≡ m → Proves proved l → Proves (bound_of (limits_of a) (prices_of (limits_of a) leaf) (worths_of leaf)) m
-  at_place l m f h = subst (Proves (bound_of (limits_of a) (prices_of (limits_of a) leaf) (worths_of leaf))) f (subst (λ x. Proves x l) is h)
+module _ (a : LeafSite) (n : Limits) (r : LeafReader) (leaf : Leaf) (bound unassigned : ℕ) (closed : Bool) (e : limits_of a ≡ n)
+    (b : bound ≡ a.begun.bound) (u : unassigned ≡ unassigned_count a.begun.plan) (c : closed ≡ a.is_closed) (proved : ℤ) (is : proved ≡ bound_of (limits_of a) (prices_of (limits_of a) leaf) (worths_of leaf)) where
+  at_site : (l m : ℕ) → l ≡ m → Proves proved l → Proves (bound_of (limits_of a) (prices_of (limits_of a) leaf) (worths_of leaf)) m
+  at_site l m f h = subst (Proves (bound_of (limits_of a) (prices_of (limits_of a) leaf) (worths_of leaf))) f (subst (λ x. Proves x l) is h)
 
-  of_place : (l m : ℕ) → l ≡ m → Proves (bound_of (limits_of a) (prices_of (limits_of a) leaf) (worths_of leaf)) m → Proves proved l
-  of_place l m f h = subst (λ x. Proves x l) (sym is) (subst (Proves (bound_of (limits_of a) (prices_of (limits_of a) leaf) (worths_of leaf))) (sym f) h)
+  of_site : (l m : ℕ) → l ≡ m → Proves (bound_of (limits_of a) (prices_of (limits_of a) leaf) (worths_of leaf)) m → Proves proved l
+  of_site l m f h = subst (λ x. Proves x l) (sym is) (subst (Proves (bound_of (limits_of a) (prices_of (limits_of a) leaf) (worths_of leaf))) (sym f) h)
 
-  pub bound_fails : (Proves proved bound → ⊥) → Tells a (after_table a leaf 0) (No Bound) r
-  bound_fails f = TellsNo Bound (Fails (λ h. f (of_place bound a.draft.bound b h)) refl) refl
+  pub bound_fails : (Proves proved bound → ⊥) → LeafTells a (after_table a leaf 0) (No Bound) r
+  bound_fails f = TellsNo Bound (Fails (λ h. f (of_site bound a.begun.bound b h)) refl) refl
 
-  pub closed_fails : Proves proved bound → closed ≡ true → (Proves proved unassigned → ⊥) → Tells a (after_table a leaf 0) (No Bound) r
-  closed_fails h t f = TellsNo Bound (Holds (at_place bound a.draft.bound b h) (Fails (λ g. f (of_place unassigned (unassigned_count a.draft.plan) u (g (sym c ∙ t)))) refl)) refl
+  pub closed_fails : Proves proved bound → closed ≡ true → (Proves proved unassigned → ⊥) → LeafTells a (after_table a leaf 0) (No Bound) r
+  closed_fails h t f = TellsNo Bound (Holds (at_site bound a.begun.bound b h) (Fails (λ g. f (of_site unassigned (unassigned_count a.begun.plan) u (g (sym c ∙ t)))) refl)) refl
 
-  pub leaf_ends : Proves proved bound → (closed ≡ true → Proves proved unassigned) → Tells a (after_table a leaf 0) Done r
-  leaf_ends h g = TellsDone leaf (Holds (at_place bound a.draft.bound b h) (Holds (λ t. at_place unassigned (unassigned_count a.draft.plan) u (g (c ∙ t))) (On refl))) refl
+  pub leaf_ends : Proves proved bound → (closed ≡ true → Proves proved unassigned) → LeafTells a (after_table a leaf 0) Done r
+  leaf_ends h g = TellsDone leaf (Holds (at_site bound a.begun.bound b h) (Holds (λ t. at_site unassigned (unassigned_count a.begun.plan) u (g (c ∙ t))) (On refl))) refl
 
 -- ---- the rules of a team
 
@@ -120,7 +120,7 @@ read_table n r leaf table team count short worth read = record {
       ∙ sym (map-append (λ (t : Potentials). t.worth) leaf.tables (table ∷ []));
 }
 
-module _ (a : Place) (n : Limits) (r : LeafReader) (leaf : Leaf) (team left : ℕ) (table : Potentials) (worth : ℤ) (e : limits_of a ≡ n) (count : length leaf.tables ≡ team)
+module _ (a : LeafSite) (n : Limits) (r : LeafReader) (leaf : Leaf) (team left : ℕ) (table : Potentials) (worth : ℤ) (e : limits_of a ≡ n) (count : length leaf.tables ≡ team)
     (read : HasRead n r leaf) (potentials : HasPotentials n r team table (tasks_in n)) (is : worth ≡ table.worth) where
   -- the rules at the kept potentials are those at the potentials of the table
   to_table : (j t : ℕ) → IsPermittedVisit n team j t → phi r.table j t ≡ phi_in n team table j t
@@ -144,7 +144,7 @@ module _ (a : Place) (n : Limits) (r : LeafReader) (leaf : Leaf) (team left : �
   worth_from : HoldsWorth n team (phi_in n team table) table.worth → HoldsWorth n team (phi r.table) worth
   worth_from h = same_worth n r.prices team (phi_in n team table) (phi r.table) from_table worth (subst (HoldsWorth n team (phi_in n team table)) (sym is) h)
 
-  -- a fact of the table's rules at the place's limits and its number of teams, from the one at these
+  -- a fact of the table's rules at the site's limits and its number of teams, from the one at these
   abbrev pub PotentialAt : Limits → ℕ → ℕ → Type 0
   PotentialAt m k j = HoldsPotential m (prices_of m leaf) k (phi_in m k table) j
 
@@ -163,61 +163,61 @@ module _ (a : Place) (n : Limits) (r : LeafReader) (leaf : Leaf) (team left : �
   worth_down : WorthAt (limits_of a) (length leaf.tables) → WorthAt n team
   worth_down h = subst (λ m. WorthAt m team) e (subst (WorthAt (limits_of a)) count h)
 
-  all_potentials : ((j : ℕ) → j < tasks_in n → HoldsPotential n r.prices team (phi r.table) j) → (j : ℕ) → j < tasks_in (limits_of a) → PotentialAt (limits_of a) (length leaf.tables) j
-  all_potentials h j l = potential_up j (potential_to j (h j (subst (λ m. j < tasks_in m) e l)))
+  all_potentials : ((j : ℕ) → HoldsPotential n r.prices team (phi r.table) j) → (j : ℕ) → j < tasks_in (limits_of a) → PotentialAt (limits_of a) (length leaf.tables) j
+  all_potentials h j l = potential_up j (potential_to j (h j))
 
-  pub team_low : (j : ℕ) → IsLocalVerdict n r.prices team (phi r.table) worth (verdicts.Low j) → Tells a (Rules n team) (No (Potential team j)) r
+  pub team_low : (j : ℕ) → IsLocalVerdict n r.prices team (phi r.table) worth (verdicts.Low j) → LeafTells a (Rules n team) (No (Potential team j)) r
   team_low j h = TellsNo (Potential team j)
       (FailsAt j (subst (λ m. j < tasks_in m) (sym e) h.0) (λ i l. potential_up i (potential_to i (h.1 i l))) (λ g. h.2 (potential_from j (potential_down j g))) (ap (λ k. Refuses (Potential k j)) (sym count))) refl
 
-  pub team_worth : IsLocalVerdict n r.prices team (phi r.table) worth verdicts.Worth → Tells a (Rules n team) (No (LowWorth team)) r
+  pub team_worth : IsLocalVerdict n r.prices team (phi r.table) worth verdicts.Worth → LeafTells a (Rules n team) (No (LowWorth team)) r
   team_worth h = TellsNo (LowWorth team)
       (HoldsOfAll (all_potentials h.0) (Fails (λ g. h.1 (worth_from (worth_down g))) (ap (λ k. Refuses (LowWorth k)) (sym count)))) refl
 
   pub team_holds : (step : LeafStep) (new : LeafReader) → IsLocalVerdict n r.prices team (phi r.table) worth verdicts.Holds
-      → Tells a (after_table a (with_table leaf table) left) step new → Tells a (Rules n team) step new
+      → LeafTells a (after_table a (with_table leaf table) left) step new → LeafTells a (Rules n team) step new
   team_holds step new h told = tells_rest a (after_table a (with_table leaf table) left) (Rules n team) step new
-      (λ said others. HoldsOfAll (all_potentials h.0) (Holds (worth_up (worth_to h.1)) others)) told
+      (λ said others. HoldsOfAll (all_potentials h.tasks) (Holds (worth_up (worth_to h.worth_rules)) others)) told
 
 -- ---- the row of the table that is due
 
 other_line : {P : Type 0} (r : LeafReader) (x y : LeafDue) → r.due ≡ x → r.due ≡ y → (x ≡ y → ⊥) → P
 other_line r x y e f differ = absurd (differ (sym e ∙ f))
 
-pub at_price : (a : Place) (r new : LeafReader) (s : Reading) (ws : Words) (step : LeafStep) → r.due ≡ due.Price → StandsFor a r s
-    → Tells a (price_row a ws) step new → Tells a (Says s ws) step new
-at_price a r new s ws step e (AtPrices line is) told = subst (λ s. Tells a (Says s ws) step new) (sym is) told
+pub at_price : (a : LeafSite) (r new : LeafReader) (s : Reading) (ws : Words) (step : LeafStep) → r.due ≡ due.Price → StandsFor a r s
+    → LeafTells a (price_row a ws) step new → LeafTells a (Says s ws) step new
+at_price a r new s ws step e (AtPrices line is) told = subst (λ s. LeafTells a (Says s ws) step new) (sym is) told
 at_price a r new s ws step e (AtExtras prices rows j js line read row is) told = other_line r due.Price (due.Extra j) e line (λ f. cc)
 at_price a r new s ws step e (AtWorths leaf left line read teams is) told = other_line r due.Price (due.Worth (length leaf.tables)) e line (λ f. cc)
 at_price a r new s ws step e (AtPhis leaf left table j js line read teams potentials row is) told = other_line r due.Price (due.Phi (length leaf.tables) j) e line (λ f. cc)
 
-pub at_extra : (a : Place) (n : Limits) (r new : LeafReader) (s : Reading) (ws : Words) (step : LeafStep) (task : ℕ) → limits_of a ≡ n → r.due ≡ due.Extra task → StandsFor a r s
-    → ((prices : List ℤ) (rows : List (List ℤ)) (js : List ℕ) → HasRead n r (priced_leaf prices rows) → IsRowDue (has_required n) (tasks_in n) rows task js → Tells a (extra_row a prices rows task js ws) step new)
-    → Tells a (Says s ws) step new
+pub at_extra : (a : LeafSite) (n : Limits) (r new : LeafReader) (s : Reading) (ws : Words) (step : LeafStep) (task : ℕ) → limits_of a ≡ n → r.due ≡ due.Extra task → StandsFor a r s
+    → ((prices : List ℤ) (rows : List (List ℤ)) (js : List ℕ) → HasRead n r (priced_leaf prices rows) → IsRowDue (has_required n) (tasks_in n) rows task js → LeafTells a (extra_row a prices rows task js ws) step new)
+    → LeafTells a (Says s ws) step new
 at_extra a n r new s ws step task l e (AtPrices line is) told = other_line r (due.Extra task) due.Price e line (λ f. cc)
 at_extra a n r new s ws step task l e (AtExtras prices rows j js line read row is) told =
     let same : j ≡ task = (let f = line in let g = e in cc) in
-    subst (λ s. Tells a (Says s ws) step new) (sym (is ∙ ap (λ i. Extras a prices rows i js) same))
+    subst (λ s. LeafTells a (Says s ws) step new) (sym (is ∙ ap (λ i. Extras a prices rows i js) same))
     (told prices rows js (subst (λ m. HasRead m r (priced_leaf prices rows)) l read)
     (subst (λ i. IsRowDue (has_required n) (tasks_in n) rows i js) same (subst (λ m. IsRowDue (has_required m) (tasks_in m) rows j js) l row)))
 at_extra a n r new s ws step task l e (AtWorths leaf left line read teams is) told = other_line r (due.Extra task) (due.Worth (length leaf.tables)) e line (λ f. cc)
 at_extra a n r new s ws step task l e (AtPhis leaf left table j js line read teams potentials row is) told = other_line r (due.Extra task) (due.Phi (length leaf.tables) j) e line (λ f. cc)
 
-pub at_worth : (a : Place) (n : Limits) (r new : LeafReader) (s : Reading) (ws : Words) (step : LeafStep) (team : ℕ) → limits_of a ≡ n → r.due ≡ due.Worth team → StandsFor a r s
-    → ((leaf : Leaf) (left : ℕ) → HasRead n r leaf → length leaf.tables ≡ team → team + suc left ≡ teams_in n → Tells a (worth_row a leaf.prices leaf.extras leaf.tables left ws) step new)
-    → Tells a (Says s ws) step new
+pub at_worth : (a : LeafSite) (n : Limits) (r new : LeafReader) (s : Reading) (ws : Words) (step : LeafStep) (team : ℕ) → limits_of a ≡ n → r.due ≡ due.Worth team → StandsFor a r s
+    → ((leaf : Leaf) (left : ℕ) → HasRead n r leaf → length leaf.tables ≡ team → team + suc left ≡ teams_in n → LeafTells a (worth_row a leaf.prices leaf.extras leaf.tables left ws) step new)
+    → LeafTells a (Says s ws) step new
 at_worth a n r new s ws step team l e (AtPrices line is) told = other_line r (due.Worth team) due.Price e line (λ f. cc)
 at_worth a n r new s ws step team l e (AtExtras prices rows j js line read row is) told = other_line r (due.Worth team) (due.Extra j) e line (λ f. cc)
 at_worth a n r new s ws step team l e (AtWorths leaf left line read teams is) told =
     let same : length leaf.tables ≡ team = (let f = line in let g = e in cc) in
-    subst (λ s. Tells a (Says s ws) step new) (sym is)
+    subst (λ s. LeafTells a (Says s ws) step new) (sym is)
     (told leaf left (subst (λ m. HasRead m r leaf) l read) same (ap (λ k. k + suc left) (sym same) ∙ teams ∙ ap teams_in l))
 at_worth a n r new s ws step team l e (AtPhis leaf left table j js line read teams potentials row is) told = other_line r (due.Worth team) (due.Phi (length leaf.tables) j) e line (λ f. cc)
 
-pub at_phi : (a : Place) (n : Limits) (r new : LeafReader) (s : Reading) (ws : Words) (step : LeafStep) (team task : ℕ) → limits_of a ≡ n → r.due ≡ due.Phi team task → StandsFor a r s
+pub at_phi : (a : LeafSite) (n : Limits) (r new : LeafReader) (s : Reading) (ws : Words) (step : LeafStep) (team task : ℕ) → limits_of a ≡ n → r.due ≡ due.Phi team task → StandsFor a r s
     → ((leaf : Leaf) (left : ℕ) (table : Potentials) (js : List ℕ) → HasRead n r leaf → length leaf.tables ≡ team → team + suc left ≡ teams_in n → HasPotentials n r team table task
-    → IsRowDue (has_minutes n team) (tasks_in n) table.phi task js → Tells a (phi_row a leaf.prices leaf.extras leaf.tables left table.worth table.phi task js ws) step new)
-    → Tells a (Says s ws) step new
+    → IsRowDue (has_minutes n team) (tasks_in n) table.phi task js → LeafTells a (phi_row a leaf.prices leaf.extras leaf.tables left table.worth table.phi task js ws) step new)
+    → LeafTells a (Says s ws) step new
 at_phi a n r new s ws step team task l e (AtPrices line is) told = other_line r (due.Phi team task) due.Price e line (λ f. cc)
 at_phi a n r new s ws step team task l e (AtExtras prices rows j js line read row is) told = other_line r (due.Phi team task) (due.Extra j) e line (λ f. cc)
 at_phi a n r new s ws step team task l e (AtWorths leaf left line read teams is) told = other_line r (due.Phi team task) (due.Worth (length leaf.tables)) e line (λ f. cc)
@@ -227,7 +227,7 @@ at_phi a n r new s ws step team task l e (AtPhis leaf left table j js line read 
     let here : j ≡ task = (let f = line in let g = e in cc) in
     let p : HasPotentials n r k table j = subst (λ m. HasPotentials m r k table j) l potentials in
     let q : IsRowDue (has_minutes n k) (tasks_in n) table.phi j js = subst (λ m. IsRowDue (has_minutes m k) (tasks_in m) table.phi j js) l row in
-    subst (λ s. Tells a (Says s ws) step new) (sym (is ∙ ap (λ i. Phis a leaf.prices leaf.extras leaf.tables left table.worth table.phi i js) here))
+    subst (λ s. LeafTells a (Says s ws) step new) (sym (is ∙ ap (λ i. Phis a leaf.prices leaf.extras leaf.tables left table.worth table.phi i js) here))
     (told leaf left table js (subst (λ m. HasRead m r leaf) l read) same (ap (λ k. k + suc left) (sym same) ∙ teams ∙ ap teams_in l)
     (subst (HasPotentials n r team table) here (subst (λ k. HasPotentials n r k table j) same p))
     (subst (λ i. IsRowDue (has_minutes n team) (tasks_in n) table.phi i js) here (subst (λ k. IsRowDue (has_minutes n k) (tasks_in n) table.phi j js) same q)))

@@ -1,7 +1,8 @@
 -- keys of rows: the numbers below a count of which a test holds, in order
-use Rattle.std.specs.Prelude.{◌≡◌, ◌≤◌, ◌<◌, nat_lt, ℕ, suc, ℤ, Bool, true, false, List, [], ◌∷◌, length, filter, drop, Option, None, Some}
+use Rattle.std.specs.Prelude.{◌≡◌, ◌≤◌, ◌<◌, ◌-◌, nat_lt, ℕ, suc, ℤ, Bool, true, false, List, [], ◌∷◌, length, filter, Option, None, Some}
 use Rattle.crew_terms.specs.Limits.{Limits}
-use Rattle.dossier_terms.specs.Dossier.{below, first_minute, minute_count}
+use Rattle.std.specs.List.{range_with_len}
+use Rattle.crew_terms.specs.Minutes.{first_minute, minute_count}
 
 -- team k may begin the task at some minute
 abbrev pub has_minutes : Limits → ℕ → ℕ → Bool
@@ -18,15 +19,19 @@ abbrev pub IsNextKey : (ℕ → Bool) → ℕ → ℕ → Option ℕ → Type 0
 IsNextKey test count from None = (i : ℕ) → from ≤ i → i < count → test i ≡ false
 IsNextKey test count from (Some j) = (from ≤ j) × (j < count) × (test j ≡ true) × ((i : ℕ) → from ≤ i → i < j → test i ≡ false)
 
+-- the keys below a number
+abbrev pub keys_below : (ℕ → Bool) → ℕ → List ℕ
+keys_below test count = filter test (range_with_len 0 count)
+
 -- the keys from a number on, of those below a count
 abbrev pub keys_from : (ℕ → Bool) → ℕ → ℕ → List ℕ
-keys_from test count from = filter test (drop from (below count))
+keys_from test count from = filter test (range_with_len from (count - from))
 
 -- the row of key j is due: those of the keys before it are read, and these keys come after it
 pub record IsRowDue (test : ℕ → Bool) (count : ℕ) (rows : List (List ℤ)) (j : ℕ) (js : List ℕ) : Type 0 where
   pub known : j < count
   pub key : test j ≡ true
-  pub read : length rows ≡ length (filter test (below j))
+  pub read : length rows ≡ length (keys_below test j)
   pub later : js ≡ keys_from test count (suc j)
 
 -- these keys are left where this is the next one

@@ -6,8 +6,9 @@ use Rattle.crew_terms.specs.Limits.{Limits, IsPermittedVisit, has_required, task
 use Rattle.potentials.specs.Room.{HasRoom}
 use Rattle.potentials.specs.Table.{IsTableOf, phi}
 use Rattle.dossier_terms.specs.declared.Reason.{Reason}
-use Rattle.dossier_terms.specs.Dossier.{Leaf, Potentials, minute_count, phi_in, prices_of, worths_of}
-use Rattle.dossier_terms.specs.Reading.{Reading, Said, More as Goes, No as Refuses, Place, Prices, Extras, Worths, Phis, limits_of, leaf_done}
+use Rattle.dossier_terms.specs.Dossier.{Leaf, Potentials, phi_in, prices_of, worths_of}
+use Rattle.crew_terms.specs.Minutes.{minute_count}
+use Rattle.dossier_terms.specs.Reading.{Reading, Said, More as Goes, No as Refuses, Prices, Extras, Worths, Phis, limits_of, leaf_done, LeafSite}
 use Rattle.dossier_terms.specs.Table.{Says}
 use Rattle.leaf_check.specs.Keys.{IsRowDue, has_minutes}
 use Rattle.leaf_check.specs.Prices.{ArePricesIn}
@@ -21,11 +22,11 @@ use Rattle.leaf_check.specs.declared.reader.LeafStep.TheVariants.{More, Done, No
 -- ---- the room of a reader
 
 -- the task and the team of the line that is due have one
-abbrev pub IsDue : Limits → LeafDue → Type 0
-IsDue n due.Price = Unit {0}
-IsDue n (due.Extra task) = task < tasks_in n
-IsDue n (due.Worth team) = team < teams_in n
-IsDue n (due.Phi team task) = (team < teams_in n) × (task < tasks_in n) × (0 < minute_count n team task)
+abbrev pub IsLeafDue : Limits → LeafDue → Type 0
+IsLeafDue n due.Price = Unit {0}
+IsLeafDue n (due.Extra task) = task < tasks_in n
+IsLeafDue n (due.Worth team) = team < teams_in n
+IsLeafDue n (due.Phi team task) = (team < teams_in n) × (task < tasks_in n) × (0 < minute_count n team task)
 
 -- the reader has room for the numbers of a leaf of these limits, and its next line is one of such a leaf
 pub record IsReady (n : Limits) (r : LeafReader) : Type 0 where
@@ -33,7 +34,7 @@ pub record IsReady (n : Limits) (r : LeafReader) : Type 0 where
   pub table : IsTableOf n.instance r.table
   pub room : HasRoom n.instance r.room
   pub worths : length r.worths.items ≡ teams_in n
-  pub due : IsDue n r.due
+  pub due : IsLeafDue n r.due
 
 -- ---- what a reader keeps of a leaf
 
@@ -56,8 +57,8 @@ below_next n (Some j) = j
 abbrev pub priced_leaf : List ℤ → List (List ℤ) → Leaf
 priced_leaf prices extras = record { prices = prices; extras = extras; tables = [] }
 
--- the reader stands for a state of the table of lines at a place
-pub data StandsFor (a : Place) (r : LeafReader) (s : Reading) : Type 0 where
+-- the reader stands for a state of the table of lines at the site of a leaf
+pub data StandsFor (a : LeafSite) (r : LeafReader) (s : Reading) : Type 0 where
   AtPrices : (line : r.due ≡ due.Price) (is : s ≡ Prices a) → StandsFor a r s
   AtExtras : (prices : List ℤ) (rows : List (List ℤ)) (j : ℕ) (js : List ℕ)
       (line : r.due ≡ due.Extra j)
@@ -79,19 +80,19 @@ pub data StandsFor (a : Place) (r : LeafReader) (s : Reading) : Type 0 where
 
 -- ---- what a reader says of a line
 
--- the limits are those of the place, and the leaf has to prove what the place asks for
-pub record IsGoalAt (a : Place) (n : Limits) (goal : Goal) : Type 0 where
+-- the limits are those of the site, and the leaf has to prove what is asked for there
+pub record IsGoalAt (a : LeafSite) (n : Limits) (goal : Goal) : Type 0 where
   pub limits : limits_of a ≡ n
-  pub bound : goal.bound ≡ a.draft.bound
-  pub unassigned : goal.unassigned ≡ unassigned_count a.draft.plan
+  pub bound : goal.bound ≡ a.begun.bound
+  pub unassigned : goal.unassigned ≡ unassigned_count a.begun.plan
   pub is_closed : goal.is_closed ≡ a.is_closed
 
 -- the step is what the rules say, and the reader stands for the state that they lead to
-pub data Tells (a : Place) (Rules : Said → Type 0) (step : LeafStep) (new : LeafReader) : Type 0 where
-  TellsMore : (next : Reading) (says : Rules (Goes next)) (stands : StandsFor a new next) (is : step ≡ More) → Tells a Rules step new
-  TellsDone : (leaf : Leaf) (says : Rules (Goes (leaf_done a leaf))) (is : step ≡ Done) → Tells a Rules step new
-  TellsNo : (reason : Reason) (says : Rules (Refuses reason)) (is : step ≡ No reason) → Tells a Rules step new
+pub data LeafTells (a : LeafSite) (Rules : Said → Type 0) (step : LeafStep) (new : LeafReader) : Type 0 where
+  TellsMore : (next : Reading) (says : Rules (Goes next)) (stands : StandsFor a new next) (is : step ≡ More) → LeafTells a Rules step new
+  TellsDone : (leaf : Leaf) (says : Rules (Goes (leaf_done a leaf))) (is : step ≡ Done) → LeafTells a Rules step new
+  TellsNo : (reason : Reason) (says : Rules (Refuses reason)) (is : step ≡ No reason) → LeafTells a Rules step new
 
 -- the step is what the table says of the line, at each state that the reader stands for
 abbrev pub IsJudged : Limits → Goal → Words → LeafReader → LeafReader → LeafStep → Type 0
-IsJudged n goal words old new step = (a : Place) (s : Reading) → IsGoalAt a n goal → StandsFor a old s → Tells a (Says s words) step new
+IsJudged n goal words old new step = (a : LeafSite) (s : Reading) → IsGoalAt a n goal → StandsFor a old s → LeafTells a (Says s words) step new

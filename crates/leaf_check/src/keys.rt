@@ -2,10 +2,11 @@
 ghost use Rattle.std.specs.Prelude.{◌≡◌, ◌≤◌, ◌<◌, ◌+◌, length, MatchOption, IfSome};
 ghost use Rattle.crew_terms.specs.Instance.{task_of};
 ghost use Rattle.crew_terms.specs.Limits.{has_required, tasks_in, teams_in};
-ghost use Rattle.dossier_terms.specs.Dossier.{minute_count, required_teams};
+ghost use Rattle.crew_terms.specs.Minutes.{minute_count, required_teams};
+ghost use Rattle.crew_terms.specs.declared.TheConstants.{LAST_MINUTE};
 ghost use Rattle.leaf_check.specs.Keys.{AreCounted, IsNextKey, has_minutes};
 
-use dossier_laws::minutes_are_permitted;
+use crew_laws::minutes_are_permitted;
 use node_limits::Limits;
 
 /// The first minute at which team `k` may begin task `j`, and how many such minutes there are; None where there is
@@ -16,10 +17,10 @@ pub fn counted_minutes(limits: &Limits<'_>, k: u32, j: u32) -> Option<(u32, u32)
     ensures minutes { MatchOption result (minute_count limits.now.limits k j ≡ 0) (λ m. AreCounted limits.now.limits k j m.0 m.1) }
     ensures early { IfSome result (λ m. (task_of limits.now.limits.instance j).earliest ≤ m.0) }
     ensures late { IfSome result (λ m. m.0 + m.1 ≤ (task_of limits.now.limits.instance j).latest + 1) }
-    ensures day { IfSome result (λ m. m.0 + m.1 ≤ 2881) }
+    ensures day { IfSome result (λ m. m.0 + m.1 ≤ LAST_MINUTE + 1) }
 {
     minutes_are_permitted();
-    // What holds of its tasks: no minute is past 2880.
+    // What holds of its tasks: no minute is past `LAST_MINUTE`.
     let _day = limits.instance();
     match limits.minutes(k, j) {
         Some((first, last)) => Some((first, last + 1 - first)),

@@ -3,7 +3,8 @@ ghost use Rattle.std.specs.Prelude.{◌≡◌, ◌≤◌, ◌<◌, ◌+◌, ℕ,
 ghost use Rattle.std.specs.List.{AllByRecursion};
 ghost use Rattle.crew_terms.specs.Leaf.{IsPrice, rho_of};
 ghost use Rattle.crew_terms.specs.Limits.{is_required as required_pair, pair_of, tasks_in, teams_in};
-ghost use Rattle.dossier_terms.specs.Dossier.{beside, required_teams};
+ghost use Rattle.dossier_terms.specs.Dossier.{beside};
+ghost use Rattle.crew_terms.specs.Minutes.{required_teams};
 ghost use Rattle.potentials.specs.Prices.{with_rho};
 ghost use Rattle.leaf_check.specs.Prices.{ArePricesIn, SamePairsBut};
 

@@ -1,17 +1,18 @@
 // A reader of the lines of one leaf, from its prices to its last potentials.
 ghost use Rattle.std.specs.Prelude.{◌≡◌, ◌≤◌, ◌<◌, ◌+◌, ℕ, suc, ℤ, List, [], length, IfOk, IfSome};
 ghost use Rattle.crew_terms.specs.Limits.{Limits as NodeLimits, has_required, tasks_in, teams_in};
-ghost use Rattle.dossier_terms.specs.Dossier.{Leaf, Potentials, minute_count};
-ghost use Rattle.dossier_terms.specs.Reading.{Place, Prices as PriceDue};
+ghost use Rattle.dossier_terms.specs.Dossier.{Leaf, Potentials};
+ghost use Rattle.crew_terms.specs.Minutes.{minute_count};
+ghost use Rattle.dossier_terms.specs.Reading.{Prices as PriceDue, LeafSite};
 ghost use Rattle.dossier_terms.specs.Table.{after_extra, after_phi, after_table, extra_row, phi_row, price_row, worth_row};
 ghost use Rattle.leaf_check.specs.Keys.{AreLeft, IsRowDue, has_minutes};
-ghost use Rattle.leaf_check.specs.Reader.{HasPotentials, HasRead, IsGoalAt, IsJudged, IsReady, StandsFor, Tells, below_next, priced_leaf};
+ghost use Rattle.leaf_check.specs.Reader.{HasPotentials, HasRead, IsGoalAt, IsJudged, IsReady, StandsFor, LeafTells, below_next, priced_leaf};
 
 use crate::keys::{counted_minutes, next_open, next_priced, required_count};
 use crate::prices::{set_extras, set_prices};
 use crate::rows::set_potentials;
 use cert_format::{Expect, LineKind, fault_is_refused, read_line};
-use dossier_laws::minutes_are_permitted;
+use crew_laws::minutes_are_permitted;
 use dossier_terms::Reason;
 use field_table::LineWords;
 use node_limits::Limits;
@@ -69,7 +70,7 @@ impl LeafReader {
     /// memory.
     pub fn open(alloc: Global, limits: &Limits<'_>) -> Result<LeafReader, AllocError>
         ensures ready { IfOk result (IsReady limits.now.limits) }
-        ensures stands { IfOk result (λ r. (a : Place) → StandsFor a r (PriceDue a)) }
+        ensures stands { IfOk result (λ r. (a : LeafSite) → StandsFor a r (PriceDue a)) }
     {
         let prices = Prices::zero(alloc, limits)?;
         let table = Table::reserve(alloc, limits.instance())?;
@@ -87,7 +88,7 @@ impl LeafReader {
     /// Begins a leaf: its line of prices is due. The limits may be others than before, over the same instance.
     pub fn begin(&mut self)
         ensures ready { (n m : NodeLimits) → m.instance ≡ n.instance → IsReady n self.old → IsReady m self.new }
-        ensures stands { (a : Place) → StandsFor a self.new (PriceDue a) }
+        ensures stands { (a : LeafSite) → StandsFor a self.new (PriceDue a) }
     {
         self.due = LeafDue::Price;
     }
@@ -113,7 +114,7 @@ impl LeafReader {
     fn price_line(&mut self, limits: &Limits<'_>, goal: Goal, words: LineWords<'_>) -> LeafStep
         requires { IsReady limits.now.limits self.old }
         ensures ready { IsReady limits.now.limits self.new }
-        ensures tells { (a : Place) → IsGoalAt a limits.now.limits goal → Tells a (price_row a words.entry) result self.new }
+        ensures tells { (a : LeafSite) → IsGoalAt a limits.now.limits goal → LeafTells a (price_row a words.entry) result self.new }
     {
         fault_is_refused();
         let tasks = limits.instance().tasks() as u32;
@@ -139,10 +140,10 @@ impl LeafReader {
         requires ready { IsReady limits.now.limits self.old }
         requires task { task < tasks_in limits.now.limits }
         ensures ready { IsReady limits.now.limits self.new }
-        ensures tells { (a : Place) (prices : List ℤ) (rows : List (List ℤ)) (js : List ℕ) → IsGoalAt a limits.now.limits goal
+        ensures tells { (a : LeafSite) (prices : List ℤ) (rows : List (List ℤ)) (js : List ℕ) → IsGoalAt a limits.now.limits goal
             → HasRead limits.now.limits self.old (priced_leaf prices rows)
             → IsRowDue (has_required limits.now.limits) (tasks_in limits.now.limits) rows task js
-            → Tells a (extra_row a prices rows task js words.entry) result self.new }
+            → LeafTells a (extra_row a prices rows task js words.entry) result self.new }
     {
         fault_is_refused();
         let count = required_count(limits, task);
@@ -162,10 +163,10 @@ impl LeafReader {
         requires ready { IsReady limits.now.limits self.old }
         requires next { IfSome next (λ j. j < tasks_in limits.now.limits) }
         ensures ready { IsReady limits.now.limits self.new }
-        ensures tells { (a : Place) (prices : List ℤ) (rows : List (List ℤ)) (js : List ℕ) → IsGoalAt a limits.now.limits goal
+        ensures tells { (a : LeafSite) (prices : List ℤ) (rows : List (List ℤ)) (js : List ℕ) → IsGoalAt a limits.now.limits goal
             → HasRead limits.now.limits self.old (priced_leaf prices rows)
             → AreLeft (has_required limits.now.limits) (tasks_in limits.now.limits) rows next js
-            → Tells a (after_extra a prices rows js) result self.new }
+            → LeafTells a (after_extra a prices rows js) result self.new }
     {
         match next {
             Some(task) => {
@@ -187,9 +188,9 @@ impl LeafReader {
         requires ready { IsReady limits.now.limits self.old }
         requires team { team < teams_in limits.now.limits }
         ensures ready { IsReady limits.now.limits self.new }
-        ensures tells { (a : Place) (leaf : Leaf) (left : ℕ) → IsGoalAt a limits.now.limits goal
+        ensures tells { (a : LeafSite) (leaf : Leaf) (left : ℕ) → IsGoalAt a limits.now.limits goal
             → HasRead limits.now.limits self.old leaf → length leaf.tables ≡ team → team + suc left ≡ teams_in limits.now.limits
-            → Tells a (worth_row a leaf.prices leaf.extras leaf.tables left words.entry) result self.new }
+            → LeafTells a (worth_row a leaf.prices leaf.extras leaf.tables left words.entry) result self.new }
     {
         fault_is_refused();
         minutes_are_permitted();
@@ -218,11 +219,11 @@ impl LeafReader {
         requires task { task < tasks_in limits.now.limits }
         requires minutes { 0 < minute_count limits.now.limits team task }
         ensures ready { IsReady limits.now.limits self.new }
-        ensures tells { (a : Place) (leaf : Leaf) (left : ℕ) (table : Potentials) (js : List ℕ) → IsGoalAt a limits.now.limits goal
+        ensures tells { (a : LeafSite) (leaf : Leaf) (left : ℕ) (table : Potentials) (js : List ℕ) → IsGoalAt a limits.now.limits goal
             → HasRead limits.now.limits self.old leaf → length leaf.tables ≡ team → team + suc left ≡ teams_in limits.now.limits
             → HasPotentials limits.now.limits self.old team table task
             → IsRowDue (has_minutes limits.now.limits team) (tasks_in limits.now.limits) table.phi task js
-            → Tells a (phi_row a leaf.prices leaf.extras leaf.tables left table.worth table.phi task js words.entry) result self.new }
+            → LeafTells a (phi_row a leaf.prices leaf.extras leaf.tables left table.worth table.phi task js words.entry) result self.new }
     {
         fault_is_refused();
         minutes_are_permitted();
@@ -257,11 +258,11 @@ impl LeafReader {
         requires team { team < teams_in limits.now.limits }
         requires next { IfSome next (λ j. (j < tasks_in limits.now.limits) × (0 < minute_count limits.now.limits team j)) }
         ensures ready { IsReady limits.now.limits self.new }
-        ensures tells { (a : Place) (leaf : Leaf) (left : ℕ) (table : Potentials) (js : List ℕ) → IsGoalAt a limits.now.limits goal
+        ensures tells { (a : LeafSite) (leaf : Leaf) (left : ℕ) (table : Potentials) (js : List ℕ) → IsGoalAt a limits.now.limits goal
             → HasRead limits.now.limits self.old leaf → length leaf.tables ≡ team → team + suc left ≡ teams_in limits.now.limits
             → HasPotentials limits.now.limits self.old team table (below_next limits.now.limits next)
             → AreLeft (has_minutes limits.now.limits team) (tasks_in limits.now.limits) table.phi next js
-            → Tells a (after_phi a leaf.prices leaf.extras leaf.tables left table.worth table.phi js) result self.new }
+            → LeafTells a (after_phi a leaf.prices leaf.extras leaf.tables left table.worth table.phi js) result self.new }
     {
         match next {
             Some(task) => {
@@ -277,10 +278,10 @@ impl LeafReader {
         requires ready { IsReady limits.now.limits self.old }
         requires team { team < teams_in limits.now.limits }
         ensures ready { IsReady limits.now.limits self.new }
-        ensures tells { (a : Place) (leaf : Leaf) (left : ℕ) (table : Potentials) → IsGoalAt a limits.now.limits goal
+        ensures tells { (a : LeafSite) (leaf : Leaf) (left : ℕ) (table : Potentials) → IsGoalAt a limits.now.limits goal
             → HasRead limits.now.limits self.old leaf → length leaf.tables ≡ team → team + suc left ≡ teams_in limits.now.limits
             → HasPotentials limits.now.limits self.old team table (tasks_in limits.now.limits)
-            → Tells a (after_phi a leaf.prices leaf.extras leaf.tables left table.worth table.phi []) result self.new }
+            → LeafTells a (after_phi a leaf.prices leaf.extras leaf.tables left table.worth table.phi []) result self.new }
     {
         let worth = self.worths[team as usize];
         match local(
@@ -302,9 +303,9 @@ impl LeafReader {
         requires ready { IsReady limits.now.limits self.old }
         requires teams { teams ≤ teams_in limits.now.limits }
         ensures ready { IsReady limits.now.limits self.new }
-        ensures tells { (a : Place) (leaf : Leaf) (left : ℕ) → IsGoalAt a limits.now.limits goal
+        ensures tells { (a : LeafSite) (leaf : Leaf) (left : ℕ) → IsGoalAt a limits.now.limits goal
             → HasRead limits.now.limits self.old leaf → length leaf.tables ≡ teams → teams + left ≡ teams_in limits.now.limits
-            → Tells a (after_table a leaf left) result self.new }
+            → LeafTells a (after_table a leaf left) result self.new }
     {
         if teams < limits.instance().teams() {
             self.due = LeafDue::Worth { team: teams as u32 };
@@ -316,9 +317,9 @@ impl LeafReader {
     /// What is said after the last line of a leaf: what it proves is tested.
     fn judge_bound(&self, limits: &Limits<'_>, goal: Goal) -> LeafStep
         requires { IsReady limits.now.limits self.now }
-        ensures { (a : Place) (leaf : Leaf) → IsGoalAt a limits.now.limits goal
+        ensures { (a : LeafSite) (leaf : Leaf) → IsGoalAt a limits.now.limits goal
             → HasRead limits.now.limits self.now leaf → length leaf.tables ≡ teams_in limits.now.limits
-            → Tells a (after_table a leaf 0) result self.now }
+            → LeafTells a (after_table a leaf 0) result self.now }
     {
         let proved = bound(limits, &self.prices, &self.worths);
         if !proves(proved, goal.bound) {

@@ -7,9 +7,9 @@ use Rattle.crew_terms.specs.Limits.{Limits, pair_of, tasks_in, teams_in, IsWithi
 use Rattle.crew_terms.specs.Plan.{Plan, Job, job_of, Does}
 use Rattle.crew_terms.specs.Verdict.{IsPlanOf}
 use Rattle.crew_terms.specs.declared.Pair.TheVariants.{Forbidden, Required}
-use Rattle.plan_check.specs.Teams.{teams_in as teams_of}
+use Rattle.crew_instance.specs.Teams.{teams_in as teams_of}
 use Rattle.plan_check.specs.Within.{BeginsWithin, KeepsPair, KeepsTask}
-use Rattle.plan_check.proofs.Legal.{job_known}
+use Rattle.plan_check.proofs.Known.{job_known, task_known}
 
 -- what `contains` tells of the numbers of teams
 listed_decides : (ks : List ℕ) (k : ℕ) (r : Bool) → IsAnyAnswer (λ y t. eqb y k ≡ t) ks r → IsTrue r ↔ Contains ks k
@@ -56,15 +56,12 @@ module _ (n : Limits) (p : Plan) where
       at (inl m) = before h m
       at (inr m) = let e : j ≡ h = omega arith in subst (KeepsTask n p) e here
 
-  does_known : (k j t : ℕ) → Does p k j t → j < length p
-  does_known k j t (job, e, s, m) = job_known p j job e
-
   -- a plan is within the limits where it keeps them at each task
   pub within_from : IsPlanOf n.instance p → ((j : ℕ) → j < length p → KeepsTask n p j) → IsWithin n p
   within_from of keeps = record {
     early = λ j job e. (keeps j (job_known p j job e)).window.early job e;
     late = λ j job e. (keeps j (job_known p j job e)).window.late job e;
-    forbidden = λ k j t d. ((keeps j (does_known k j t d)).pairs k (of.known k j t d)).forbidden t d;
+    forbidden = λ k j t d. ((keeps j (task_known p k j t d)).pairs k (of.known k j t d)).forbidden t d;
     required = λ k j lk lj e. ((keeps j (let w = of.whole in omega arith)).pairs k lk).required e;
   }
 

@@ -1,7 +1,3 @@
-pub mod Legal
-pub mod Order
-pub mod TeamTurns
-pub mod GoodJobs
-pub mod Copies
+pub mod Known
 pub mod Kept
 pub mod Listed

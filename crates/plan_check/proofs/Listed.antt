@@ -4,14 +4,18 @@ use Rattle.std.specs.Prelude.{Contains, AllPairs}
 use Rattle.std.proofs.lemmas.List.{get_or-map, length-map}
 use Rattle.std.proofs.lemmas.List.Elements.{Contains-get_or}
 use Rattle.crew_terms.specs.Instance.{Instance}
-use Rattle.crew_terms.specs.Plan.{Plan, Does, IsLegal}
+use Rattle.crew_terms.specs.Plan.{Plan, Does}
+use Rattle.crew_terms.specs.Legal.{IsLegal}
 use Rattle.crew_terms.specs.Verdict.{IsBefore}
 use Rattle.crew_terms.specs.declared.Visit.{Visit}
 use Rattle.crew_laws.specs.Visits.{AreVisitsOf, visit}
-use Rattle.plan_check.specs.declared.turns.Turn.{Turn}
-use Rattle.plan_check.specs.Turns.{AreTurns}
+use Rattle.crew_instance.specs.declared.turns.Turn.{Turn}
+use Rattle.crew_instance.specs.Turns.{AreTurns}
 use Rattle.plan_check.specs.Visits.{AreTasksOf}
-use Rattle.plan_check.proofs.TeamTurns.{turn, turn_known}
+use Rattle.plan_check.proofs.Known.{task_known}
+
+abbrev pub turn : ℕ → ℕ → Turn
+turn j t = record { start = t; task = j }
 
 abbrev pub visit_of : Turn → Visit
 visit_of v = visit v.task v.start
@@ -36,7 +40,7 @@ module _ (p : Plan) (k : ℕ) where
   -- the turns of a team are its tasks in order
   pub tasks_from_turns : (vs : List Turn) → AreTurns p k (length p) vs → AreTasksOf p k (map visit_of vs)
   tasks_from_turns vs are = record {
-    each = λ j t. ((λ c. (are.done (turn j t) (turned vs (visit j t) c)).0), (λ d. visited vs (turn j t) (are.all j t (turn_known p k j t d) d)));
+    each = λ j t. ((λ c. (are.done (turn j t) (turned vs (visit j t) c)).0), (λ d. visited vs (turn j t) (are.all j t (task_known p k j t d) d)));
     order = order;
   }
     where
@@ -58,7 +62,7 @@ module _ (p : Plan) (k : ℕ) where
       apart : (a b : ℕ) (d : Visit) → a < length visits → b < length visits
           → IsBefore (get_or visits a d).start (get_or visits a d).task (get_or visits b d).start (get_or visits b d).task → (get_or visits a d).start < (get_or visits b d).start
       apart a b d l m (inl n) = n
-      apart a b d l m (inr n) = absurd (legal.apart k (get_or visits a d).task (get_or visits b d).task (get_or visits a d).start (get_or visits b d).start
+      apart a b d l m (inr n) = absurd (legal.feasible.apart k (get_or visits a d).task (get_or visits b d).task (get_or visits a d).start (get_or visits b d).start
           (done a d l) (done b d m) (λ e. let x = n.1 in omega arith) n.0)
 
       rising : AllPairs (λ (a b : Visit). a.start < b.start) visits

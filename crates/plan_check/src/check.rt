@@ -1,25 +1,45 @@
 // Whether a plan is legal.
-ghost use Rattle.std.specs.Prelude.{◌≡◌, ◌↔◌};
-ghost use Rattle.crew_terms.specs.Plan.{IsLegal};
-ghost use Rattle.crew_terms.specs.Verdict.{IsPlanOf, IsVerdict};
+ghost use Rattle.std.specs.Prelude.{◌≡◌, ◌<◌, ◌↔◌, ℕ, length, IsTrue, MatchOption};
+ghost use Rattle.crew_terms.specs.Legal.{IsLegal, KeepsFrozen};
+ghost use Rattle.crew_terms.specs.Verdict.{IsFirstUnkept, IsPlanOf, IsVerdict};
 
-use crate::jobs::fault_of_jobs;
-use crate::plan::Plan;
-use crate::turns::fault_of_teams;
-use crew_instance::Instance;
+use crew_instance::{Instance, Plan, feasibility};
 use crew_terms::PlanVerdict;
 
-/// Whether the plan is legal, or else its first fault: of its jobs by task, and then of its teams.
+/// Whether the plan has the frozen job of task `j`, if there is one.
+fn keeps_frozen(instance: &Instance, plan: &Plan, j: u32) -> bool
+    requires task { j < length instance.now.tasks }
+    requires plan { j < length plan.now }
+    ensures { IsTrue result ↔ KeepsFrozen instance.now plan.now j }
+{
+    match instance.frozen(j) {
+        Some((start, teams)) => plan.start(j) == Some(start) && plan.teams(j) == teams,
+        None => true,
+    }
+}
+
+/// The first task of which the plan doesn't have the frozen job.
+fn first_unkept(instance: &Instance, plan: &Plan) -> Option<u32>
+    requires { IsPlanOf instance.now plan.now }
+    ensures { MatchOption result ((j : ℕ) → KeepsFrozen instance.now plan.now j) (IsFirstUnkept instance.now plan.now) }
+{
+    for j in 0..instance.tasks() as u32 {
+        if !keeps_frozen(instance, plan, j) {
+            return Some(j);
+        }
+    }
+    None
+}
+
+/// Whether the plan is legal, or else its first fault: the first task of which it doesn't have the frozen job, then of
+/// its jobs by task, and then of its teams. It takes no memory.
 pub fn check_plan(instance: &Instance, plan: &Plan) -> PlanVerdict
     requires { IsPlanOf instance.now plan.now }
     ensures verdict { IsVerdict instance.now plan.now result }
     ensures legal { (result ≡ PlanVerdict.Legal) ↔ IsLegal instance.now plan.now }
 {
-    if let Some(fault) = fault_of_jobs(instance, plan) {
-        return fault;
+    if let Some(j) = first_unkept(instance, plan) {
+        return PlanVerdict::Frozen(j);
     }
-    if let Some(fault) = fault_of_teams(instance, plan) {
-        return fault;
-    }
-    PlanVerdict::Legal
+    feasibility(instance, plan)
 }

@@ -2,16 +2,13 @@
 #![tactic(auto)]
 
 mod check;
-mod jobs;
-mod plan;
 #[cfg(test)]
 mod tests;
-mod turns;
 mod visits;
 mod within;
 
 pub use check::check_plan;
+pub use crew_instance::{Plan, unassigned};
 pub use crew_terms::{PlanVerdict, Visit};
-pub use plan::{Plan, unassigned};
 pub use visits::tasks_of;
 pub use within::in_limits;

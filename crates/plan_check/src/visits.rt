@@ -1,13 +1,12 @@
 // What a team does in a plan.
 ghost use Rattle.std.specs.Prelude.{IfOk};
 ghost use Rattle.crew_terms.specs.Instance.{Instance as Problem};
-ghost use Rattle.crew_terms.specs.Plan.{IsLegal};
+ghost use Rattle.crew_terms.specs.Legal.{IsLegal};
 ghost use Rattle.crew_laws.specs.Visits.{AreVisitsOf};
 ghost use Rattle.plan_check.specs.Visits.{AreTasksOf};
 
-use crate::plan::Plan;
-use crate::turns::fill_turns;
 use arrayvec::ArrayVec;
+use crew_instance::{Plan, fill_turns};
 use crew_terms::Visit;
 use std::alloc::{AllocError, Global};
 

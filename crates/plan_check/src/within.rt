@@ -5,11 +5,11 @@ ghost use Rattle.crew_terms.specs.Plan.{Does};
 ghost use Rattle.crew_terms.specs.Verdict.{IsPlanOf};
 ghost use Rattle.plan_check.specs.Within.{BeginsWithin, KeepsPair, KeepsTask};
 
-use crate::plan::Plan;
+use crew_instance::Plan;
 use crew_terms::Pair;
 use node_limits::Limits;
 
-// Whether team `k` does task `j`.
+/// Whether team `k` does task `j`.
 fn does(plan: &Plan, k: u32, j: u32) -> bool
     requires { j < length plan.now }
     ensures { IsTrue result ↔ ((t : ℕ) × Does plan.now k j t) }
@@ -17,7 +17,7 @@ fn does(plan: &Plan, k: u32, j: u32) -> bool
     plan.teams(j).contains(&k)
 }
 
-// Whether the plan keeps what the node says of team `k` and task `j`.
+/// Whether the plan keeps what the node says of team `k` and task `j`.
 fn keeps_pair(limits: &Limits<'_>, plan: &Plan, k: u32, j: u32) -> bool
     requires team { k < teams_in limits.now.limits }
     requires task { j < tasks_in limits.now.limits }
@@ -31,7 +31,7 @@ fn keeps_pair(limits: &Limits<'_>, plan: &Plan, k: u32, j: u32) -> bool
     }
 }
 
-// Whether task `j` begins in its window, if it is assigned.
+/// Whether task `j` begins in its window, if it is assigned.
 fn begins_within(limits: &Limits<'_>, plan: &Plan, j: u32) -> bool
     requires task { j < tasks_in limits.now.limits }
     requires plan { j < length plan.now }
@@ -44,7 +44,7 @@ fn begins_within(limits: &Limits<'_>, plan: &Plan, j: u32) -> bool
     }
 }
 
-// Whether the plan keeps the limits at task `j`.
+/// Whether the plan keeps the limits at task `j`.
 fn keeps_task(limits: &Limits<'_>, plan: &Plan, j: u32) -> bool
     requires task { j < tasks_in limits.now.limits }
     requires plan { j < length plan.now }

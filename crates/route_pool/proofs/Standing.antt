@@ -4,7 +4,7 @@ use Rattle.std.specs.List.{list_any, IsDistinct}
 use Rattle.std.proofs.lemmas.List.Folds.{list_any_at}
 use Rattle.std.proofs.lemmas.Map.Made.{AllPairs-from_IsDistinct}
 use Rattle.indexmap.proofs.CallerLemmas.{Contains-list_any}
-use Rattle.dossier_terms.specs.Dossier.{Route}
+use Rattle.crew_terms.specs.Limits.{Route}
 use Rattle.route_pool.specs.Keys.{same_route}
 use Rattle.route_pool.specs.KeyLaws.{same_route_decides}
 use Rattle.route_pool.specs.Verdict.{IsNew}

@@ -5,7 +5,7 @@ use Rattle.std.specs.Cmp.{IsEquivalence, IsPartialEquivalence, partial_equiv_fro
 use Rattle.std.specs.Cmp.Lexicographic.{pointwise, pointwise_decides, lists_equiv}
 use Rattle.std.specs.Prelude.{nat_eq}
 use Rattle.crew_terms.specs.declared.Visit.{Visit}
-use Rattle.dossier_terms.specs.Dossier.{Route}
+use Rattle.crew_terms.specs.Limits.{Route}
 use Rattle.route_pool.specs.Keys.{same_visit, same_route, route_input}
 
 same_visit_equiv : IsEquivalence same_visit

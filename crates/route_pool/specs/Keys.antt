@@ -5,7 +5,7 @@ use Rattle.std.specs.Cmp.Lexicographic.{pointwise}
 use Rattle.std.specs.Hash as fed
 use Rattle.std.specs.Ordering.{on, eq_of_both}
 use Rattle.crew_terms.specs.declared.Visit.{Visit}
-use Rattle.dossier_terms.specs.Dossier.{Route}
+use Rattle.crew_terms.specs.Limits.{Route}
 
 -- the same task and the same minute
 abbrev pub same_visit : Visit → Visit → Bool

@@ -1,7 +1,6 @@
 -- what is told of a route that is to be added to a pool, and the pool after it
 use Rattle.std.specs.Prelude.{◌≡◌, ◌≢◌, List, [], ◌∷◌, ◌++◌, All, Contains}
-use Rattle.crew_terms.specs.Limits.{Limits, IsRoute}
-use Rattle.dossier_terms.specs.Dossier.{Route}
+use Rattle.crew_terms.specs.Limits.{Limits, IsRoute, Route}
 use Rattle.route_pool.specs.declared.pool.PoolVerdict.{PoolVerdict}
 use Rattle.route_pool.specs.declared.pool.PoolVerdict.TheVariants.{Added, NotRoute, Repeated}
 

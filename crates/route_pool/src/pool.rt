@@ -31,7 +31,7 @@ pub struct Pool {
 
 impl Model for Pool {
     ghost use Rattle.std.specs.Prelude.{List};
-    ghost use Rattle.dossier_terms.specs.Dossier.{Route as TeamRoute};
+    ghost use Rattle.crew_terms.specs.Limits.{Route as TeamRoute};
 
     ghost Value = { List TeamRoute };
 

@@ -21,7 +21,7 @@ pub struct Route {
 }
 
 impl Model for Route {
-    ghost use Rattle.dossier_terms.specs.Dossier.{Route as TeamRoute};
+    ghost use Rattle.crew_terms.specs.Limits.{Route as TeamRoute};
 
     ghost Value = { TeamRoute };
 

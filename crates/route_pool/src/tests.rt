@@ -1,5 +1,6 @@
 ghost use Rattle.std.specs.Prelude.{◌≤◌, ◌<◌, ◌+◌};
 ghost use Rattle.crew_terms.specs.Limits.{teams_in};
+ghost use Rattle.crew_terms.specs.declared.TheConstants.{LAST_MINUTE};
 
 use super::*;
 use crew_instance::{Builder, Instance, Name, Task, Team};
@@ -12,7 +13,7 @@ fn name(bytes: &[u8]) -> Result<Name, Fail> {
 
 // A task of one team at the gate, with a window of so many minutes.
 fn task(called: &[u8], earliest: u32, minutes: u32) -> Result<Task, Fail>
-    requires { earliest + minutes ≤ 2880 }
+    requires { earliest + minutes ≤ LAST_MINUTE }
 {
     Ok(Task {
         name: name(called)?,

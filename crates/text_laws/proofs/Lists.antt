@@ -1,8 +1,7 @@
 -- lists of which something holds
-use Rattle.std.proofs.Common.{◌≡◌, refl, length-append, ◌<◌, ◌≤◌, ℕ, zero, suc, List, [], ◌∷◌, ◌++◌, length, arith, Bool, true, false, cond}
+use Rattle.std.proofs.Common.{◌≡◌, ◌<◌, ◌+◌, ℕ, zero, suc, List, [], ◌∷◌, ◌++◌, arith, Bool, true, false, cond}
 use Rattle.std.specs.Prelude.{filter, map}
-use Rattle.std.specs.List.{AllByRecursion}
-use Rattle.dossier_terms.specs.Dossier.{below}
+use Rattle.std.specs.List.{AllByRecursion, range_with_len}
 
 pub rec-append : {X : Type 0} (P : X → Type 0) (xs ys : List X) → AllByRecursion P xs → AllByRecursion P ys → AllByRecursion P (xs ++ ys)
 rec-append P [] ys h k = k
@@ -24,18 +23,6 @@ rec-filter P p (x ∷ xs) h = at (p x) (rec-filter P p xs h.1)
     at true k = (h.0, k)
     at false k = k
 
-pub filter_shorter : {X : Type 0} (p : X → Bool) (xs : List X) → length (filter p xs) ≤ length xs
-filter_shorter p [] = omega arith
-filter_shorter p (x ∷ xs) = at (p x) (filter_shorter p xs)
-  where
-    at : (b : Bool) → length (filter p xs) ≤ length xs → length (cond b (x ∷ filter p xs) (filter p xs)) ≤ suc (length xs)
-    at true k = omega arith
-    at false k = omega arith
-
-pub below_less : (n : ℕ) → AllByRecursion (λ s. s < n) (below n)
-below_less zero = tt
-below_less (suc n) = rec-append (λ s. s < suc n) (below n) (n ∷ []) (rec_weaker (λ s. s < n) (λ s. s < suc n) (λ s l. omega arith) (below n) (below_less n)) (omega arith, tt)
-
-pub length-below : (n : ℕ) → length (below n) ≡ n
-length-below zero = refl
-length-below (suc n) = let a = length-below n in omega (arith, length-append (below n) (n ∷ []))
+pub range_less : (a n m : ℕ) → a + n ≡ m → AllByRecursion (λ s. s < m) (range_with_len a n)
+range_less a zero m e = tt
+range_less a (suc n) m e = (omega arith, range_less (a + 1) n m (omega arith))

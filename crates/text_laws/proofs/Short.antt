@@ -12,6 +12,7 @@ use Rattle.std.proofs.lemmas.List.Elements.{All-weaker, All-append, All-cons, Al
 use Rattle.std.proofs.lemmas.List.Sums.{AllPass-from_list_all}
 use Rattle.crew_terms.specs.Name.{IsName, name_byte}
 use Rattle.crew_terms.specs.Words.{Words, line_of}
+use Rattle.crew_terms.specs.declared.TheConstants.{LONGEST_LINE}
 use Rattle.text_laws.specs.Texts.{IsWord, AreLine}
 use Rattle.text_laws.proofs.Lists.{rec_weaker}
 
@@ -52,7 +53,7 @@ whole_line m (w ∷ v ∷ vs) h = All-append (λ b. b ≢ 10) w (32 ∷ line_of 
     (All-cons (λ b. b ≢ 10) 32 (line_of (v ∷ vs)) (omega arith) (whole_line m (v ∷ vs) h.1))
 
 -- at most n words of at most m bytes
-pub short_line : (m n : ℕ) (w : List ℕ) (ws : Words) → n * suc m ≤ 131072 → length (w ∷ ws) ≤ n → AllByRecursion (IsShort m) (w ∷ ws) → AreLine (w ∷ ws)
+pub short_line : (m n : ℕ) (w : List ℕ) (ws : Words) → n * suc m ≤ LONGEST_LINE → length (w ∷ ws) ≤ n → AllByRecursion (IsShort m) (w ∷ ws) → AreLine (w ∷ ws)
 short_line m n w ws room count h =
     let a = length-line_of m (w ∷ ws) h in
     let b : length (w ∷ ws) * suc m ≤ n * suc m = mul-le-mul_right (suc m) count in

@@ -1,5 +1,5 @@
 -- each kind of line is a line
-use Rattle.std.proofs.Common.{◌≡◌, ◌≤◌, ◌<◌, ◌*◌, [], ◌∷◌, ℕ, ℤ, List, length, refl, arith}
+use Rattle.std.proofs.Common.{◌≡◌, ◌≤◌, ◌<◌, ◌+◌, ◌*◌, [], ◌∷◌, ℕ, ℤ, List, length, refl, arith}
 use Rattle.std.specs.Prelude.{codes, map}
 use Rattle.std.specs.List.{AllByRecursion, flat_map}
 use Rattle.std.specs.Fmt.{decimal, signed_decimal}
@@ -7,11 +7,13 @@ use Rattle.std.proofs.lemmas.List.{length-map}
 use Rattle.crew_terms.specs.Name.{IsName}
 use Rattle.crew_terms.specs.Words.{Words}
 use Rattle.crew_terms.specs.Plan.{Job}
+use Rattle.crew_terms.specs.declared.TheConstants.{MOST_PLACES, MOST_TEAMS, MOST_TASKS, SKILLS, LAST_MINUTE}
+use Rattle.crew_terms.specs.declared.TreeCounts.{TreeCounts}
 use Rattle.crew_terms.specs.declared.Team.{Team}
 use Rattle.crew_terms.specs.declared.Task.{Task}
 use Rattle.crew_terms.specs.declared.Visit.{Visit}
 use Rattle.dossier_terms.specs.declared.Size.{Size}
-use Rattle.dossier_terms.specs.Dossier.{Route}
+use Rattle.crew_terms.specs.Limits.{Route}
 use Rattle.dossier_terms.specs.Lines.{form_line, size_line, place_line, travel_line, team_words, task_words, pool_line, route_line, visit_words, plan_line, do_line, tree_line, window_line, pair_line, bare_line, open_line, closed_line, price_line, extra_line, worth_line, phi_line, end_line}
 use Rattle.text_laws.specs.Texts.{AreLine}
 use Rattle.text_laws.proofs.Lists.{rec-map}
@@ -42,17 +44,17 @@ size_is_line z a b c d = fixed_words 5 (codes "size") _ (omega arith) (omega ari
 pub place_is_line : (word : List ℕ) → IsName word → AreLine (place_line word)
 place_is_line word h = short_line 32 2 (codes "place") (word ∷ []) (omega arith) (omega arith) (fixed 32 (codes "place") refl (omega arith), (name word h, tt))
 
-pub travel_is_line : (row : List ℕ) → length row ≤ 200 → AllByRecursion IsFew row → AreLine (travel_line row)
-travel_is_line row few_places h = fixed_words 201 (codes "travel") (map decimal row) (omega arith) (omega (arith, length-map row decimal))
+pub travel_is_line : (row : List ℕ) → length row ≤ MOST_PLACES → AllByRecursion IsFew row → AreLine (travel_line row)
+travel_is_line row few_places h = fixed_words (MOST_PLACES + 1) (codes "travel") (map decimal row) (omega arith) (omega (arith, length-map row decimal))
     (fixed 20 (codes "travel") refl (omega arith), rec-map IsFew (IsShort 20) decimal few row h)
 
-pub team_is_line : (p : Team × List ℕ) → IsName p.0.name → IsFew p.0.home → IsFew p.0.from → IsFew p.0.until → length p.1 ≤ 64 → AllByRecursion IsFew p.1 → AreLine (team_words p)
-team_is_line p named a b c count h = short_line 32 69 (codes "team") _ (omega arith) (omega (arith, length-map p.1 decimal))
+pub team_is_line : (p : Team × List ℕ) → IsName p.0.name → IsFew p.0.home → IsFew p.0.from → IsFew p.0.until → length p.1 ≤ SKILLS → AllByRecursion IsFew p.1 → AreLine (team_words p)
+team_is_line p named a b c count h = short_line 32 (SKILLS + 5) (codes "team") _ (omega arith) (omega (arith, length-map p.1 decimal))
     (fixed 32 (codes "team") refl (omega arith), (name p.0.name named, (few_32 p.0.home a, (few_32 p.0.from b, (few_32 p.0.until c, rec-map IsFew (IsShort 32) decimal few_32 p.1 h)))))
 
 pub task_is_line : (p : Task × List ℕ) → IsName p.0.name → IsFew p.0.place → IsFew p.0.earliest → IsFew p.0.latest → IsFew p.0.minutes → IsFew p.0.teams
-    → length p.1 ≤ 64 → AllByRecursion IsFew p.1 → AreLine (task_words p)
-task_is_line p named a b c d e count h = short_line 32 71 (codes "task") _ (omega arith) (omega (arith, length-map p.1 decimal)) (
+    → length p.1 ≤ SKILLS → AllByRecursion IsFew p.1 → AreLine (task_words p)
+task_is_line p named a b c d e count h = short_line 32 (SKILLS + 7) (codes "task") _ (omega arith) (omega (arith, length-map p.1 decimal)) (
   fixed 32 (codes "task") refl (omega arith),
   (
     name p.0.name named,
@@ -91,8 +93,8 @@ visits_count : (vs : List Visit) → length (flat_map visit_words vs) ≡ 2 * le
 visits_count [] = refl
 visits_count (v ∷ vs) = let a = visits_count vs in omega arith
 
-pub route_is_line : (r : Route) → r.team < 10000 → length r.visits ≤ 2881 → AllByRecursion IsSmall r.visits → AreLine (route_line r)
-route_is_line r team count h = short_line 5 5764 (codes "route") _ (omega arith) (omega (arith, visits_count r.visits))
+pub route_is_line : (r : Route) → r.team < 10000 → length r.visits ≤ LAST_MINUTE + 1 → AllByRecursion IsSmall r.visits → AreLine (route_line r)
+route_is_line r team count h = short_line 5 (2 * LAST_MINUTE + 4) (codes "route") _ (omega arith) (omega (arith, visits_count r.visits))
     (fixed 5 (codes "route") refl (omega arith), (small_number 5 r.team (omega arith) team, visits_short r.visits h))
 
 pub plan_is_line : (u l : ℕ) → IsFew u → IsFew l → AreLine (plan_line u l)
@@ -102,16 +104,16 @@ plan_is_line u l a b = fixed_words 3 (codes "plan") _ (omega arith) (omega arith
 pub record IsFewJob (p : ℕ × Job) : Type 0 where
   pub task : IsFew p.0
   pub start : IsFew p.1.start
-  pub count : length p.1.teams ≤ 64
+  pub count : length p.1.teams ≤ MOST_TEAMS
   pub teams : AllByRecursion IsFew p.1.teams
 
 pub do_is_line : (p : ℕ × Job) → IsFewJob p → AreLine (do_line p)
-do_is_line p h = let n = h.count in fixed_words 67 (codes "do") _ (omega arith) (omega (arith, length-map p.1.teams decimal))
+do_is_line p h = let n = h.count in fixed_words (MOST_TEAMS + 3) (codes "do") _ (omega arith) (omega (arith, length-map p.1.teams decimal))
     (fixed 20 (codes "do") refl (omega arith), (few p.0 h.task, (few p.1.start h.start, rec-map IsFew (IsShort 20) decimal few p.1.teams h.teams)))
 
-pub tree_is_line : (s c o d : ℕ) → IsFew s → IsFew c → IsFew o → IsFew d → AreLine (tree_line s c o d)
-tree_is_line s c o d k l m n = fixed_words 5 (codes "tree") _ (omega arith) (omega arith)
-    (fixed 20 (codes "tree") refl (omega arith), (few s k, (few c l, (few o m, (few d n, tt)))))
+pub tree_is_line : (c : TreeCounts) → IsFew c.splits → IsFew c.closed → IsFew c.left_open → IsFew c.depth → AreLine (tree_line c)
+tree_is_line c k l m n = fixed_words 5 (codes "tree") _ (omega arith) (omega arith)
+    (fixed 20 (codes "tree") refl (omega arith), (few c.splits k, (few c.closed l, (few c.left_open m, (few c.depth n, tt)))))
 
 pub window_is_line : (j cut : ℕ) → IsFew j → IsFew cut → AreLine (window_line j cut)
 window_is_line j cut a b = fixed_words 3 (codes "window") _ (omega arith) (omega arith) (fixed 20 (codes "window") refl (omega arith), (few j a, (few cut b, tt)))
@@ -131,19 +133,19 @@ open_is_line = leaf_is_line (codes "open") (fixed 20 (codes "open") refl (omega 
 pub closed_is_line : AreLine closed_line
 closed_is_line = leaf_is_line (codes "closed") (fixed 20 (codes "closed") refl (omega arith))
 
-pub price_is_line : (vs : List ℤ) → length vs ≤ 400 → AllByRecursion IsWide vs → AreLine (price_line vs)
-price_is_line vs count h = fixed_words 401 (codes "price") _ (omega arith) (omega (arith, length-map vs signed_decimal))
+pub price_is_line : (vs : List ℤ) → length vs ≤ MOST_TASKS → AllByRecursion IsWide vs → AreLine (price_line vs)
+price_is_line vs count h = fixed_words (MOST_TASKS + 1) (codes "price") _ (omega arith) (omega (arith, length-map vs signed_decimal))
     (fixed 20 (codes "price") refl (omega arith), rec-map IsWide (IsShort 20) signed_decimal signed_number vs h)
 
-pub extra_is_line : (j : ℕ) (vs : List ℤ) → IsFew j → length vs ≤ 64 → AllByRecursion IsWide vs → AreLine (extra_line j vs)
-extra_is_line j vs l count h = fixed_words 66 (codes "extra") _ (omega arith) (omega (arith, length-map vs signed_decimal))
+pub extra_is_line : (j : ℕ) (vs : List ℤ) → IsFew j → length vs ≤ MOST_TEAMS → AllByRecursion IsWide vs → AreLine (extra_line j vs)
+extra_is_line j vs l count h = fixed_words (MOST_TEAMS + 2) (codes "extra") _ (omega arith) (omega (arith, length-map vs signed_decimal))
     (fixed 20 (codes "extra") refl (omega arith), (few j l, rec-map IsWide (IsShort 20) signed_decimal signed_number vs h))
 
 pub worth_is_line : (v : ℤ) → IsWide v → AreLine (worth_line v)
 worth_is_line v h = fixed_words 2 (codes "worth") _ (omega arith) (omega arith) (fixed 20 (codes "worth") refl (omega arith), (signed_number v h, tt))
 
-pub phi_is_line : (j : ℕ) (vs : List ℤ) → IsFew j → length vs ≤ 2881 → AllByRecursion IsWide vs → AreLine (phi_line j vs)
-phi_is_line j vs l count h = fixed_words 2883 (codes "phi") _ (omega arith) (omega (arith, length-map vs signed_decimal))
+pub phi_is_line : (j : ℕ) (vs : List ℤ) → IsFew j → length vs ≤ LAST_MINUTE + 1 → AllByRecursion IsWide vs → AreLine (phi_line j vs)
+phi_is_line j vs l count h = fixed_words (LAST_MINUTE + 3) (codes "phi") _ (omega arith) (omega (arith, length-map vs signed_decimal))
     (fixed 20 (codes "phi") refl (omega arith), (few j l, rec-map IsWide (IsShort 20) signed_decimal signed_number vs h))
 
 pub end_is_line : AreLine end_line

@@ -4,7 +4,9 @@
 ghost use Rattle.std.specs.Prelude.{◌≡◌, ◌≢◌, ◌≤◌, ◌++◌, ◌⊎◌, List, [], ℕ, map, All};
 ghost use Rattle.std.specs.List.{flat_map};
 ghost use Rattle.crew_terms.specs.Words.{Words, words_of, line_of, with_feed, IsLine};
-ghost use Rattle.crew_terms.specs.Instance.{Instance, IsInstance};
+ghost use Rattle.crew_terms.specs.Instance.{Instance};
+ghost use Rattle.crew_terms.specs.Rules.{IsInstance};
+ghost use Rattle.crew_terms.specs.declared.TheConstants.{MOST_NODES};
 ghost use Rattle.dossier_terms.specs.Accepted.{IsAccepted};
 ghost use Rattle.dossier_terms.specs.Dossier.{Dossier, IsGood};
 ghost use Rattle.dossier_terms.specs.Lines.{lines_of, text_of, size_of, size_line, place_line, travel_line, team_line, task_line};
@@ -30,7 +32,7 @@ pub fn lines_in_text()
 
 /// Each line of an instance has words without a space and an LF, and is no longer than a line may be.
 pub fn instance_lines()
-    ensures size { (i : Instance) (budget : ℕ) → IsInstance i → budget ≤ 100000 → AreLine (size_line (size_of i budget)) }
+    ensures size { (i : Instance) (budget : ℕ) → IsInstance i → budget ≤ MOST_NODES → AreLine (size_line (size_of i budget)) }
     ensures places { (i : Instance) → IsInstance i → All (λ name. AreLine (place_line name)) i.places }
     ensures travel { (i : Instance) → IsInstance i → All (λ row. AreLine (travel_line row)) i.travel }
     ensures teams { (i : Instance) → IsInstance i → All (λ t. AreLine (team_line t)) i.teams }

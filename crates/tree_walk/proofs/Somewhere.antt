@@ -1,14 +1,15 @@
 -- a walk that stands at a node of some tree
 use Rattle.std.proofs.Common.{◌≡◌, Bool, false, []}
-use Rattle.dossier_terms.specs.Reading.{Counts, Draft, nothing}
+use Rattle.dossier_terms.specs.Reading.{nothing, Begun}
+use Rattle.crew_terms.specs.declared.TreeCounts.{TreeCounts}
 use Rattle.node_limits.specs.Trail.{Trail}
 use Rattle.tree_walk.specs.Way.{Walked, IsAt, IsSomewhere, LeavesLeaf}
 use Rattle.tree_walk.proofs.Leaves.{some_leaf}
 
-some_draft : Draft
+some_draft : Begun
 some_draft = record { instance = nothing; budget = 0; kept = 0; pool = []; plan = []; bound = 0 }
 
-some_counts : Counts
+some_counts : TreeCounts
 some_counts = record { splits = 0; closed = 0; left_open = 0; depth = 0 }
 
 pub at_root : (t : Trail) (w : Walked) → ((u : Trail) → u.past ≡ [] → IsAt u.limits u w []) → t.past ≡ [] → IsSomewhere t w

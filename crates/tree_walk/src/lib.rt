@@ -6,6 +6,7 @@ mod split;
 mod tests;
 mod walk;
 
+pub use crew_terms::TreeCounts;
 pub use node_limits::Limits;
-pub use split::{Split, is_cut};
-pub use walk::{TreeCounts, Walk};
+pub use split::{Branch, is_cut};
+pub use walk::Walk;

@@ -1,23 +1,18 @@
-// A split above a node: which child the node is in, and what that says of its limits.
+// A branch of a tree: how the node above was split, which child it leads to, and what that says of the child's limits.
 ghost use Rattle.std.specs.Prelude.{◌≡◌, ◌≤◌, ◌<◌, ◌↔◌, IsTrue};
 ghost use Rattle.crew_terms.specs.Limits.{tasks_in};
 ghost use Rattle.node_limits.specs.Trail.{changed};
-ghost use Rattle.tree_walk.specs.Splits.{IsCut, IsSplitOf, limits_in, second_of};
+ghost use Rattle.tree_walk.specs.Splits.{second_of};
+ghost use Rattle.crew_terms.specs.Tree.{IsCut, CanSplit, child};
 
-use crew_terms::Pair;
+use crew_terms::{Choice, Pair, Side};
 use node_limits::Limits;
 
 /// A split above a node, and which of its children the node is in.
 #[derive(Clone, Copy, Debug, PartialEq, Eq)]
-pub enum Split {
-    /// The task begins at the minute `cut` or before it.
-    Lower { task: u32, cut: u32 },
-    /// The task begins after the minute `cut`.
-    Upper { task: u32, cut: u32 },
-    /// The team doesn't do the task.
-    Without { team: u32, task: u32 },
-    /// The team does the task.
-    With { team: u32, task: u32 },
+pub struct Branch {
+    pub choice: Choice,
+    pub side: Side,
 }
 
 /// Whether the window of the task can be split at the minute: it begins at the minute or before it, and ends after it.
@@ -29,33 +24,35 @@ pub fn is_cut(limits: &Limits<'_>, task: u32, cut: u32) -> bool
     first <= cut && cut < last
 }
 
-/// The same split with its second child; None where the split is in it already.
-pub(crate) fn second(split: Split) -> Option<Split>
-    ensures { result ≡ second_of split }
+/// The second child of the same split; None where the branch leads to it already.
+pub(crate) fn second(branch: Branch) -> Option<Branch>
+    ensures { result ≡ second_of branch }
 {
-    match split {
-        Split::Lower { task, cut } => Some(Split::Upper { task, cut }),
-        Split::Without { team, task } => Some(Split::With { team, task }),
-        Split::Upper { .. } | Split::With { .. } => None,
+    match branch.side {
+        Side::First => Some(Branch {
+            choice: branch.choice,
+            side: Side::Second,
+        }),
+        Side::Second => None,
     }
 }
 
-/// Changes the limits of a node to those of the child that the split is in.
-pub(crate) fn narrow(limits: &mut Limits<'_>, split: Split)
-    requires split { IsSplitOf limits.old.limits split }
+/// Changes the limits of a node to those of a child.
+pub(crate) fn narrow(limits: &mut Limits<'_>, branch: Branch)
+    requires split { CanSplit limits.old.limits branch.choice }
     requires spare { 1 ≤ limits.old.spare }
-    ensures { limits.new ≡ changed limits.old (limits_in limits.old.limits split) }
+    ensures { limits.new ≡ changed limits.old (child limits.old.limits branch.choice branch.side) }
 {
-    match split {
-        Split::Lower { task, cut } => {
+    match (branch.choice, branch.side) {
+        (Choice::Window { task, cut }, Side::First) => {
             let (first, _) = limits.window(task);
             limits.set_window(task, first, cut);
         }
-        Split::Upper { task, cut } => {
+        (Choice::Window { task, cut }, Side::Second) => {
             let (_, last) = limits.window(task);
             limits.set_window(task, cut + 1, last);
         }
-        Split::Without { team, task } => limits.set_pair(team, task, Pair::Forbidden),
-        Split::With { team, task } => limits.set_pair(team, task, Pair::Required),
+        (Choice::Pair { team, task }, Side::First) => limits.set_pair(team, task, Pair::Forbidden),
+        (Choice::Pair { team, task }, Side::Second) => limits.set_pair(team, task, Pair::Required),
     }
 }

@@ -4,7 +4,7 @@ ghost use Rattle.tree_walk.specs.Way.{IsSomewhere};
 
 use crate::{Limits, TreeCounts, Walk, is_cut};
 use crew_instance::{Builder, Instance, Name, Task, Team};
-use crew_terms::Pair;
+use crew_terms::{Choice, Pair};
 use std::alloc::Global;
 use std::test::Fail;
 
@@ -65,7 +65,7 @@ fn split_window(walk: &mut Walk, limits: &mut Limits<'_>, task: u32, cut: u32) -
     if walk.seen().splits > 100000 {
         return Err("splits")?;
     }
-    walk.enter_window(limits, task, cut)?;
+    walk.enter(limits, Choice::Window { task, cut })?;
     Ok(())
 }
 
@@ -80,7 +80,7 @@ fn split_pair(walk: &mut Walk, limits: &mut Limits<'_>) -> Result<(), Fail>
     if !matches!(limits.pair(0, 1), Pair::Free) || walk.seen().splits > 100000 {
         return Err("pair")?;
     }
-    walk.enter_pair(limits, 0, 1)?;
+    walk.enter(limits, Choice::Pair { team: 0, task: 1 })?;
     Ok(())
 }
 

@@ -1,32 +1,23 @@
 // The way from the root of a tree to the node that is due.
 ghost use Rattle.std.specs.Prelude.{◌≡◌, ◌≤◌, ◌<◌, ◌+◌, ◌^◌, [], ◌∷◌, drop, length, OnErr, OnOk};
-ghost use Rattle.dossier_terms.specs.Reading.{Lower, Without};
 ghost use Rattle.node_limits.specs.Trail.{Trail};
-ghost use Rattle.tree_walk.specs.Splits.{IsCut, IsFreePair, IsSplitOf};
-ghost use Rattle.tree_walk.specs.Way.{Enters, IsAt, IsEntered, IsSomewhere, LeavesLeaf, counts_of, innermost, leaves_like, with_leaf};
+ghost use Rattle.crew_terms.specs.Tree.{CanSplit};
+ghost use Rattle.tree_walk.specs.Way.{Enters, IsAt, IsSomewhere, LeavesLeaf, innermost, leaves_like, with_leaf};
 
-use crate::split::{Split, narrow, second};
+use crate::split::{Branch, narrow, second};
+use crew_terms::{Choice, Side, TreeCounts};
 use node_limits::Limits;
 use std::alloc::{AllocError, Global};
 use std::marker::Model;
 
-/// The numbers of a tree, or of a part of one: its splits, its closed leaves, its other leaves, and its greatest depth.
-#[derive(Clone, Copy, Debug, PartialEq, Eq)]
-pub struct TreeCounts {
-    pub splits: u32,
-    pub closed: u32,
-    pub left_open: u32,
-    pub depth: u32,
-}
-
 /// The way from the root of a tree to the node that is due, where its nodes come in preorder, and the numbers of what
 /// came before that node. The limits go along with it: each call takes them as the call before left them.
 ///
-/// In contracts: the splits above the node, the innermost first, and the numbers so far.
+/// In contracts: the branches that lead to the node, the innermost first, and the numbers so far.
 #[derive(Drop)]
 pub struct Walk {
     // The outermost first.
-    above: Vec<Split>,
+    above: Vec<Branch>,
     seen: TreeCounts,
 }
 
@@ -73,58 +64,24 @@ impl Walk {
         self.above.len()
     }
 
-    /// Splits the node that is due by the window of the task, at the minute, and goes into the child that begins the task
-    /// by then. An `Err` changes nothing.
-    pub fn enter_window(
-        &mut self,
-        limits: &mut Limits<'_>,
-        task: u32,
-        cut: u32,
-    ) -> Result<(), AllocError>
+    /// Splits the node that is due, and goes into its first child. An `Err` changes nothing.
+    pub fn enter(&mut self, limits: &mut Limits<'_>, choice: Choice) -> Result<(), AllocError>
         requires somewhere { IsSomewhere limits.old self.old }
-        requires split { IsCut limits.old.limits task cut }
+        requires split { CanSplit limits.old.limits choice }
         requires room { self.old.seen.splits + 1 < 2 ^ 32 }
-        ensures ok { OnOk result (Enters (Lower task cut) limits.old self.old limits.new self.new) }
+        ensures ok { OnOk result (Enters choice limits.old self.old limits.new self.new) }
         ensures err { OnErr result (self.new ≡ self.old) }
         ensures err_limits { OnErr result (limits.new ≡ limits.old) }
         ensures instance { limits.new.limits.instance ≡ limits.old.limits.instance }
-    {
-        self.enter(limits, Split::Lower { task, cut })?;
-        Ok(())
-    }
-
-    /// Splits the node that is due by whether the team does the task, and goes into the child where it doesn't. An `Err`
-    /// changes nothing.
-    pub fn enter_pair(
-        &mut self,
-        limits: &mut Limits<'_>,
-        team: u32,
-        task: u32,
-    ) -> Result<(), AllocError>
-        requires somewhere { IsSomewhere limits.old self.old }
-        requires split { IsFreePair limits.old.limits team task }
-        requires room { self.old.seen.splits + 1 < 2 ^ 32 }
-        ensures ok { OnOk result (Enters (Without team task) limits.old self.old limits.new self.new) }
-        ensures err { OnErr result (self.new ≡ self.old) }
-        ensures err_limits { OnErr result (limits.new ≡ limits.old) }
-        ensures instance { limits.new.limits.instance ≡ limits.old.limits.instance }
-    {
-        self.enter(limits, Split::Without { team, task })?;
-        Ok(())
-    }
-
-    // Splits the node, and goes into the child that the split is in. An `Err` changes nothing.
-    fn enter(&mut self, limits: &mut Limits<'_>, split: Split) -> Result<(), AllocError>
-        requires split { IsSplitOf limits.old.limits split }
-        requires room { self.old.seen.splits + 1 < 2 ^ 32 }
-        ensures ok { OnOk result (IsEntered split limits.old self.old limits.new self.new) }
-        ensures err { OnErr result (self.new ≡ self.old) }
-        ensures err_limits { OnErr result (limits.new ≡ limits.old) }
     {
         self.above.reserve(1)?;
         limits.reserve(1)?;
-        narrow(limits, split);
-        self.above.push(split).unwrap();
+        let first = Branch {
+            choice,
+            side: Side::First,
+        };
+        narrow(limits, first);
+        self.above.push(first).unwrap();
         self.seen.splits += 1;
         Ok(())
     }
@@ -138,9 +95,9 @@ impl Walk {
         ensures instance { limits.new.limits.instance ≡ limits.old.limits.instance }
     {
         self.count_leaf(is_closed);
-        while let Some(split) = self.innermost() {
+        while let Some(branch) = self.innermost() {
             limits.undo();
-            if let Some(next) = second(split) {
+            if let Some(next) = second(branch) {
                 narrow(limits, next);
                 self.turn(next);
                 return false;
@@ -154,7 +111,7 @@ impl Walk {
     fn count_leaf(&mut self, is_closed: bool)
         requires { leaves_like is_closed self.old.seen + 1 < 2 ^ 32 }
         ensures above { self.new.above ≡ self.old.above }
-        ensures seen { counts_of self.new.seen ≡ with_leaf is_closed (length self.old.above) (counts_of self.old.seen) }
+        ensures seen { self.new.seen ≡ with_leaf is_closed (length self.old.above) self.old.seen }
     {
         let level = self.above.len() as u32;
         if is_closed {
@@ -167,8 +124,8 @@ impl Walk {
         }
     }
 
-    // The innermost split above the node that is due.
-    fn innermost(&self) -> Option<Split>
+    // The branch that leads to the node that is due.
+    fn innermost(&self) -> Option<Branch>
         ensures { result ≡ innermost self.now.above }
     {
         match self.above.len() {
@@ -177,8 +134,8 @@ impl Walk {
         }
     }
 
-    // Puts another split in the place of the innermost one.
-    fn turn(&mut self, to: Split)
+    // Puts another branch in the place of the innermost one.
+    fn turn(&mut self, to: Branch)
         requires { 0 < length self.old.above }
         ensures { self.new ≡ record self.old { above = to ∷ drop 1 self.old.above } }
     {
@@ -186,7 +143,7 @@ impl Walk {
         self.above[level - 1] = to;
     }
 
-    // Goes up from the innermost split.
+    // Goes up from the innermost branch.
     fn rise(&mut self)
         ensures { self.new ≡ record self.old { above = drop 1 self.old.above } }
     {

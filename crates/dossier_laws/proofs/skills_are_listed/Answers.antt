@@ -1,4 +1,4 @@
-use Rattle.dossier_laws.proofs.Minutes.{skills_listed}
+use Rattle.dossier_laws.proofs.Skills.{skills_listed}
 use Rattle.dossier_laws.proofs.skills_are_listed.Goals as goal
 
 pub returns : goal.returns

@@ -1,5 +1,7 @@
 // Each refusal of each kind of entry.
 ghost use Rattle.std.specs.Prelude.{◌≤◌, IfOk};
+ghost use Rattle.crew_terms.specs.declared.TheConstants.{LAST_MINUTE};
+ghost use Rattle.day_terms.specs.declared.TheConstants.{GREATEST_COUNT};
 ghost use Rattle.day_terms.specs.Ranges.{IsInRange};
 
 use super::{change, fill_small_day, name, numbered, place, refuses, task, team};
@@ -40,8 +42,8 @@ fn cancel(task: &[u8]) -> Result<Entry, Fail>
 }
 
 fn move_to(task: &[u8], earliest: u32, latest: u32) -> Result<Entry, Fail>
-    requires first { earliest ≤ 2880 }
-    requires last { latest ≤ 2880 }
+    requires first { earliest ≤ LAST_MINUTE }
+    requires last { latest ≤ LAST_MINUTE }
     ensures { IfOk result IsInRange }
 {
     Ok(Entry::Move {
@@ -61,7 +63,7 @@ fn longer(task: &[u8]) -> Result<Entry, Fail>
 }
 
 fn needs(task: &[u8], teams: u32) -> Result<Entry, Fail>
-    requires { teams ≤ 99 }
+    requires { teams ≤ GREATEST_COUNT }
     ensures { IfOk result IsInRange }
 {
     Ok(Entry::Needs {
@@ -77,8 +79,8 @@ fn sick(team: &[u8]) -> Result<Entry, Fail>
 }
 
 fn shift(team: &[u8], from: u32, until: u32) -> Result<Entry, Fail>
-    requires first { from ≤ 2880 }
-    requires last { until ≤ 2880 }
+    requires first { from ≤ LAST_MINUTE }
+    requires last { until ≤ LAST_MINUTE }
     ensures { IfOk result IsInRange }
 {
     Ok(Entry::Shift {

@@ -2,6 +2,7 @@ use Rattle.std.proofs.Common.{◌≡◌, ◌+◌, suc, ap, sym, subst, refl, ◌
 use Rattle.std.specs.Prelude.{slice_set}
 use Rattle.crew_terms.specs.Plan.{Job}
 use Rattle.crew_terms.specs.Verdict.{IsPlanOf}
+use Rattle.crew_terms.specs.declared.TheConstants.{MOST_TEAMS}
 use Rattle.dossier_terms.specs.declared.Reason.TheVariants as reasons
 use Rattle.dossier_terms.specs.Reading.{Jobs, No as Refuses}
 use Rattle.dossier_terms.specs.Rules.{Holds, Fails}
@@ -28,9 +29,9 @@ returns-then-task-from c = λ reading a.
 pub team_list-requires : goal.team_list-requires
 team_list-requires c =
     let h = subst (IsJobLine c.teams-teams.result c.tasks-tasks.result c.args.words) c.in-Job.is c.in-Ok.ensures in
-    let few = c.teams-teams.ensures.limits.few_teams in
+    let few = c.teams-teams.ensures.limits.parts.few_teams in
     let count = c.teams-teams.ensures.count in
-    subst (AreBelow 64) (sym h.1) (below_from c.teams-teams.result 64 h.0 (omega arith) h.2.teams)
+    subst (AreBelow MOST_TEAMS) (sym h.1) (below_from c.teams-teams.result MOST_TEAMS h.0 (omega arith) h.2.teams)
 
 pub judge_job-requires : goal.judge_job-requires
 judge_job-requires c =

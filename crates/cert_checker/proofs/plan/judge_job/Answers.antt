@@ -1,5 +1,5 @@
 use Rattle.std.proofs.Common.{arith, subst, sym}
-use Rattle.crew_terms.specs.Plan.{IsLegal}
+use Rattle.crew_terms.specs.Legal.{IsLegal}
 use Rattle.crew_terms.specs.Verdict.{IsVerdict}
 use Rattle.cert_checker.specs.declared.due.Draft.{Draft}
 use Rattle.cert_checker.proofs.PlanRows.{job_goes_on, jobs_judged, jobs_faulty}

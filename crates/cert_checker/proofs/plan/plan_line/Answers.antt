@@ -1,6 +1,6 @@
 use Rattle.std.proofs.Common.{◌≡◌, ◌≤◌, ◌-◌, length, ap, sym, subst, ◌∙◌}
 use Rattle.cert_format.specs.Lines.{IsPlanLine}
-use Rattle.dossier_terms.specs.Reading.{Draft, Plans, jobs_due}
+use Rattle.dossier_terms.specs.Reading.{Plans, jobs_due, Begun}
 use Rattle.dossier_terms.specs.Table.{Says}
 use Rattle.cert_checker.specs.Due.{Awaits, IsBegun, Tells, draft_of}
 use Rattle.cert_checker.specs.declared.due.Draft.{Draft as Kept}
@@ -22,7 +22,7 @@ returns c = λ reading a.
     let size = c.tasks-tasks.ensures.count in
     let u = c.in-Plan.unassigned in
     let l = c.in-Plan.bound in
-    let bounded : Draft = record (draft_of b) { bound = l } in
+    let bounded : Begun = record (draft_of b) { bound = l } in
     let next : Awaits c.due_jobs.result (jobs_due bounded (length i.tasks - u) 0) = subst (λ n. Awaits c.due_jobs.result (jobs_due bounded (n - u) 0)) size c.due_jobs.ensures in
     subst (λ r. Tells (Says r c.args.words) (More c.due_jobs.result)) (sym (a.1 ∙ ap (λ (d : Kept). Plans (draft_of d)) (sym same))) (
       jobs_due bounded (length i.tasks - u) 0,

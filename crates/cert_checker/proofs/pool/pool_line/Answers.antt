@@ -3,7 +3,7 @@ use Rattle.std.proofs.lemmas.Int.{ints}
 use Rattle.dossier_terms.specs.declared.Reason.TheVariants as reasons
 use Rattle.head_check.specs.declared.due.Base.{Base}
 use Rattle.dossier_terms.specs.Reading.{No as Refuses, routes_due}
-use Rattle.dossier_terms.specs.Table.{Says, draft}
+use Rattle.dossier_terms.specs.Table.{Says, begin}
 use Rattle.cert_format.specs.Lines.{IsPoolLine}
 use Rattle.cert_checker.specs.Due.{Awaits, Tells}
 use Rattle.cert_checker.specs.declared.due.Step.TheVariants.{More}
@@ -27,9 +27,9 @@ returns c = λ reading e.
     let le : h.0 ≤ h.1 = omega (arith, ints) in
     let kept : c.natural.result ≡ h.0 = natural_is c.in-Pool.kept h.0 c.natural.result k h.4 c.natural.ensures in
     let routes : c.natural-2.result ≡ h.1 = natural_is c.in-Pool.routes h.1 c.natural-2.result n h.5 c.natural-2.ensures in
-    let begun = subst (λ (b : Base). Awaits due (routes_due (draft b.instance b.nodes c.natural.result) c.natural-2.result)) c.into_inner.ensures c.in_ok-due.ensures in
-    let next : Awaits due (routes_due (draft i budget h.0) h.1) =
-    subst (λ m. Awaits due (routes_due (draft i budget h.0) m)) routes
-    (subst (λ m. Awaits due (routes_due (draft i budget m) c.natural-2.result)) kept begun) in
+    let begun = subst (λ (b : Base). Awaits due (routes_due (begin b.instance b.nodes c.natural.result) c.natural-2.result)) c.into_inner.ensures c.in_ok-due.ensures in
+    let next : Awaits due (routes_due (begin i budget h.0) h.1) =
+    subst (λ m. Awaits due (routes_due (begin i budget h.0) m)) routes
+    (subst (λ m. Awaits due (routes_due (begin i budget m) c.natural-2.result)) kept begun) in
     subst (λ r. Tells (Says r c.args.words) (More due)) (sym e)
-    (routes_due (draft i budget h.0) h.1, pool_more i budget h.0 h.1 c.args.words h.4 h.5 h.6 le, next)
+    (routes_due (begin i budget h.0) h.1, pool_more i budget h.0 h.1 c.args.words h.4 h.5 h.6 le, next)

@@ -1,6 +1,5 @@
 use Rattle.std.proofs.Common.{◌≡◌, ◌<◌, length, ap, sym, subst, refl, ◌∙◌, arith}
-use Rattle.crew_terms.specs.Limits.{root_limits, teams_in}
-use Rattle.dossier_terms.specs.Dossier.{Route}
+use Rattle.crew_terms.specs.Limits.{root_limits, teams_in, Route}
 use Rattle.dossier_terms.specs.Reading.{Routes}
 use Rattle.dossier_terms.specs.Table.{Says}
 use Rattle.cert_format.specs.Lines.{IsRouteLine}
@@ -18,7 +17,7 @@ read-requires c =
     let h = subst (IsRouteLine c.teams-teams.result c.tasks-tasks.result c.args.words) c.in-Route.is c.in-Ok.ensures in
     let route : Route = record { team = c.in-Route.team; visits = h.0 } in
     let count = c.tasks-tasks.ensures.count in
-    let few = c.tasks-tasks.ensures.limits.few_tasks in
+    let few = c.tasks-tasks.ensures.limits.parts.few_tasks in
     (h.0, subst (AreNumbersOf h.0) (sym h.1) (route_numbers c.teams-teams.result c.tasks-tasks.result route (omega arith) h.2))
 
 pub add-requires : goal.add-requires
@@ -27,7 +26,7 @@ add-requires c =
     let route : Route = record { team = c.in-Route.team; visits = h.0 } in
     let i = c.deref_mut-held.result.now.base.instance in
     let count = c.tasks-tasks.ensures.count in
-    let few = c.tasks-tasks.ensures.limits.few_tasks in
+    let few = c.tasks-tasks.ensures.limits.parts.few_tasks in
     let numbers = subst (AreNumbersOf h.0) (sym h.1) (route_numbers c.teams-teams.result c.tasks-tasks.result route (omega arith) h.2) in
     let read : c.in_ok-route.route ≡ route = c.in_ok-route.ensures h.0 numbers in
     let fits = route_of_counts i c.teams-teams.result c.tasks-tasks.result route c.teams-teams.ensures.count count h.2 in
@@ -55,7 +54,7 @@ returns c = λ reading kept.
     let due : reading ≡ Routes (draft_of b) c.args.more = kept.1 ∙ ap (λ (d : Draft). Routes (draft_of d) c.args.more) (sym same) in
     let i = b.base.instance in
     let count = c.tasks-tasks.ensures.count in
-    let few = c.tasks-tasks.ensures.limits.few_tasks in
+    let few = c.tasks-tasks.ensures.limits.parts.few_tasks in
     let numbers = subst (AreNumbersOf h.0) (sym h.1) (route_numbers c.teams-teams.result c.tasks-tasks.result route (omega arith) h.2) in
     let read : c.in_ok-route.route ≡ route = c.in_ok-route.ensures h.0 numbers in
     let fits = route_of_counts i c.teams-teams.result c.tasks-tasks.result route c.teams-teams.ensures.count count h.2 in

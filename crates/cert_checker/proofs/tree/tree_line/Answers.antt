@@ -2,8 +2,6 @@ use Rattle.std.proofs.Common.{sym, subst, None, Some}
 use Rattle.dossier_terms.specs.Reading.{No as Refuses}
 use Rattle.dossier_terms.specs.Table.{Says}
 use Rattle.cert_format.specs.Lines.{IsTreeLine}
-use Rattle.tree_walk.specs.Way.{counts_of}
-use Rattle.tree_walk.specs.declared.walk.TreeCounts.{TreeCounts}
 use Rattle.cert_checker.specs.Due.{Tells, draft_of}
 use Rattle.cert_checker.specs.Rules.{IsTreeFault}
 use Rattle.cert_checker.specs.declared.due.Draft.{Draft}
@@ -15,17 +13,15 @@ use Rattle.cert_checker.proofs.tree.tree_line.Goals as goal
 pub returns-in-Some : goal.returns-in-Some
 returns-in-Some c = λ reading awaited.
     let h = subst (IsTreeLine c.args.words) c.in-Tree.is c.in-Ok.ensures in
-    let claimed : TreeCounts = record { splits = c.in-Tree.splits; closed = c.in-Tree.closed; left_open = c.in-Tree.left_open; depth = c.in-Tree.depth } in
     subst (λ r. Says r c.args.words (Refuses c.in-Some.reason)) (sym awaited.1)
-    (tree_faulty c.args.draft claimed c.args.words c.in-Some.reason h.0 h.1
-    (subst (λ (d : Draft). IsTreeFault (draft_of d) (counts_of claimed) (Some c.in-Some.reason)) c.deref.ensures c.in-Some.ensures))
+    (tree_faulty c.args.draft c.in-Tree.claimed c.args.words c.in-Some.reason h.0 h.1
+    (subst (λ (d : Draft). IsTreeFault (draft_of d) c.in-Tree.claimed (Some c.in-Some.reason)) c.deref.ensures c.in-Some.ensures))
 
 pub returns : goal.returns
 returns c = λ reading awaited.
     let h = subst (IsTreeLine c.args.words) c.in-Tree.is c.in-Ok.ensures in
-    let claimed : TreeCounts = record { splits = c.in-Tree.splits; closed = c.in-Tree.closed; left_open = c.in-Tree.left_open; depth = c.in-Tree.depth } in
     let tree = c.in_ok-tree.tree in
-    let none : IsTreeFault (draft_of c.args.draft.value) (counts_of claimed) None =
-    subst (λ (d : Draft). IsTreeFault (draft_of d) (counts_of claimed) None) c.deref.ensures c.in_default-fault_of_tree.ensures in
+    let none : IsTreeFault (draft_of c.args.draft.value) c.in-Tree.claimed None =
+    subst (λ (d : Draft). IsTreeFault (draft_of d) c.in-Tree.claimed None) c.deref.ensures c.in_default-fault_of_tree.ensures in
     subst (λ r. Tells (Says r c.args.words) (More (Node tree None))) (sym awaited.1)
-    (tree_begun c.args.draft claimed tree c.args.words h.0 h.1 none c.in_ok-tree.ensures.draft c.in_ok-tree.ensures.claimed c.in_ok-tree.ensures.node)
+    (tree_begun c.args.draft c.in-Tree.claimed tree c.args.words h.0 h.1 none c.in_ok-tree.ensures.draft c.in_ok-tree.ensures.claimed c.in_ok-tree.ensures.node)

@@ -3,6 +3,7 @@ use Rattle.std.proofs.lemmas.Int.{ints}
 use Rattle.std.proofs.lemmas.Result.{err_from_is_err_and}
 use Rattle.std.specs.Prelude.{codes}
 use Rattle.crew_terms.specs.Name.{IsName}
+use Rattle.crew_terms.specs.declared.TheConstants.{MOST_TEAMS_PER_TASK, LAST_MINUTE}
 use Rattle.cert_format.specs.declared.kinds.Expect.TheVariants.{Task}
 use Rattle.cert_format.proofs.Accepted.{number_field, last_of, last_below}
 use Rattle.cert_format.proofs.Fields.{number_spelled}
@@ -65,8 +66,8 @@ returns c =
     let place = number_spelled (number_field 0 (last_of c.args.places)) (get_or ws 2 []) refl (omega (arith, ints)) (_, c.in_ok-place.ensures.0, c.in_ok-place.ensures.1) in
     let earliest = number_spelled minute_field (get_or ws 3 []) refl (omega (arith, ints)) (_, c.in_ok-earliest.ensures.0, c.in_ok-earliest.ensures.1) in
     let latest = number_spelled minute_field (get_or ws 4 []) refl (omega (arith, ints)) (_, c.in_ok-latest.ensures.0, c.in_ok-latest.ensures.1) in
-    let minutes = number_spelled (number_field 1 (pos 2880)) (get_or ws 5 []) refl (omega (arith, ints)) (_, c.in_ok-minutes.ensures.0, c.in_ok-minutes.ensures.1) in
-    let teams = number_spelled (number_field 1 (pos 8)) (get_or ws 6 []) refl (omega (arith, ints)) (_, c.in_ok-teams.ensures.0, c.in_ok-teams.ensures.1) in
+    let minutes = number_spelled (number_field 1 (pos LAST_MINUTE)) (get_or ws 5 []) refl (omega (arith, ints)) (_, c.in_ok-minutes.ensures.0, c.in_ok-minutes.ensures.1) in
+    let teams = number_spelled (number_field 1 (pos MOST_TEAMS_PER_TASK)) (get_or ws 6 []) refl (omega (arith, ints)) (_, c.in_ok-teams.ensures.0, c.in_ok-teams.ensures.1) in
     let places = last_below c.args.places (omega arith) in (
       rest.0,
       rest.1,
@@ -77,8 +78,7 @@ returns c =
         latest = omega (arith, ints);
         some_minutes = omega (arith, ints);
         minutes = omega (arith, ints);
-        some_teams = omega (arith, ints);
-        teams = omega (arith, ints);
+        teams = record { some = omega (arith, ints); few = omega (arith, ints) };
         none = refl;
         skills = rest.2.below;
       },

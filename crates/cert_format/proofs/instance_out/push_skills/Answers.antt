@@ -1,6 +1,7 @@
 use Rattle.std.proofs.Common.{◌≡◌, ◌++◌, map, ap, sym, subst, ◌∙◌, arith}
 use Rattle.std.specs.Fmt.{decimal}
 use Rattle.std.proofs.lemmas.Nat.Bits.{shr_and_one}
+use Rattle.crew_terms.specs.declared.TheConstants.{SKILLS}
 use Rattle.arrayvec.specs.ArrayVec.{array_vec_len}
 use Rattle.cert_format.specs.Parts.{text_of}
 use Rattle.cert_format.proofs.Heads.{skills_below, skill_not, skill_pushed}
@@ -27,5 +28,5 @@ loop-s-preserved c =
 
 pub returns : goal.returns
 returns c =
-    let s : c.loop-s.s ≡ 64 = (let f = c.loop-s-test.false in let e = c.loop-s.auto.s-end in omega (arith, f, e)) in
+    let s : c.loop-s.s ≡ SKILLS = (let f = c.loop-s-test.false in let e = c.loop-s.auto.s-end in omega (arith, f, e)) in
     subst (λ n. map text_of c.loop-s.line.items ≡ map text_of c.args.line.now.items ++ map decimal (skills_below c.args.skills n)) s c.loop-s.invariant.so_far

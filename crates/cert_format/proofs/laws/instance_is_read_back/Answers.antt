@@ -19,28 +19,28 @@ returns-clause-size c = λ i budget h spend.
     let line = c.instance_lines.ensures.size i budget h spend in
     let words = size_line (size_of i budget) in
     read_as expected.Size words (size_kind (size_of i budget)) tt line.line (c.words_of_line.ensures.words words line.some (spaceless words line))
-    (record { teams = h.few_teams; tasks = h.few_tasks; places = h.few_places; nodes = spend }, refl)
+    (record { teams = h.parts.few_teams; tasks = h.parts.few_tasks; places = h.parts.few_places; nodes = spend }, refl)
 
 pub returns-clause-places : goal.returns-clause-places
 returns-clause-places c = λ i h k d l.
     let line = c.instance_lines.ensures.places i h k d l in
     let words = place_line (get_or i.places k d) in
-    read_as expected.Place words (place_kind (get_or i.places k d)) tt line.line (c.words_of_line.ensures.words words line.some (spaceless words line)) (h.places k d l, refl)
+    read_as expected.Place words (place_kind (get_or i.places k d)) tt line.line (c.words_of_line.ensures.words words line.some (spaceless words line)) (h.parts.places k d l, refl)
 
 pub returns-clause-travel : goal.returns-clause-travel
 returns-clause-travel c = λ i h k d l.
     let line = c.instance_lines.ensures.travel i h k d l in
     let row = get_or i.travel k d in
-    let few = h.few_places in
+    let few = h.parts.few_places in
     read_as (expected.Travel (length i.places)) (travel_line row) (travel_kind row) (omega arith) line.line (c.words_of_line.ensures.words (travel_line row) line.some (spaceless (travel_line row) line))
-    (row, refl, record { count = h.columns k d l; minutes = h.minutes k d l }, refl)
+    (row, refl, record { count = h.times.columns k d l; minutes = h.times.minutes k d l }, refl)
 
 pub returns-clause-teams : goal.returns-clause-teams
 returns-clause-teams c = λ i h k d l.
     let line = c.instance_lines.ensures.teams i h k d l in
     let t = get_or i.teams k d in
-    let is = h.teams k d l in
-    let few = h.few_places in
+    let is = h.parts.teams k d l in
+    let few = h.parts.few_places in
     read_as (expected.Team (length i.places)) (team_line t) (team_kind t) (omega arith) line.line (c.words_of_line.ensures.words (team_line t) line.some (spaceless (team_line t) line))
     (skills_of t.skills, refl, team_spelled (length i.places) t is (c.set_is_spelled.ensures t.skills is.skills).0, refl)
 
@@ -48,13 +48,13 @@ pub returns-clause-tasks : goal.returns-clause-tasks
 returns-clause-tasks c = λ i h k d l.
     let line = c.instance_lines.ensures.tasks i h k d l in
     let t = get_or i.tasks k d in
-    let is = h.tasks k d l in
-    let few = h.few_places in
+    let is = h.parts.tasks k d l in
+    let few = h.parts.few_places in
     read_as (expected.Task (length i.places)) (task_line t) (task_kind t) (omega arith) line.line (c.words_of_line.ensures.words (task_line t) line.some (spaceless (task_line t) line))
     (skills_of t.skills, refl, task_spelled (length i.places) t is (c.set_is_spelled.ensures t.skills is.skills).0, refl)
 
 pub returns-clause-team_skills : goal.returns-clause-team_skills
-returns-clause-team_skills c = λ i h k d l. (c.set_is_spelled.ensures (get_or i.teams k d).skills (h.teams k d l).skills).1
+returns-clause-team_skills c = λ i h k d l. (c.set_is_spelled.ensures (get_or i.teams k d).skills (h.parts.teams k d l).skills).1
 
 pub returns-clause-task_skills : goal.returns-clause-task_skills
-returns-clause-task_skills c = λ i h k d l. (c.set_is_spelled.ensures (get_or i.tasks k d).skills (h.tasks k d l).skills).1
+returns-clause-task_skills c = λ i h k d l. (c.set_is_spelled.ensures (get_or i.tasks k d).skills (h.parts.tasks k d l).skills).1

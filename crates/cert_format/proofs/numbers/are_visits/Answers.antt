@@ -3,6 +3,7 @@ use Rattle.std.proofs.lemmas.Int.{ints}
 use Rattle.std.proofs.lemmas.Bool.{cases_eq}
 use Rattle.std.specs.Fmt.{decimal}
 use Rattle.std.proofs.lemmas.List.{get_or-drop}
+use Rattle.crew_terms.specs.declared.TheConstants.{LAST_MINUTE}
 use Rattle.cert_format.proofs.Accepted.{cast, number_field, last_below}
 use Rattle.cert_format.proofs.Fields.{number_spelled}
 use Rattle.cert_format.proofs.Visits.{SpellsVisit, length-visits, visit_at, visits_all}
@@ -50,7 +51,7 @@ loop-n-preserved c = λ k less.
     let one = c.if-not-is_in.ensures in
     let two = c.if-not-is_in-2.ensures in
     let task = number_spelled (number_field 0 high) (get_or ws (from + 2 * n) []) refl (omega (arith, ints)) one in
-    let start = number_spelled (number_field 0 (pos 2880)) (get_or ws (from + 2 * n + 1) []) refl (omega (arith, ints)) two in
+    let start = number_spelled (number_field 0 (pos LAST_MINUTE)) (get_or ws (from + 2 * n + 1) []) refl (omega (arith, ints)) two in
     let below = task.1 in
     let most = start.1 in
     elim (cases_eq k n) [

@@ -20,5 +20,5 @@ returns-in_ok-due_teams-in-Ok c =
     let due = c.in_ok-due_teams-in-Ok.field-0 in
     subst (λ (h : Head). Tells (after_team h.size c.args.more (parts_of h.builder h.size.places) c.args.team (IsTrue c.args.rises)) (More due)) e
     (team_more b.size c.args.more b.builder c.team.new.self b.size.places c.args.team (IsTrue c.args.rises) due
-    c.if-rises.true (omega arith) head.places (subst (λ (h : Head). c.args.team.home < h.size.places) (sym e) c.requires.home) c.requires.day
+    c.if-rises.true (omega arith) head.places (subst (λ (h : Head). c.args.team.home < h.size.places) (sym e) c.requires.home)
     (λ h. let e = (c.in-Ok.ensures.same_name).1 h in cc) (λ h. let e = (c.in-Ok.ensures.bad_shift).1 h in cc) c.in-Ok.ensures.ok c.in_ok-due_teams-in-Ok.ensures)

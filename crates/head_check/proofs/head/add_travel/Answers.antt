@@ -1,6 +1,7 @@
 use Rattle.std.proofs.Common.{◌≡◌, ◌+◌, ◌-◌, ℕ, suc, List, length, map, ap, sym, subst, ◌∙◌, arith}
 use Rattle.std.specs.Prelude.{ℤ, pos}
 use Rattle.std.proofs.lemmas.List.{length-map}
+use Rattle.crew_terms.specs.declared.TheConstants.{LAST_MINUTE}
 use Rattle.crew_instance.specs.Draft.{with_row}
 use Rattle.dossier_terms.specs.Reading.{More as Goes, travels_due}
 use Rattle.dossier_terms.specs.Rules.{On}
@@ -44,7 +45,7 @@ set_row-requires-clause-count c =
 pub set_row-requires-clause-day : goal.set_row-requires-clause-day
 set_row-requires-clause-day c =
     let t = c.requires.times in
-    subst (AreBelow 2881) (sym t.1) (minutes_below t.0 t.2.minutes)
+    subst (AreBelow (LAST_MINUTE + 1)) (sym t.1) (minutes_below t.0 t.2.minutes)
 
 pub due_travels-requires : goal.due_travels-requires
 due_travels-requires c =

@@ -18,7 +18,7 @@ returns-in-Err c =
 pub returns : goal.returns
 returns c =
     let h = subst (IsSizeLine c.args.words) c.in-Size.is c.in-Ok.ensures in
-    let z : SizeNumbers = record { teams = c.in-Size.teams; tasks = c.in-Size.tasks; places = c.in-Size.places; nodes = c.in-Size.nodes } in
+    let z : SizeNumbers = c.in-Size.size in
     let next = c.in_ok-due_places.ensures in
     says_step Size c.args.words (More c.in_ok-due_places.field-0)
     (size_more c.args.words z (Goes (reading_of c.in_ok-due_places.field-0)) h.0 h.1 (ap Goes (next.is ∙ ap (λ (h : Head). places_due h.size z.places (parts_of h.builder 0)) c.in_ok-head.ensures.ok ∙ ap (λ b. places_due z z.places (parts_of b 0)) c.new.ensures)))

@@ -6,6 +6,7 @@ use Rattle.dossier_terms.specs.Table.{after_team}
 use Rattle.head_check.specs.Head.{reading_of, IsStep, Tells, parts_of}
 use Rattle.std.specs.Prelude.{IsTrue}
 use Rattle.crew_terms.specs.declared.Team.{Team}
+use Rattle.crew_terms.specs.declared.TheConstants.{SKILLS}
 use Rattle.head_check.specs.declared.due.Head.{Head}
 use Rattle.head_check.specs.declared.due.HeadDue.TheVariants.{Team as TeamDue}
 use Rattle.head_check.specs.declared.due.HeadStep.TheVariants.{No}
@@ -23,7 +24,7 @@ returns-in-Err c =
 pub skill_set-set-requires : goal.skill_set-set-requires
 skill_set-set-requires c =
     let h = subst (IsTeamOf c.args.head.value.size.places c.args.words) c.in-Team.is (subst (λ (h : Head). IsTeamOf h.size.places c.args.words c.in-Ok.kind) c.deref.ensures c.in-Ok.ensures) in
-    subst (AreBelow 64) (sym h.1) (below_from 64 h.0 h.2.skills)
+    subst (AreBelow SKILLS) (sym h.1) (below_from SKILLS h.0 h.2.skills)
 
 pub returns : goal.returns
 returns c =
@@ -37,6 +38,6 @@ returns c =
     let rules = after_team z c.args.more i team (IsTrue c.is_some.result) in
     if_ok c.add_team.result (Tells rules) (IsStep due c.args.words) c.add_team.ensures (λ step t.
     tells_step due c.args.words step rules (λ said rest. team_says z c.args.more i c.args.words (spelled, h.0) said h.2 h.3
-    (team_rules z c.args.more i c.in-Team.name c.in-Team.home c.in-Team.from c.in-Team.until c.unwrap_or.result h.0 (IsTrue c.is_some.result) said
+    (team_rules z c.args.more i team h.0 (IsTrue c.is_some.result) said
     (λ is. let f = facts.0 (subst IsTrue c.is_some.ensures is) in (f.0, c.unwrap_or.ensures ∙ f.1))
     (λ not rise. facts.1 (λ is. not (subst IsTrue (sym c.is_some.ensures) is)) rise) rest)) t)

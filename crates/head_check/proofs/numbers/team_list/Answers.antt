@@ -1,9 +1,10 @@
-use Rattle.std.proofs.Common.{◌<◌, length, arith, ◌∙◌}
+use Rattle.std.proofs.Common.{◌+◌, ◌<◌, length, arith, ◌∙◌}
+use Rattle.crew_terms.specs.declared.TheConstants.{MOST_TEAMS, LAST_MINUTE}
 use Rattle.head_check.proofs.Listed.{told_at, pushed, below_more}
 use Rattle.head_check.proofs.numbers.team_list.Goals as goal
 
 pub number_at-requires-clause-range : goal.number_at-requires-clause-range
-number_at-requires-clause-range c = below_more 64 2881 c.args.teams.now (omega arith) c.requires
+number_at-requires-clause-range c = below_more MOST_TEAMS (LAST_MINUTE + 1) c.args.teams.now (omega arith) c.requires
 
 pub loop-n-preserved : goal.loop-n-preserved
 loop-n-preserved c =

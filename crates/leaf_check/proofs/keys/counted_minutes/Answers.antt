@@ -5,7 +5,7 @@ use Rattle.leaf_check.proofs.keys.counted_minutes.Goals as goal
 
 pub overflow_add-result : goal.overflow_add-result
 overflow_add-result c =
-    let day = (c.instance-day.ensures.is_instance.tasks c.args.j no_task c.requires.task).day in
+    let day = (c.instance-day.ensures.is_instance.parts.tasks c.args.j no_task c.requires.task).window.day in
     let late = c.in-Some.ensures.late in
     omega arith
 
@@ -17,6 +17,6 @@ returns-in-None-clause-minutes c = uncounted c.minutes_are_permitted.ensures c.a
 
 pub returns-in-Some-clause-day : goal.returns-in-Some-clause-day
 returns-in-Some-clause-day c =
-    let day = (c.instance-day.ensures.is_instance.tasks c.args.j no_task c.requires.task).day in
+    let day = (c.instance-day.ensures.is_instance.parts.tasks c.args.j no_task c.requires.task).window.day in
     let late = c.in-Some.ensures.late in
     omega (arith, c.in-Some.ensures.exact.order)

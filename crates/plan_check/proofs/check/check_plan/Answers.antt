@@ -1,8 +1,9 @@
-use Rattle.plan_check.proofs.Legal.{decides}
+use Rattle.std.proofs.Common.{refl}
+use Rattle.crew_terms.specs.Verdict.{Kept, Unkept}
 use Rattle.plan_check.proofs.check.check_plan.Goals as goal
 
-pub returns-in-Some-clause-legal : goal.returns-in-Some-clause-legal
-returns-in-Some-clause-legal c = decides c.args.instance.now c.args.plan.now c.in-Some.fault c.in-Some.ensures
+pub returns-in-Some-clause-verdict : goal.returns-in-Some-clause-verdict
+returns-in-Some-clause-verdict c = Unkept c.in-Some.j c.in-Some.ensures refl
 
-pub returns-in-Some-fault_of_teams-clause-legal : goal.returns-in-Some-fault_of_teams-clause-legal
-returns-in-Some-fault_of_teams-clause-legal c = decides c.args.instance.now c.args.plan.now c.in-Some-fault_of_teams.fault c.in-Some-fault_of_teams.ensures.verdict
+pub returns-clause-verdict : goal.returns-clause-verdict
+returns-clause-verdict c = Kept c.in_default.ensures c.feasibility.ensures.verdict

@@ -3,8 +3,8 @@ use Rattle.std.specs.List.{All}
 use Rattle.std.proofs.lemmas.Bool.{cases_lt}
 use Rattle.std.proofs.lemmas.List.Elements.{All-contains}
 use Rattle.crew_terms.specs.Plan.{Plan, job_of, Does}
-use Rattle.plan_check.specs.Teams.{teams_in}
-use Rattle.plan_check.proofs.Legal.{job_known}
+use Rattle.crew_instance.specs.Teams.{teams_in}
+use Rattle.plan_check.proofs.Known.{job_known}
 use Rattle.plan_check.proofs.tests.belongs.Goals as goal
 
 known_more : (p : Plan) (n m : ℕ) → ((k j t : ℕ) → j < m → Does p k j t → k < n) → All (λ k. k < n) (teams_in (job_of p m)) → (k j t : ℕ) → j < m + 1 → Does p k j t → k < n

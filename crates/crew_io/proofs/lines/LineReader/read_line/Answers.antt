@@ -1,6 +1,6 @@
 use Rattle.std.proofs.Common.{◌≡◌, ◌≤◌, ◌<◌, ◌∙◌, Ok, ap, sym, subst, arith, length}
 use Rattle.std.proofs.lemmas.Bool.{false≢true}
-use Rattle.crew_terms.specs.Words.{LONGEST}
+use Rattle.crew_terms.specs.declared.TheConstants.{LONGEST_LINE}
 use Rattle.crew_io.specs.Lines.{Reader, rest_of, allowance, took_line, Advances}
 use Rattle.crew_io.specs.declared.lines.Progress.{Progress}
 use Rattle.crew_io.specs.declared.lines.Progress.TheVariants.{TooLong, TooMuch, End, ReadFault}
@@ -70,7 +70,7 @@ returns-in-Ok-eq0-clause-advances g c =
     let w = c.search-front.ensures.front.within in
     let n : c.search-front.result ≡ c.held-held.result = omega arith in
     let all : c.held-held.result ≡ length mid.held = omega arith in
-    let fits = end_fits c.held-held.result c.allowance-allowed.result (λ x. false≢true (sym c.if-is_too_long.false ∙ c.is_too_long.ensures.1 (x.0, subst (λ k. LONGEST < k) (sym n) x.1))) (λ x. false≢true (sym c.if-is_too_much.false ∙ c.is_too_much.ensures.1 (x.0, subst (λ k. c.allowance-allowed.result ≤ k) (sym n) x.1, x.2))) in
+    let fits = end_fits c.held-held.result c.allowance-allowed.result (λ x. false≢true (sym c.if-is_too_long.false ∙ c.is_too_long.ensures.1 (x.0, subst (λ k. LONGEST_LINE < k) (sym n) x.1))) (λ x. false≢true (sym c.if-is_too_much.false ∙ c.is_too_much.ensures.1 (x.0, subst (λ k. c.allowance-allowed.result ≤ k) (sym n) x.1, x.2))) in
     subst (λ (a : Progress). Advances c.args.self.now left a new (g.S.Source.left c.fill.new.src)) (sym c.stop-in-Ok-eq0.ensures.value)
     (end_advances c.args.self.now mid new left later (g.S.Source.left c.fill.new.src) c.search-front.result c.held-held.result s (omega arith) (omega arith) c.search-front.ensures.front (n ∙ all) all (omega arith) (omega arith) end.0
     (stopped_after mid filled new later (g.S.Source.left c.fill.new.src) (End c.held-held.result) (ap (λ (r : Reader). r.limit) kept ∙ ap (λ (r : Reader). r.limit) same) (ap (λ (r : Reader). r.handed) kept ∙ ap (λ (r : Reader). r.handed) same) (c.fill.ensures.rest ∙ ap (λ (r : Reader). rest_of r later) same) c.stop-in-Ok-eq0.ensures.stopped))
@@ -92,7 +92,7 @@ returns-in-Err-clause-advances g c =
     let w = c.search-front.ensures.front.within in
     let n : c.search-front.result ≡ c.held-held.result = omega arith in
     let all : c.held-held.result ≡ length mid.held = omega arith in
-    let fits = end_fits c.held-held.result c.allowance-allowed.result (λ x. false≢true (sym c.if-is_too_long.false ∙ c.is_too_long.ensures.1 (x.0, subst (λ k. LONGEST < k) (sym n) x.1))) (λ x. false≢true (sym c.if-is_too_much.false ∙ c.is_too_much.ensures.1 (x.0, subst (λ k. c.allowance-allowed.result ≤ k) (sym n) x.1, x.2))) in
+    let fits = end_fits c.held-held.result c.allowance-allowed.result (λ x. false≢true (sym c.if-is_too_long.false ∙ c.is_too_long.ensures.1 (x.0, subst (λ k. LONGEST_LINE < k) (sym n) x.1))) (λ x. false≢true (sym c.if-is_too_much.false ∙ c.is_too_much.ensures.1 (x.0, subst (λ k. c.allowance-allowed.result ≤ k) (sym n) x.1, x.2))) in
     subst (λ (a : Progress). Advances c.args.self.now left a new (g.S.Source.left c.fill.new.src)) (sym c.stop-in-Err.ensures.value)
     (fault_advances c.args.self.now mid new left later (g.S.Source.left c.fill.new.src) c.search-front.result s (omega arith) (omega arith) c.search-front.ensures.front (n ∙ all) (omega arith) (omega arith)
     (ap (λ (r : Reader). r.held) c.stop-in-Err.ensures.stopped ∙ c.in-Err.ensures.nothing ∙ ap (λ (r : Reader). r.held) same)

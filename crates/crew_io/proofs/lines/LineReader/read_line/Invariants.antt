@@ -1,4 +1,5 @@
 use Rattle.std.proofs.Common.{◌≡◌, ◌-◌, length}
+use Rattle.crew_io.specs.declared.lines.TheConstants.{ROOM}
 use Rattle.crew_io.proofs.Stream.{IsSame}
 use Rattle.crew_io.proofs.lines.LineReader.read_line.Given as goal
 
@@ -10,4 +11,4 @@ invariant-loop-self g l = record {
 }
 
 abbrev pub decreases-loop-self : goal.decreases-loop-self
-decreases-loop-self g l = 262144 - length l.self.held
+decreases-loop-self g l = ROOM - length l.self.held

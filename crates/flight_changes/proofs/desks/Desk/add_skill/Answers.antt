@@ -1,6 +1,6 @@
 use Rattle.std.proofs.Common.{◌∙◌, length, ap}
 use Rattle.std.specs.Prelude.{◌^◌, ℕ, bit_or}
-use Rattle.crew_terms.specs.Instance.{IsTeam}
+use Rattle.crew_terms.specs.Rules.{IsTeam}
 use Rattle.crew_terms.specs.declared.Team.{Team}
 use Rattle.day_terms.specs.State.{State, with_team}
 use Rattle.flight_changes.proofs.Skills.{with_skill, with_skill_fits}
@@ -15,9 +15,9 @@ put_team-requires c =
     let is = c.team-old.ensures.limits in
     let old = c.team-old.result in
     let found = c.team-old.ensures.team in
-    let fits : IsTeam (length s.places) old = found_all (λ t. t.name) (IsTeam (length s.places)) s.teams c.args.team.now old is.teams found in
+    let fits : IsTeam (length s.places) old = found_all (λ t. t.name) (IsTeam (length s.places)) s.teams c.args.team.now old is.parts.teams found in
     let ok = team_known s c.args.team.now c.requires.accepted in
-    record { known = team_stands s is c.args.team.now old found; fits = record { name = fits.name; home = fits.home; shift = fits.shift; day = fits.day; skills = with_skill_fits old.skills c.args.skill c.requires.range fits.skills } }
+    record { known = team_stands s is c.args.team.now old found; fits = record { name = fits.name; home = fits.home; shift = record { order = fits.shift.order; day = fits.shift.day }; skills = with_skill_fits old.skills c.args.skill c.requires.range fits.skills } }
 
 pub returns : goal.returns
 returns c =

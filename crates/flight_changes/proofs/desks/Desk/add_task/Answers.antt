@@ -1,7 +1,8 @@
 use Rattle.std.proofs.Common.{◌≡◌, ◌<◌, ◌++◌, ◌∷◌, [], false, List, length, arith, sym, ap, subst, ◌∙◌}
 use Rattle.std.proofs.lemmas.List.{length_push}
 use Rattle.std.proofs.lemmas.List.Elements.{All-push}
-use Rattle.crew_terms.specs.Instance.{IsTask}
+use Rattle.crew_terms.specs.Rules.{IsTask}
+use Rattle.crew_terms.specs.declared.TheConstants.{MOST_TASKS}
 use Rattle.crew_terms.specs.declared.Task.{Task}
 use Rattle.day_terms.specs.State.{State, has_task}
 use Rattle.flight_changes.specs.Kept.{kept}
@@ -21,27 +22,20 @@ invariant_of-self-2 c =
     let is = c.self.invariant.state in
     let h = holds c in
     let n = length_push s.tasks c.args.task in
-    let room : length s.tasks < 400 = subst (λ s. length s.tasks < 400) (sym c.self.view_is) c.requires.room in
+    let room : length s.tasks < MOST_TASKS = subst (λ s. length s.tasks < MOST_TASKS) (sym c.self.view_is) c.requires.room in
     let place : c.args.task.place < length s.places = subst (λ s. c.args.task.place < length s.places) (sym c.self.view_is) c.requires.place in
-    let w = c.requires.window in
-    let k = c.requires.count in
     let fits : IsTask (length s.places) c.args.task =
     record {
       name = c.bytes.ensures.name;
       place = place;
-      order = w.order;
-      width = w.width;
-      day = w.day;
-      some_minutes = w.some_minutes;
-      minutes = w.minutes;
-      some_teams = k.some;
-      teams = k.few;
+      window = c.requires.window;
+      teams = c.requires.count;
       skills = omega arith;
     } in
     record {
       tasks_by_name = h.named;
       teams_by_name = c.self.invariant.teams_by_name;
-      state = subst (λ ts. IsState (record s { tasks = ts })) (sym h.values) (other_tasks s is _ (omega arith) (All-push (IsTask (length s.places)) s.tasks c.args.task is.tasks fits) h.apart_names);
+      state = subst (λ ts. IsState (record s { tasks = ts })) (sym h.values) (other_tasks s is _ (omega arith) (All-push (IsTask (length s.places)) s.tasks c.args.task is.parts.tasks fits) h.apart_names);
     }
 
 pub returns-clause-ok : goal.returns-clause-ok

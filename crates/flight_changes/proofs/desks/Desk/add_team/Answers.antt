@@ -1,7 +1,8 @@
 use Rattle.std.proofs.Common.{◌≡◌, ◌<◌, ◌++◌, ◌∷◌, [], false, List, length, arith, sym, ap, subst, ◌∙◌}
 use Rattle.std.proofs.lemmas.List.{length_push}
 use Rattle.std.proofs.lemmas.List.Elements.{All-push}
-use Rattle.crew_terms.specs.Instance.{IsTeam}
+use Rattle.crew_terms.specs.Rules.{IsTeam}
+use Rattle.crew_terms.specs.declared.TheConstants.{MOST_TEAMS}
 use Rattle.crew_terms.specs.declared.Team.{Team}
 use Rattle.day_terms.specs.State.{State, has_team}
 use Rattle.flight_changes.specs.Kept.{kept}
@@ -21,14 +22,14 @@ invariant_of-self-2 c =
     let is = c.self.invariant.state in
     let h = holds c in
     let n = length_push s.teams c.args.team in
-    let room : length s.teams < 64 = subst (λ s. length s.teams < 64) (sym c.self.view_is) c.requires.room in
+    let room : length s.teams < MOST_TEAMS = subst (λ s. length s.teams < MOST_TEAMS) (sym c.self.view_is) c.requires.room in
     let home : c.args.team.home < length s.places = subst (λ s. c.args.team.home < length s.places) (sym c.self.view_is) c.requires.home in
     let fits : IsTeam (length s.places) c.args.team =
-    record { name = c.bytes.ensures.name; home = home; shift = c.requires.shift.order; day = c.requires.shift.day; skills = omega arith } in
+    record { name = c.bytes.ensures.name; home = home; shift = c.requires.shift; skills = omega arith } in
     record {
       teams_by_name = h.named;
       tasks_by_name = c.self.invariant.tasks_by_name;
-      state = subst (λ ts. IsState (record s { teams = ts })) (sym h.values) (other_teams s is _ (omega arith) (All-push (IsTeam (length s.places)) s.teams c.args.team is.teams fits) h.apart_names);
+      state = subst (λ ts. IsState (record s { teams = ts })) (sym h.values) (other_teams s is _ (omega arith) (All-push (IsTeam (length s.places)) s.teams c.args.team is.parts.teams fits) h.apart_names);
     }
 
 pub returns-clause-ok : goal.returns-clause-ok

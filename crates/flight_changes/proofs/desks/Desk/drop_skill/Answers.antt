@@ -1,7 +1,7 @@
 use Rattle.std.proofs.Common.{◌∙◌, length, ap}
 use Rattle.std.specs.Prelude.{◌^◌, ℕ, bit_and}
 use Rattle.std.specs.Int.{bit_not, w64}
-use Rattle.crew_terms.specs.Instance.{IsTeam}
+use Rattle.crew_terms.specs.Rules.{IsTeam}
 use Rattle.crew_terms.specs.declared.Team.{Team}
 use Rattle.day_terms.specs.State.{State, with_team}
 use Rattle.flight_changes.proofs.Skills.{without_skill, without_skill_fits}
@@ -16,9 +16,9 @@ put_team-requires c =
     let is = c.team-old.ensures.limits in
     let old = c.team-old.result in
     let found = c.team-old.ensures.team in
-    let fits : IsTeam (length s.places) old = found_all (λ t. t.name) (IsTeam (length s.places)) s.teams c.args.team.now old is.teams found in
+    let fits : IsTeam (length s.places) old = found_all (λ t. t.name) (IsTeam (length s.places)) s.teams c.args.team.now old is.parts.teams found in
     let ok = team_known s c.args.team.now c.requires.accepted in
-    record { known = team_stands s is c.args.team.now old found; fits = record { name = fits.name; home = fits.home; shift = fits.shift; day = fits.day; skills = without_skill_fits old.skills _ fits.skills } }
+    record { known = team_stands s is c.args.team.now old found; fits = record { name = fits.name; home = fits.home; shift = record { order = fits.shift.order; day = fits.shift.day }; skills = without_skill_fits old.skills _ fits.skills } }
 
 pub returns : goal.returns
 returns c =

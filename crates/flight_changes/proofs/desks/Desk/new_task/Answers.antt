@@ -17,4 +17,4 @@ add_task-requires-clause-window c =
     }
 
 pub add_task-requires-clause-count : goal.add_task-requires-clause-count
-add_task-requires-clause-count c = let new = is_new c in record { some = new.count.0; few = new.count.1 }
+add_task-requires-clause-count c = (is_new c).count

@@ -1,6 +1,6 @@
 use Rattle.std.proofs.Common.{List, is_some, length, map, arith, sym, ap, subst, ◌∙◌, if◌then◌else◌}
 use Rattle.std.proofs.lemmas.List.{length-map}
-use Rattle.crew_terms.specs.Instance.{IsTask}
+use Rattle.crew_terms.specs.Rules.{IsTask}
 use Rattle.crew_terms.specs.declared.Task.{Task}
 use Rattle.day_terms.specs.State.{State, has_task, is_task, with_task}
 use Rattle.flight_changes.specs.Kept.{kept}
@@ -17,20 +17,20 @@ unwrap-requires c =
 holds : (c : goal.After-self-1) → Hold (λ t. t.name) (c.get_mut.follows.lender c.args.task).entries (map (λ t. if is_task c.args.task.name t then c.args.task else t) (kept c.self.inside).tasks)
 holds c =
     let through = c.get_mut.follows.holds c.args.task in
-    hold_written (λ t. t.name) c.self.inside.tasks.entries (c.get_mut.follows.lender c.args.task).entries c.args.task c.self.invariant.tasks_by_name c.self.invariant.state.task_names through.0 through.4
+    hold_written (λ t. t.name) c.self.inside.tasks.entries (c.get_mut.follows.lender c.args.task).entries c.args.task c.self.invariant.tasks_by_name c.self.invariant.state.parts.task_names through.0 through.4
 
 pub invariant_of-self : goal.invariant_of-self
 invariant_of-self c =
     let s = kept c.self.inside in
     let is = c.self.invariant.state in
     let h = holds c in
-    let few = is.few_tasks in
+    let few = is.parts.few_tasks in
     let n = length-map s.tasks (λ t. if is_task c.args.task.name t then c.args.task else t) in
     let fits : IsTask (length s.places) c.args.task = subst (λ s. IsTask (length s.places) c.args.task) (sym c.self.view_is) c.requires.fits in
     record {
       tasks_by_name = h.named;
       teams_by_name = c.self.invariant.teams_by_name;
-      state = subst (λ ts. IsState (record s { tasks = ts })) (sym h.values) (other_tasks s is _ (omega arith) (all_replaced (IsTask (length s.places)) (is_task c.args.task.name) c.args.task s.tasks fits is.tasks) h.apart_names);
+      state = subst (λ ts. IsState (record s { tasks = ts })) (sym h.values) (other_tasks s is _ (omega arith) (all_replaced (IsTask (length s.places)) (is_task c.args.task.name) c.args.task s.tasks fits is.parts.tasks) h.apart_names);
     }
 
 pub returns : goal.returns

@@ -1,5 +1,5 @@
 use Rattle.std.proofs.Common.{◌∙◌, length}
-use Rattle.crew_terms.specs.Instance.{IsTask}
+use Rattle.crew_terms.specs.Rules.{IsTask}
 use Rattle.crew_terms.specs.declared.Task.{Task}
 use Rattle.flight_changes.proofs.Keyed.{found_all}
 use Rattle.flight_changes.proofs.Known.{task_changed, task_stands}
@@ -12,9 +12,9 @@ put_task-requires c =
     let is = c.task-old.ensures.limits in
     let old = c.task-old.result in
     let found = c.task-old.ensures.task in
-    let fits : IsTask (length s.places) old = found_all (λ t. t.name) (IsTask (length s.places)) s.tasks c.args.task.now old is.tasks found in
+    let fits : IsTask (length s.places) old = found_all (λ t. t.name) (IsTask (length s.places)) s.tasks c.args.task.now old is.parts.tasks found in
     let ok = task_known s c.args.task.now c.requires.accepted in
-    record { known = task_stands s is c.args.task.now old found; fits = record { name = fits.name; place = fits.place; order = fits.order; width = fits.width; day = fits.day; some_minutes = c.requires.some; minutes = c.requires.day; some_teams = fits.some_teams; teams = fits.teams; skills = fits.skills } }
+    record { known = task_stands s is c.args.task.now old found; fits = record { name = fits.name; place = fits.place; window = record { order = fits.window.order; width = fits.window.width; day = fits.window.day; some_minutes = c.requires.some; minutes = c.requires.day }; teams = fits.teams; skills = fits.skills } }
 
 pub returns : goal.returns
 returns c =

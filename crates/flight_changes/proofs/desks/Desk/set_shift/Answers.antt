@@ -1,5 +1,5 @@
 use Rattle.std.proofs.Common.{◌∙◌, length}
-use Rattle.crew_terms.specs.Instance.{IsTeam}
+use Rattle.crew_terms.specs.Rules.{IsTeam}
 use Rattle.crew_terms.specs.declared.Team.{Team}
 use Rattle.flight_changes.proofs.Keyed.{found_all}
 use Rattle.flight_changes.proofs.Known.{team_changed, team_stands}
@@ -12,9 +12,9 @@ put_team-requires c =
     let is = c.team-old.ensures.limits in
     let old = c.team-old.result in
     let found = c.team-old.ensures.team in
-    let fits : IsTeam (length s.places) old = found_all (λ t. t.name) (IsTeam (length s.places)) s.teams c.args.team.now old is.teams found in
+    let fits : IsTeam (length s.places) old = found_all (λ t. t.name) (IsTeam (length s.places)) s.teams c.args.team.now old is.parts.teams found in
     let ok = shift_accepted s c.args.team.now c.args.from c.args.until c.requires.accepted in
-    record { known = team_stands s is c.args.team.now old found; fits = record { name = fits.name; home = fits.home; shift = ok.1; day = c.requires.day; skills = fits.skills } }
+    record { known = team_stands s is c.args.team.now old found; fits = record { name = fits.name; home = fits.home; shift = record { order = ok.1; day = c.requires.day }; skills = fits.skills } }
 
 pub returns : goal.returns
 returns c =

@@ -1,5 +1,5 @@
 use Rattle.std.proofs.Common.{◌∙◌, length}
-use Rattle.crew_terms.specs.Instance.{IsTask}
+use Rattle.crew_terms.specs.Rules.{IsTask}
 use Rattle.crew_terms.specs.declared.Task.{Task}
 use Rattle.flight_changes.proofs.Keyed.{found_all}
 use Rattle.flight_changes.proofs.Known.{task_changed, task_stands}
@@ -12,9 +12,10 @@ put_task-requires c =
     let is = c.task-old.ensures.limits in
     let old = c.task-old.result in
     let found = c.task-old.ensures.task in
-    let fits : IsTask (length s.places) old = found_all (λ t. t.name) (IsTask (length s.places)) s.tasks c.args.task.now old is.tasks found in
+    let fits : IsTask (length s.places) old = found_all (λ t. t.name) (IsTask (length s.places)) s.tasks c.args.task.now old is.parts.tasks found in
     let ok = needs_accepted s c.args.task.now c.args.teams c.requires in
-    record { known = task_stands s is c.args.task.now old found; fits = record { name = fits.name; place = fits.place; order = fits.order; width = fits.width; day = fits.day; some_minutes = fits.some_minutes; minutes = fits.minutes; some_teams = ok.1.0; teams = ok.1.1; skills = fits.skills } }
+    let w = fits.window in
+    record { known = task_stands s is c.args.task.now old found; fits = record { name = fits.name; place = fits.place; window = record { order = w.order; width = w.width; day = w.day; some_minutes = w.some_minutes; minutes = w.minutes }; teams = ok.1; skills = fits.skills } }
 
 pub returns : goal.returns
 returns c =

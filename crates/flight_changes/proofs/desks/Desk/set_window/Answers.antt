@@ -1,5 +1,5 @@
 use Rattle.std.proofs.Common.{◌∙◌, length}
-use Rattle.crew_terms.specs.Instance.{IsTask}
+use Rattle.crew_terms.specs.Rules.{IsTask}
 use Rattle.crew_terms.specs.declared.Task.{Task}
 use Rattle.flight_changes.proofs.Keyed.{found_all}
 use Rattle.flight_changes.proofs.Known.{task_changed, task_stands}
@@ -12,9 +12,9 @@ put_task-requires c =
     let is = c.task-old.ensures.limits in
     let old = c.task-old.result in
     let found = c.task-old.ensures.task in
-    let fits : IsTask (length s.places) old = found_all (λ t. t.name) (IsTask (length s.places)) s.tasks c.args.task.now old is.tasks found in
+    let fits : IsTask (length s.places) old = found_all (λ t. t.name) (IsTask (length s.places)) s.tasks c.args.task.now old is.parts.tasks found in
     let ok = move_accepted s c.args.task.now c.args.earliest c.args.latest c.requires.accepted in
-    record { known = task_stands s is c.args.task.now old found; fits = record { name = fits.name; place = fits.place; order = ok.1.order; width = ok.1.width; day = c.requires.day; some_minutes = fits.some_minutes; minutes = fits.minutes; some_teams = fits.some_teams; teams = fits.teams; skills = fits.skills } }
+    record { known = task_stands s is c.args.task.now old found; fits = record { name = fits.name; place = fits.place; window = record { order = ok.1.order; width = ok.1.width; day = c.requires.day; some_minutes = fits.window.some_minutes; minutes = fits.window.minutes }; teams = fits.teams; skills = fits.skills } }
 
 pub returns : goal.returns
 returns c =

@@ -3,7 +3,7 @@ use Rattle.crew_terms.specs.Limits.{has_required, tasks_in, teams_in}
 use Rattle.dossier_terms.specs.Reading.{limits_of}
 use Rattle.dossier_terms.specs.Table.{after_extra}
 use Rattle.leaf_check.specs.Keys.{AreLeft}
-use Rattle.leaf_check.specs.Reader.{Tells, priced_leaf}
+use Rattle.leaf_check.specs.Reader.{LeafTells, priced_leaf}
 use Rattle.leaf_check.specs.declared.reader.LeafDue.TheVariants as due
 use Rattle.leaf_check.proofs.Told.{extra_due}
 use Rattle.leaf_check.proofs.reader.LeafReader.after_extra.Goals as goal
@@ -19,5 +19,5 @@ pub returns-in-None-clause-tells : goal.returns-in-None-clause-tells
 returns-in-None-clause-tells c = λ a prices rows js g read left.
     let n = c.args.limits.now.limits in
     let h = subst (λ next. AreLeft (has_required n) (tasks_in n) rows next js) c.in-None.is left in
-    subst (λ ks. Tells a (after_extra a prices rows ks) c.after_table.result c.after_table.new.self) (sym h)
+    subst (λ ks. LeafTells a (after_extra a prices rows ks) c.after_table.result c.after_table.new.self) (sym h)
     (c.after_table.ensures.tells a (priced_leaf prices rows) (teams_in (limits_of a)) g read refl (zero-add (teams_in (limits_of a)) ∙ ap teams_in g.limits))

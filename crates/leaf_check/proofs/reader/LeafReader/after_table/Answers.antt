@@ -1,7 +1,7 @@
 use Rattle.std.proofs.Common.{◌≡◌, zero, length, ap, sym, subst, refl, ◌∙◌, arith}
 use Rattle.crew_terms.specs.Limits.{teams_in}
 use Rattle.dossier_terms.specs.Table.{after_table}
-use Rattle.leaf_check.specs.Reader.{Tells}
+use Rattle.leaf_check.specs.Reader.{LeafTells}
 use Rattle.leaf_check.specs.declared.reader.LeafDue.TheVariants as due
 use Rattle.leaf_check.proofs.Told.{worth_due_for}
 use Rattle.leaf_check.proofs.reader.LeafReader.after_table.Goals as goal
@@ -23,4 +23,4 @@ returns-clause-tells c = λ a leaf left g read count teams.
     let end = c.teams.ensures.count in
     let none : left ≡ zero = omega arith in
     let all : c.args.teams ≡ teams_in n = omega arith in
-    subst (λ l. Tells a (after_table a leaf l) c.judge_bound.result c.args.self.now) (sym none) (c.judge_bound.ensures a leaf g read (count ∙ all))
+    subst (λ l. LeafTells a (after_table a leaf l) c.judge_bound.result c.args.self.now) (sym none) (c.judge_bound.ensures a leaf g read (count ∙ all))

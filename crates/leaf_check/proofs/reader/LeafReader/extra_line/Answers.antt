@@ -3,7 +3,7 @@ use Rattle.crew_terms.specs.Limits.{has_required, tasks_in}
 use Rattle.crew_terms.specs.Leaf.{IsPrice}
 use Rattle.cert_format.specs.Lines.{IsFaultOf, IsExtraLine}
 use Rattle.cert_format.specs.declared.kinds.Expect.TheVariants as expected
-use Rattle.dossier_terms.specs.Dossier.{required_teams}
+use Rattle.crew_terms.specs.Minutes.{required_teams}
 use Rattle.dossier_terms.specs.Reading.{No as Refuses, limits_of, Extras}
 use Rattle.dossier_terms.specs.Table.{AreNumbers, after_extra, extra_row}
 use Rattle.leaf_check.specs.Keys.{IsNextKey}

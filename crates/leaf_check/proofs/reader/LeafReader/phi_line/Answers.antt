@@ -2,7 +2,8 @@ use Rattle.std.proofs.Common.{◌≡◌, ◌++◌, suc, [], ◌∷◌, length, a
 use Rattle.crew_terms.specs.Limits.{tasks_in}
 use Rattle.cert_format.specs.Lines.{IsFaultOf, IsPhiLine}
 use Rattle.cert_format.specs.declared.kinds.Expect.TheVariants as expected
-use Rattle.dossier_terms.specs.Dossier.{Potentials, IsSigned, minute_count}
+use Rattle.dossier_terms.specs.Dossier.{Potentials, IsSigned}
+use Rattle.crew_terms.specs.Minutes.{minute_count}
 use Rattle.dossier_terms.specs.Reading.{No as Refuses, limits_of, Phis}
 use Rattle.dossier_terms.specs.Table.{AreNumbers, after_phi, phi_row}
 use Rattle.leaf_check.specs.Keys.{AreCounted, IsNextKey, has_minutes}

@@ -3,10 +3,10 @@ use Rattle.crew_terms.specs.Limits.{has_required, tasks_in}
 use Rattle.crew_terms.specs.Leaf.{IsPrice}
 use Rattle.cert_format.specs.Lines.{IsFaultOf, IsPriceLine}
 use Rattle.cert_format.specs.declared.kinds.Expect.TheVariants as expected
-use Rattle.dossier_terms.specs.Dossier.{priced}
+use Rattle.crew_terms.specs.Minutes.{priced}
 use Rattle.dossier_terms.specs.Reading.{No as Refuses, limits_of, Prices}
 use Rattle.dossier_terms.specs.Table.{AreNumbers, after_extra, price_row}
-use Rattle.leaf_check.specs.Reader.{HasRead, Tells, TellsNo, priced_leaf}
+use Rattle.leaf_check.specs.Reader.{HasRead, LeafTells, TellsNo, priced_leaf}
 use Rattle.leaf_check.specs.declared.reader.LeafReader.{LeafReader}
 use Rattle.leaf_check.proofs.Listed.{left_first}
 use Rattle.leaf_check.proofs.Lines.{price_read}
@@ -32,5 +32,5 @@ returns-clause-tells c = λ a g.
     let read : HasRead n r (priced_leaf vs []) = record { prices = first_prices n c.set_prices.new.prices vs set.prices set.tasks set.pairs; worths = refl } in
     tells_rest a (after_extra a vs [] (priced (limits_of a))) (price_row a c.args.words) c.after_extra.result c.after_extra.new.self
     (λ said others. price_read a c.args.words vs said fits h.1 others)
-    (subst (λ m. Tells a (after_extra a vs [] (priced m)) c.after_extra.result c.after_extra.new.self) (sym g.limits)
+    (subst (λ m. LeafTells a (after_extra a vs [] (priced m)) c.after_extra.result c.after_extra.new.self) (sym g.limits)
     (c.after_extra.ensures.tells a vs [] (priced n) g read (left_first (has_required n) (tasks_in n) c.next_priced.result c.next_priced.ensures)))

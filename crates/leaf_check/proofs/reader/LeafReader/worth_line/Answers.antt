@@ -4,11 +4,12 @@ use Rattle.std.specs.Vec.{with_item}
 use Rattle.std.proofs.lemmas.Int.{to_z-of_z}
 use Rattle.crew_terms.specs.Limits.{tasks_in}
 use Rattle.cert_format.specs.Lines.{IsWorthLine}
-use Rattle.dossier_terms.specs.Dossier.{Potentials, open_tasks}
+use Rattle.dossier_terms.specs.Dossier.{Potentials}
+use Rattle.crew_terms.specs.Minutes.{open_tasks}
 use Rattle.dossier_terms.specs.Reading.{No as Refuses, limits_of, Worths}
 use Rattle.dossier_terms.specs.Table.{after_phi, worth_row}
 use Rattle.leaf_check.specs.Keys.{has_minutes}
-use Rattle.leaf_check.specs.Reader.{HasRead, HasPotentials, Tells, TellsNo, below_next}
+use Rattle.leaf_check.specs.Reader.{HasRead, HasPotentials, LeafTells, TellsNo, below_next}
 use Rattle.leaf_check.specs.declared.reader.LeafReader.{LeafReader}
 use Rattle.leaf_check.proofs.Listed.{left_first}
 use Rattle.leaf_check.proofs.Lines.{worth_read}
@@ -45,6 +46,6 @@ returns-clause-tells c = λ a leaf left g read count teams.
     tells_rest a (after_phi a leaf.prices leaf.extras leaf.tables left worth [] (open_tasks (limits_of a) (length leaf.tables)))
     (worth_row a leaf.prices leaf.extras leaf.tables left c.args.words) c.after_phi.result c.after_phi.new.self
     (λ said others. worth_read a leaf.prices leaf.extras leaf.tables left c.args.words worth said h.0 h.1 others)
-    (subst (λ ks. Tells a (after_phi a leaf.prices leaf.extras leaf.tables left worth [] ks) c.after_phi.result c.after_phi.new.self)
+    (subst (λ ks. LeafTells a (after_phi a leaf.prices leaf.extras leaf.tables left worth [] ks) c.after_phi.result c.after_phi.new.self)
     (ap (λ m. open_tasks m team) (sym g.limits) ∙ ap (λ k. open_tasks (limits_of a) k) (sym count))
     (c.after_phi.ensures.tells a leaf left table (open_tasks n team) g kept count teams holds (left_first (has_minutes n team) (tasks_in n) c.next_open.result c.next_open.ensures)))

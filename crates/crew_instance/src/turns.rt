@@ -1,0 +1,120 @@
+// A team's tasks in the order in which it does them, and the first that it can't come to in time.
+ghost use Rattle.std.specs.Prelude.{◌≡◌, ◌≤◌, ◌<◌, ◌+◌, ◌↔◌, ◌∷◌, ℕ, length, All, Contains, IfSome, IsTrue, MatchOption};
+ghost use Rattle.std.specs.List.Sorted.{IsPermutation};
+ghost use Rattle.crew_terms.specs.Instance.{CanFollow, task_of};
+ghost use Rattle.crew_terms.specs.Plan.{Does};
+ghost use Rattle.crew_terms.specs.Legal.{IsFeasible};
+ghost use Rattle.crew_terms.specs.Verdict.{AreJobsBelow, HasNoClash, IsFeasibility, IsPlanOf};
+ghost use Rattle.crew_terms.specs.declared.TheConstants.{MOST_TASKS};
+ghost use Rattle.arrayvec.specs.ArrayVec.{array_vec_len};
+ghost use Rattle.crew_instance.specs.Turns.{AreTurns, IsClash, IsInOrder};
+
+use crate::instances::Instance;
+use crate::plans::Plan;
+use arrayvec::ArrayVec;
+use crew_terms::{MOST_TASKS, PlanVerdict};
+
+/// A task that a team begins, at a minute of the day.
+#[derive(Clone, Copy, Default)]
+pub struct Turn {
+    pub start: u32,
+    pub task: u32,
+}
+
+/// Puts a task behind those that begin no later.
+fn put_in_order(turns: &mut ArrayVec<Turn, MOST_TASKS>, turn: Turn)
+    requires room { array_vec_len turns.old < MOST_TASKS }
+    requires order { IsInOrder turns.old.items }
+    requires last { All (λ v. v.task < turn.task) turns.old.items }
+    ensures order { IsInOrder turns.new.items }
+    ensures moved { IsPermutation (turn ∷ turns.old.items) turns.new.items }
+{
+    let at = turns.partition_point(|v| v.start <= turn.start);
+    turns.insert(at, turn);
+}
+
+/// Whether team `k` is one of the teams. They are few, and looked at one by one.
+fn is_among(teams: &[u32], k: u32) -> bool
+    ensures { IsTrue result ↔ Contains teams.now k }
+{
+    teams.iter().any(|team| *team == k)
+}
+
+/// The turn of team `k` at a task, if it does the task.
+fn turn_at(plan: &Plan, k: u32, task: u32) -> Option<Turn>
+    requires { task < length plan.now }
+    ensures { MatchOption result ((t : ℕ) → Does plan.now k task t → ⊥) (λ v. (v.task ≡ task) × Does plan.now k v.task v.start) }
+{
+    let start = plan.start(task)?;
+    if is_among(plan.teams(task), k) {
+        Some(Turn { start, task })
+    } else {
+        None
+    }
+}
+
+/// Puts the tasks of team `k`, by start and then by number, in the place of what the list holds.
+// Each team goes through all tasks here, so its loop is kept out of the checker of lines.
+#[inline(never)]
+pub fn fill_turns(plan: &Plan, k: u32, turns: &mut ArrayVec<Turn, MOST_TASKS>)
+    ensures { AreTurns plan.now k (length plan.now) turns.new.items }
+{
+    turns.clear();
+    for task in 0..plan.len() as u32 {
+        if let Some(turn) = turn_at(plan, k, task) {
+            put_in_order(turns, turn);
+        }
+    }
+}
+
+/// Whether a team that does the one can do the other after it.
+fn can_follow(instance: &Instance, before: Turn, after: Turn) -> bool
+    requires before { before.task < length instance.now.tasks }
+    requires after { after.task < length instance.now.tasks }
+    requires window { before.start ≤ (task_of instance.now before.task).latest }
+    ensures { IsTrue result ↔ CanFollow instance.now before.task before.start after.task after.start }
+{
+    let from = instance.task(before.task);
+    let to = instance.task(after.task);
+    before.start + from.minutes + instance.travel(from.place, to.place) <= after.start
+}
+
+/// The first of the team's tasks that it can't come to in time from the one before. The list is memory to work in, and
+/// what it holds before doesn't matter.
+fn clash_of(
+    instance: &Instance,
+    plan: &Plan,
+    k: u32,
+    turns: &mut ArrayVec<Turn, MOST_TASKS>,
+) -> Option<PlanVerdict>
+    requires plan { IsPlanOf instance.now plan.now }
+    requires jobs { AreJobsBelow instance.now plan.now (length plan.now) }
+    ensures { MatchOption result (HasNoClash instance.now plan.now k) (IsClash instance.now plan.now k) }
+{
+    fill_turns(plan, k, turns);
+    let turns = turns.as_slice();
+    for i in 1..turns.len() {
+        let before = turns[i - 1];
+        let after = turns[i];
+        if !can_follow(instance, before, after) {
+            return Some(PlanVerdict::Clash(k, before.task, after.task));
+        }
+    }
+    None
+}
+
+/// The first clash of a team, by team, in a plan whose jobs are good; None exactly where the plan is feasible.
+pub(crate) fn fault_of_teams(instance: &Instance, plan: &Plan) -> Option<PlanVerdict>
+    requires plan { IsPlanOf instance.now plan.now }
+    requires jobs { AreJobsBelow instance.now plan.now (length plan.now) }
+    ensures verdict { MatchOption result (IsFeasible instance.now plan.now) (IsFeasibility instance.now plan.now) }
+    ensures fault { IfSome result (λ _. ¬ (IsFeasible instance.now plan.now)) }
+{
+    let mut turns = ArrayVec::new();
+    for k in 0..instance.teams() as u32 {
+        if let Some(fault) = clash_of(instance, plan, k, &mut turns) {
+            return Some(fault);
+        }
+    }
+    None
+}

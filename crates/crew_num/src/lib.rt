@@ -1,0 +1,15 @@
+// Exact numbers of 128 bits: sums, products, divisors and ratios, and whole numbers with a part of a unit.
+#![tactic(auto)]
+
+mod divisors;
+mod exact;
+mod mixed;
+mod quotients;
+mod ratios;
+#[cfg(test)]
+mod tests;
+
+pub use divisors::{gcd, gcd_of};
+pub use exact::{Op, Overflow, add, cross, mul, sub};
+pub use mixed::{MOST_FACTOR, MOST_WHOLE, Mixed, mixed_add, mixed_gap, mixed_times};
+pub use ratios::{cmp_ratio, floor_scaled};

@@ -1,5 +1,0 @@
-use Rattle.dossier_laws.proofs.Minutes.{priced_listed}
-use Rattle.dossier_laws.proofs.priced_tasks_are_listed.Goals as goal
-
-pub returns : goal.returns
-returns c = priced_listed

@@ -1,5 +1,0 @@
-use Rattle.dossier_laws.proofs.Minutes.{required_listed}
-use Rattle.dossier_laws.proofs.required_teams_are_listed.Goals as goal
-
-pub returns : goal.returns
-returns c = required_listed

@@ -1,0 +1,17 @@
+pub mod Choice
+pub mod Inside
+pub mod Proven
+pub mod Shares
+pub mod Closing
+pub mod Rows
+pub mod Opening
+pub mod Pivot
+pub mod MasterRun
+pub mod Overflows
+pub mod Duals
+pub mod BasicChoice
+pub mod Earned
+pub mod SearchTree
+pub mod Ways
+pub mod Search
+pub mod Caused
