@@ -1,24 +1,24 @@
-// Numbers over a denominator q, each as a whole and a part of a unit, so that no product with q is formed.
+// Numbers over a denominator q, each as a whole and a part, so that no product with q is formed.
 ghost use Rattle.std.specs.Prelude.{◌≡◌, pos, ◌<◌, ◌≤◌, ◌^◌, ◌+ℤ◌, ◌-ℤ◌, ◌*ℤ◌, ◌≤ℤ◌, ◌<ℤ◌, unsigned_abs};
 ghost use Rattle.std.specs.Int.{int_max};
 ghost use Rattle.crew_num.specs.Mixed.{IsMixed, value};
 
 use crate::quotients::{add_parts, times_part};
 
-/// The greatest whole that may be added to, compared or multiplied: 2^40.
+/// The greatest whole of a number that the calls below take: 2^40.
 pub const MOST_WHOLE: i64 = 1_099_511_627_776;
 
-/// The greatest factor.
+/// The greatest number that `mixed_times` takes as a factor.
 pub const MOST_FACTOR: u32 = 1_000_000;
 
-/// A number over a denominator q: it stands for `whole * q + part`, where the part is below q.
+/// A number over a denominator q from 1 to 2^127 - 1: it stands for `whole * q + part`, with a part below q.
 #[derive(Clone, Copy, Debug, PartialEq, Eq)]
 pub struct Mixed {
     pub whole: i64,
     pub part: u128,
 }
 
-/// The sum.
+/// The sum, exactly.
 pub fn mixed_add(a: Mixed, b: Mixed, q: u128) -> Mixed
     requires q { q < 2 ^ 127 }
     requires a { IsMixed a q MOST_WHOLE }
@@ -54,7 +54,7 @@ fn difference(high: Mixed, low: Mixed, q: u128) -> Mixed
     }
 }
 
-/// The distance.
+/// The distance, exactly.
 pub fn mixed_gap(a: Mixed, b: Mixed, q: u128) -> Mixed
     requires a { IsMixed a q MOST_WHOLE }
     requires b { IsMixed b q MOST_WHOLE }
@@ -73,7 +73,7 @@ pub fn mixed_gap(a: Mixed, b: Mixed, q: u128) -> Mixed
     }
 }
 
-/// The product with a whole number.
+/// The product with a whole number, exactly.
 pub fn mixed_times(a: Mixed, by: u32, q: u128) -> Mixed
     requires q { q < 2 ^ 127 }
     requires a { IsMixed a q MOST_WHOLE }

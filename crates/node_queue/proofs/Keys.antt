@@ -1,8 +1,7 @@
 -- the keys by age, and what the slab has under them
-use Rattle.std.proofs.Common.{◌≡◌, ◌≢◌, ◌==◌, ℕ, zero, suc, true, false, cond, not, List, [], ◌∷◌, ◌++◌, ◌⊎◌, inl, inr, length, get_or, refl, ap, sym, subst, ◌∙◌, arith, Option, None, Some}
-use Rattle.std.specs.Prelude.{All, AllPairs, Contains, IsSome, is_some, filter, map}
+use Rattle.std.proofs.Common.{◌≡◌, ◌≢◌, ◌==◌, ℕ, true, false, not, List, [], ◌∷◌, ◌++◌, ◌⊎◌, inl, inr, refl, ap, sym, subst, ◌∙◌, arith, Option, None, Some}
+use Rattle.std.specs.Prelude.{Contains, IsSome, is_some, filter}
 use Rattle.std.proofs.lemmas.Bool.{cases_eq, eq-eqb, ne_eqb, both_ways}
-use Rattle.std.proofs.lemmas.List.{map-append}
 use Rattle.std.proofs.lemmas.List.Elements.{All-contains, All-filter, filter_passes}
 use Rattle.std.proofs.lemmas.List.Kept.{AllPairs-filter}
 use Rattle.slab.proofs.SlabLemmas.{Contains-cons, Contains-cons_cases}
@@ -44,16 +43,20 @@ found_is s ages q key is view = ap (λ r. found r key) (sym view) ∙ by (found_
     by (inl (c, e)) = e ∙ sym (some_of (get s key) (All-contains (ContainsKey s) ages key is.has c))
     by (inr (out, e)) = e ∙ sym (none_of (get s key) (λ h. out (is.all key h)))
 
+-- the keys that differ from one
+abbrev pub others : List ℕ → ℕ → List ℕ
+others ages key = filter (λ other. not (other == key)) ages
+
 -- without a key, where the others keep what they had
 pub without_is : (s t : Slab Waiting) (ages : List ℕ) (key : ℕ) → ((k : ℕ) → k ≢ key → get t k ≡ get s k)
-    → waits_in t (filter (λ other. not (other == key)) ages) ≡ without (waits_in s ages) key
+    → waits_in t (others ages key) ≡ without (waits_in s ages) key
 without_is s t [] key same = refl
 without_is s t (k ∷ ks) key same = by (cases_eq k key) (without_is s t ks key same)
   where
-    by : (k ≡ key) ⊎ (k ≡ key → ⊥) → waits_in t (filter (λ other. not (other == key)) ks) ≡ without (waits_in s ks) key
-        → waits_in t (filter (λ other. not (other == key)) (k ∷ ks)) ≡ without (waits_in s (k ∷ ks)) key
+    by : (k ≡ key) ⊎ (k ≡ key → ⊥) → waits_in t (others ks key) ≡ without (waits_in s ks) key
+        → waits_in t (others (k ∷ ks) key) ≡ without (waits_in s (k ∷ ks)) key
     by (inl e) rest = rw (eq-eqb k key e) rest
-    by (inr ne) rest = rw (ne_eqb k key ne) (ap (λ o. (k, waiting_or o) ∷ waits_in t (filter (λ other. not (other == key)) ks)) (same k ne) ∙ ap (λ q. (k, waiting_or (get s k)) ∷ q) rest)
+    by (inr ne) rest = rw (ne_eqb k key ne) (ap (λ o. (k, waiting_or o) ∷ waits_in t (others ks key)) (same k ne) ∙ ap (λ q. (k, waiting_or (get s k)) ∷ q) rest)
 
 -- and without a key that the list does not have
 pub without_none : (s : Slab Waiting) (ages : List ℕ) (key : ℕ) → (Contains ages key → ⊥) → without (waits_in s ages) key ≡ waits_in s ages
@@ -63,19 +66,19 @@ without_none s (k ∷ ks) key out = rw (ne_eqb k key (λ e. out (0, omega arith,
 passes_other : (k key : ℕ) → not (k == key) ≡ true → k ≢ key
 passes_other k key passes e = both_ways (not (k == key)) (rw (eq-eqb k key e) refl) passes
 
-contains_other : (ks : List ℕ) (key j : ℕ) → j ≢ key → Contains ks j → Contains (filter (λ other. not (other == key)) ks) j
+contains_other : (ks : List ℕ) (key j : ℕ) → j ≢ key → Contains ks j → Contains (others ks key) j
 contains_other [] key j ne c = c
 contains_other (k ∷ ks) key j ne c = by (cases_eq k key) (Contains-cons_cases k j ks c) (contains_other ks key j ne)
   where
-    by : (k ≡ key) ⊎ (k ≡ key → ⊥) → (k ≡ j) ⊎ Contains ks j → (Contains ks j → Contains (filter (λ other. not (other == key)) ks) j)
-        → Contains (filter (λ other. not (other == key)) (k ∷ ks)) j
+    by : (k ≡ key) ⊎ (k ≡ key → ⊥) → (k ≡ j) ⊎ Contains ks j → (Contains ks j → Contains (others ks key) j)
+        → Contains (others (k ∷ ks) key) j
     by (inl e) (inl f) rest = absurd (ne (sym f ∙ e))
     by (inl e) (inr d) rest = rw (eq-eqb k key e) (rest d)
     by (inr mf) (inl f) rest = rw (ne_eqb k key mf) (0, omega arith, f)
-    by (inr mf) (inr d) rest = rw (ne_eqb k key mf) (Contains-cons k j (filter (λ other. not (other == key)) ks) (rest d))
+    by (inr mf) (inr d) rest = rw (ne_eqb k key mf) (Contains-cons k j (others ks key) (rest d))
 
 -- the keys after one is taken
-pub taken : (s t : Slab Waiting) (ages : List ℕ) (key : ℕ) → AreKeys s ages → Updates s t key None → AreKeys t (filter (λ other. not (other == key)) ages)
+pub taken : (s t : Slab Waiting) (ages : List ℕ) (key : ℕ) → AreKeys s ages → Updates s t key None → AreKeys t (others ages key)
 taken s t ages key is u = record {
   has = λ k d within.
       let passes = filter_passes (λ other. not (other == key)) ages k d within in

@@ -7,12 +7,12 @@ ghost use Rattle.slab.specs.Slab.{ContainsKey};
 ghost use Rattle.node_queue.specs.Kept.{waits_in};
 ghost use Rattle.node_queue.specs.Waits.{IsLeast, found, keys_of, without};
 
+#[cfg(test)]
+mod tests;
+
 use slab::Slab;
 use std::alloc::{AllocError, Global};
 use std::marker::Model;
-
-#[cfg(test)]
-mod tests;
 
 /// An open node that waits: its number, and the bound that its prices give.
 #[derive(Clone, Copy, Debug, PartialEq, Eq)]

@@ -25,8 +25,18 @@ fn task(name: Name, place: u32, at: u32, teams: u32, skills: u64) -> Task {
     }
 }
 
+fn team(name: Name) -> Team {
+    Team {
+        name,
+        home: 0,
+        from: 360,
+        until: 840,
+        skills: 0,
+    }
+}
+
 // A team with no skills, two gates that are far apart and one between them, and tasks at each.
-fn day(rt: &impl Abort, alloc: Global) -> Result<Instance, BuildFault> {
+fn builder(rt: &impl Abort, alloc: Global) -> Result<Builder, BuildFault> {
     let mut day = Builder::new(alloc);
     for place in [&b"BASE"[..], b"G1", b"G2", b"G3"] {
         day.place(name(rt, place))?;
@@ -37,19 +47,27 @@ fn day(rt: &impl Abort, alloc: Global) -> Result<Instance, BuildFault> {
         day.travel(0, gate, 5)?;
         day.travel(gate, 0, 25)?;
     }
-    day.team(Team {
-        name: name(rt, b"T"),
-        home: 0,
-        from: 360,
-        until: 840,
-        skills: 0,
-    })?;
+    day.team(team(name(rt, b"T")))?;
     day.task(task(name(rt, b"A"), 1, 420, 1, 0))?;
     day.task(task(name(rt, b"X"), 2, 440, 1, 0))?;
     day.task(task(name(rt, b"C"), 3, 460, 1, 0))?;
     day.task(task(name(rt, b"SKILLED"), 1, 500, 1, 2))?;
     day.task(task(name(rt, b"LATE"), 1, 806, 1, 0))?;
     day.task(task(name(rt, b"TWO"), 1, 600, 2, 0))?;
+    Ok(day)
+}
+
+fn day(rt: &impl Abort, alloc: Global) -> Result<Instance, BuildFault> {
+    builder(rt, alloc)?.finish()
+}
+
+// The day with a second team, in which X is frozen, and the task for two teams.
+fn frozen_day(rt: &impl Abort, alloc: Global) -> Result<Instance, BuildFault> {
+    let mut day = builder(rt, alloc)?;
+    day.team(team(name(rt, b"U")))?;
+    assert!(rt; day.tasks() == 6);
+    day.freeze(1, 440, &[0])?;
+    day.freeze(5, 600, &[0, 1])?;
     day.finish()
 }
 
@@ -83,6 +101,13 @@ fn plan(rt: &impl Abort, alloc: Global, jobs: &[(u32, u32, &[u32])]) -> Result<P
 
 fn verdict(rt: &impl Abort, alloc: Global, jobs: &[(u32, u32, &[u32])]) -> PlanVerdict {
     let day = day(rt, alloc).expect(rt, "a day");
+    let plan = plan(rt, alloc, jobs).expect(rt, "memory");
+    assert!(rt; belongs(&day, &plan));
+    check_plan(&day, &plan)
+}
+
+fn frozen_verdict(rt: &impl Abort, alloc: Global, jobs: &[(u32, u32, &[u32])]) -> PlanVerdict {
+    let day = frozen_day(rt, alloc).expect(rt, "a day");
     let plan = plan(rt, alloc, jobs).expect(rt, "memory");
     assert!(rt; belongs(&day, &plan));
     check_plan(&day, &plan)
@@ -123,43 +148,50 @@ fn tells_each_fault(rt: HostRuntime) {
 }
 
 #[test]
-fn holds_what_is_assigned(rt: HostRuntime) {
-    let plan = plan(&rt, rt.alloc(), &[(1, 440, &[0]), (2, 460, &[0, 3])]).expect(&rt, "memory");
-    assert_eq!(rt; plan.len(), 6);
-    assert_eq!(rt; unassigned(&plan), 4);
-    assert!(rt; 2 < plan.len());
-    assert_eq!(rt; plan.start(0), None);
-    assert_eq!(rt; plan.start(2), Some(460));
-    assert_eq!(rt; plan.teams(2), [0, 3].as_slice());
-}
-
-#[test]
-fn takes_an_assignment_back(rt: HostRuntime) {
-    let mut plan = plan(&rt, rt.alloc(), &[(1, 440, &[0]), (2, 460, &[0, 3])]).expect(
-        &rt, "memory",
+fn takes_a_plan_with_the_frozen_jobs(rt: HostRuntime) {
+    let jobs: [(u32, u32, &[u32]); 3] = [(1, 440, &[0]), (5, 600, &[0, 1]), (0, 420, &[1])];
+    assert_eq!(rt;
+        frozen_verdict(&rt, rt.alloc(), &jobs[..2]),
+        PlanVerdict::Legal
     );
-    let before = plan.copy().expect(&rt, "memory");
-    assert!(rt; 2 < plan.len());
-    plan.clear(1);
-    assert_eq!(rt; (unassigned(&plan), unassigned(&before)), (5, 4));
-    assert!(rt; 2 < before.len());
-    assert_eq!(rt; (plan.start(1), before.start(1)), (None, Some(440)));
-    assert_eq!(rt; plan.teams(2), before.teams(2));
+    assert_eq!(rt; frozen_verdict(&rt, rt.alloc(), &jobs), PlanVerdict::Legal);
 }
 
 #[test]
-fn holds_more_teams_than_a_task_may_need(rt: HostRuntime) {
-    let nine: [u32; 9] = [8, 7, 6, 5, 4, 3, 2, 1, 0];
-    let jobs: [(u32, u32, &[u32]); 2] = [(1, 440, &nine[..8]), (2, 460, &nine)];
-    let mut plan = plan(&rt, rt.alloc(), &jobs).expect(&rt, "memory");
-    let copy = plan.copy().expect(&rt, "memory");
-    assert!(rt; 2 < plan.len());
-    assert_eq!(rt; plan.teams(1), &nine[..8]);
-    assert_eq!(rt; plan.teams(2), nine.as_slice());
-    plan.clear(2);
-    assert!(rt; 2 < copy.len());
-    assert_eq!(rt; copy.teams(1), &nine[..8]);
-    assert_eq!(rt; copy.teams(2), nine.as_slice());
+fn tells_other_faults_after_frozen_jobs(rt: HostRuntime) {
+    let jobs: [(u32, u32, &[u32]); 3] = [(1, 440, &[0]), (5, 600, &[0, 1]), (0, 421, &[1])];
+    assert_eq!(rt;
+        frozen_verdict(&rt, rt.alloc(), &jobs),
+        PlanVerdict::Window(0)
+    );
+}
+
+#[test]
+fn tells_a_frozen_job_first(rt: HostRuntime) {
+    // Each plan begins the first task outside its window besides.
+    let outside: (u32, u32, &[u32]) = (0, 421, &[0]);
+    let two: (u32, u32, &[u32]) = (5, 600, &[0, 1]);
+    let others: [(u32, u32, &[u32]); 5] = [
+        (2, 460, &[0]),
+        (1, 441, &[0]),
+        (1, 440, &[1]),
+        (1, 440, &[0, 1]),
+        (1, 440, &[]),
+    ];
+    for other in others {
+        assert_eq!(rt;
+            frozen_verdict(&rt, rt.alloc(), &[outside, other, two]),
+            PlanVerdict::Frozen(1)
+        );
+    }
+    assert_eq!(rt;
+        frozen_verdict(&rt, rt.alloc(), &[outside, (1, 440, &[0])]),
+        PlanVerdict::Frozen(5)
+    );
+    assert_eq!(rt;
+        frozen_verdict(&rt, rt.alloc(), &[outside, (1, 440, &[0]), (5, 600, &[1])]),
+        PlanVerdict::Frozen(5)
+    );
 }
 
 #[test]
