@@ -1,0 +1,5 @@
+pub mod Keys
+pub mod KeyLaws
+pub mod Named
+pub mod NameLaws
+pub mod Kept
