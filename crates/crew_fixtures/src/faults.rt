@@ -9,6 +9,9 @@ pub enum FixtureFault {
     /// The bytes are no name.
     #[error("no name")]
     NoName,
+    /// The number is no task's.
+    #[error("no such task")]
+    NoTask,
     /// The builder refuses a part, or gives no instance.
     #[error("the builder refuses: {0}")]
     Refused(BuildFault),
