@@ -1,6 +1,6 @@
 // Why there is no such fixture.
 use crew_instance::BuildFault;
-use std::alloc::AllocError;
+use std::alloc::{AllocError, AllocFailed};
 use thiserror::Error;
 
 /// Why there is no such fixture.
@@ -25,6 +25,12 @@ impl From<BuildFault> for FixtureFault {
 
 impl From<AllocError> for FixtureFault {
     fn from(_: AllocError) -> Self {
+        FixtureFault::Refused(BuildFault::OutOfMemory)
+    }
+}
+
+impl<T: Drop> From<AllocFailed<T>> for FixtureFault {
+    fn from(_: AllocFailed<T>) -> Self {
         FixtureFault::Refused(BuildFault::OutOfMemory)
     }
 }
