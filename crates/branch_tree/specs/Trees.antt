@@ -10,12 +10,12 @@ use Rattle.branch_tree.specs.declared.tree.Node.{Node}
 use Rattle.branch_tree.specs.declared.tree.Node.TheVariants as nodes
 
 -- what a leaf claims, and its prices
-pub record Leaf : Type 0 where
+pub record ClaimedLeaf : Type 0 where
   pub state : LeafState
   pub prices : Prices
 
 abbrev pub BranchTree : Type 0
-BranchTree = Branches Choice Leaf
+BranchTree = Branches Choice ClaimedLeaf
 
 -- the nodes: each split, then its first child, and then its second
 abbrev pub preorder : BranchTree → List Node
@@ -40,18 +40,18 @@ left_open_in Closed = 0
 
 -- the closed leaves
 abbrev pub closed : BranchTree → ℕ
-closed t = leaf_sum (λ (leaf : Leaf). closed_in leaf.state) t
+closed t = leaf_sum (λ (leaf : ClaimedLeaf). closed_in leaf.state) t
 
 -- the leaves that are bare or open
 abbrev pub left_open : BranchTree → ℕ
-left_open t = leaf_sum (λ (leaf : Leaf). left_open_in leaf.state) t
+left_open t = leaf_sum (λ (leaf : ClaimedLeaf). left_open_in leaf.state) t
 
 abbrev pub counts_of : BranchTree → TreeCounts
 counts_of t = record { splits = splits t; closed = closed t; left_open = left_open t; depth = depth t }
 
 -- these are the nodes of a tree with this number
-abbrev pub IsNumberOf : (BranchTree → ℕ) → List Node → ℕ → Type 0
-IsNumberOf f ns n = (t : BranchTree) × (ns ≡ preorder t) × (n ≡ f t)
+abbrev pub IsCountIn : (BranchTree → ℕ) → List Node → ℕ → Type 0
+IsCountIn f ns n = (t : BranchTree) × (ns ≡ preorder t) × (n ≡ f t)
 
 -- these are the nodes of a tree with these numbers
 abbrev pub AreCountsOf : List Node → TreeCounts → Type 0

@@ -7,7 +7,7 @@ use Rattle.dossier_terms.specs.declared.Reason.{Reason}
 use Rattle.dossier_terms.specs.declared.Reason.TheVariants as reasons
 use Rattle.dossier_terms.specs.Dossier.{Dossier, IsGood}
 use Rattle.crew_terms.specs.Branches.{splits, closed, left_open}
-use Rattle.dossier_terms.specs.Reading.{Reading, Form, Said as Answer, More as Goes, Whole as Ends, No as Refuses}
+use Rattle.dossier_terms.specs.Reading.{Reading, Form, Answer, More as Goes, Whole as Ends, No as Refuses}
 use Rattle.dossier_terms.specs.Table.{Says, Reaches}
 use Rattle.head_check.specs.declared.due.HeadDue.TheVariants as heads
 use Rattle.cert_checker.specs.Due.{Awaits, IsEndOf}

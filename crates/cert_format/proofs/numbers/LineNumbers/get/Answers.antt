@@ -6,7 +6,7 @@ use Rattle.std.specs.Fmt.{signed_decimal}
 use Rattle.std.proofs.lemmas.Int.{to_z-of_z}
 use Rattle.std.proofs.lemmas.List.{length-map, get_or-drop}
 use Rattle.cert_format.proofs.Rests.{number_at, value_at, value_back}
-use Rattle.cert_format.proofs.numbers.Rest.get.Goals as goal
+use Rattle.cert_format.proofs.numbers.LineNumbers.get.Goals as goal
 
 some : (w : List ℕ) (r : Option ℤ) (z : ℤ) → FitsSigned w64 z → w ≡ signed_decimal z
     → MatchOption r ((n : ℤ) → FitsSigned w64 n → w ≢ signed_decimal n) (λ n. w ≡ signed_decimal n) → IsSome r

@@ -1,4 +1,4 @@
--- the numbers below another that a test keeps
+-- laws of the numbers below another that a test keeps
 use Rattle.std.proofs.Common.{◌≡◌, ◌<◌, ◌+◌, ℕ, zero, suc, Bool, true, false, cond, List, [], ◌∷◌, get_or, ap, ◌∙◌, arith}
 use Rattle.std.specs.Prelude.{All, filter, Contains}
 use Rattle.std.specs.List.{range_with_len}
@@ -8,24 +8,27 @@ use Rattle.std.proofs.lemmas.List.FromFn.{length-range_with_len, get_or-range_wi
 use Rattle.std.proofs.lemmas.List.Kept.{IsStrictlyIncreasing-filter}
 use Rattle.crew_terms.specs.Minutes.{IsListOf}
 
-all_below : (n : ℕ) → All (λ j. j < n) (range_with_len 0 n)
+-- they are below it
+pub all_below : (n : ℕ) → All (λ j. j < n) (range_with_len 0 n)
 all_below n k d l =
     let m = length-range_with_len 0 n in
     let e : get_or (range_with_len 0 n) k d ≡ 0 + k = get_or-range_with_len 0 n k d (omega arith) in
     omega arith
 
-below_rises : (n : ℕ) → IsStrictlyIncreasing (range_with_len 0 n)
+-- they rise
+pub below_rises : (n : ℕ) → IsStrictlyIncreasing (range_with_len 0 n)
 below_rises n k l =
     let m = length-range_with_len 0 n in
     let a : get_or (range_with_len 0 n) k 0 ≡ 0 + k = get_or-range_with_len 0 n k 0 (omega arith) in
     let b : get_or (range_with_len 0 n) (k + 1) 0 ≡ 0 + (k + 1) = get_or-range_with_len 0 n (k + 1) 0 (omega arith) in
     omega arith
 
-has_below : (n j : ℕ) → j < n → Contains (range_with_len 0 n) j
+-- each stands among them
+pub has_below : (n j : ℕ) → j < n → Contains (range_with_len 0 n) j
 has_below n j l = (j, rw (length-range_with_len 0 n) l, get_or-range_with_len 0 n j j l ∙ omega arith)
 
 -- what passes the test is kept
-keeps : (p : ℕ → Bool) (xs : List ℕ) (x : ℕ) → Contains xs x → p x ≡ true → Contains (filter p xs) x
+pub keeps : (p : ℕ → Bool) (xs : List ℕ) (x : ℕ) → Contains xs x → p x ≡ true → Contains (filter p xs) x
 keeps p [] x (k, l, e) t = absurd (omega arith)
 keeps p (y ∷ ys) x (zero, l, e) t = rw (ap p e ∙ t) (0, omega arith, e)
 keeps p (y ∷ ys) x (suc k, l, e) t = later (p y) (keeps p ys x (k, omega arith, e) t)
