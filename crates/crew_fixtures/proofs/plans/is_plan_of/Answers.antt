@@ -1,11 +1,19 @@
-use Rattle.std.proofs.Common.{◌≡◌, ◌≤◌, ◌<◌, ◌+◌, ◌⊎◌, inl, inr, ℕ, length, arith, subst, sym, ap, ◌∙◌, eqb-true}
+use Rattle.std.proofs.Common.{◌≡◌, ◌≤◌, ◌<◌, ◌+◌, ◌⊎◌, inl, inr, ℕ, length, None, Some, arith, subst, sym, ap, ◌∙◌, eqb-true}
 use Rattle.std.specs.List.{All}
 use Rattle.std.proofs.lemmas.Bool.{cases_lt}
+use Rattle.std.proofs.lemmas.List.{get_or_past}
 use Rattle.std.proofs.lemmas.List.Elements.{All-contains}
-use Rattle.crew_terms.specs.Plan.{Plan, job_of, Does}
+use Rattle.crew_terms.specs.Plan.{Plan, Job, job_of, Does}
 use Rattle.crew_instance.specs.Teams.{teams_in}
-use Rattle.plan_check.proofs.Known.{job_known}
-use Rattle.plan_check.proofs.tests.belongs.Goals as goal
+use Rattle.crew_fixtures.proofs.plans.is_plan_of.Goals as goal
+
+-- a task that has a job is one of the plan's
+job_known : (p : Plan) (j : ℕ) (job : Job) → job_of p j ≡ Some job → j < length p
+job_known p j job e = at (cases_lt j (length p))
+  where
+    at : (j < length p) ⊎ (length p ≤ j) → j < length p
+    at (inl l) = l
+    at (inr m) = let n : job_of p j ≡ None = get_or_past p j None m in let x : None ≡ Some job = sym n ∙ e in cc
 
 known_more : (p : Plan) (n m : ℕ) → ((k j t : ℕ) → j < m → Does p k j t → k < n) → All (λ k. k < n) (teams_in (job_of p m)) → (k j t : ℕ) → j < m + 1 → Does p k j t → k < n
 known_more p n m before here k j t l (job, e, s, c) = at (cases_lt j m)

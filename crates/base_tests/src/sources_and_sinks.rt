@@ -1,8 +1,8 @@
 // Each public call once, and lines at the edges of what a reader may hand out.
-use crate::lines::{Got, LineReader, Progress};
-use crate::sink::{MemSink, Sink, StdSink, SteadySink, WriteFault, put_all};
-use crate::source::{Failed, MemSource, Source, StdSource, SteadySource};
-use crate::text::{Text, read_text};
+use crew_io::lines::{Got, LineReader, Progress};
+use crew_io::sink::{MemSink, Sink, StdSink, SteadySink, WriteFault, put_all};
+use crew_io::source::{Failed, MemSource, Source, StdSource, SteadySource};
+use crew_io::text::{Text, read_text};
 use std::io;
 use std::io::{BufWriter, ErrorKind, Read, Write};
 use std::test::Fail;

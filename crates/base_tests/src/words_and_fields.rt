@@ -1,5 +1,5 @@
 // Tests of words, numbers, clocks and rows.
-use crate::{
+use field_table::{
     Cause, Cuts, Field, FieldFault, Kind, Row, Schema, Words, fields, read_at, read_clock,
     read_number, write_clock, write_number,
 };

@@ -1,5 +1,5 @@
 // Tests of exact numbers, at the ends of i128 and over small denominators.
-use crate::{
+use crew_num::{
     Mixed, Op, Overflow, add, cmp_ratio, cross, floor_scaled, gcd, gcd_of, mixed_add, mixed_gap,
     mixed_times, mul, sub,
 };

@@ -1,5 +1,5 @@
 // Tests of the queue.
-use crate::Queue;
+use node_queue::Queue;
 use std::test::Fail;
 
 #[test]
