@@ -3,7 +3,7 @@ ghost use Rattle.std.specs.Prelude.{◌≡◌, List, IfOk};
 ghost use Rattle.crew_terms.specs.declared.Visit.{Visit as TeamVisit};
 ghost use Rattle.route_pool.specs.Numbers.{AreNumbersOf};
 
-use cert_format::Rest;
+use cert_format::LineNumbers;
 use node_limits::Visit;
 use route_terms::Route;
 use std::alloc::{AllocError, Global};
@@ -13,7 +13,7 @@ use std::alloc::{AllocError, Global};
 pub fn read_route(
     alloc: Global,
     team: u32,
-    numbers: &Rest<'_>,
+    numbers: &LineNumbers<'_>,
 ) -> Result<Route<'static>, AllocError>
     requires { (visits : List TeamVisit) × AreNumbersOf visits numbers.now }
     ensures { IfOk result (λ route. (visits : List TeamVisit) → AreNumbersOf visits numbers.now →
