@@ -1,5 +1,5 @@
 -- the routes that are kept, keeps they are placed one by one
-use Rattle.std.proofs.Common.{◌≡◌, ◌≢◌, ◌<◌, ◌≤◌, ◌+◌, ℕ, zero, suc, List, [], ◌∷◌, ◌++◌, length, map, take, get_or, All, sym, ap, subst, refl, ◌∙◌, arith}
+use Rattle.std.proofs.Common.{◌≡◌, ◌≢◌, ◌<◌, ◌+◌, ℕ, zero, suc, List, [], ◌∷◌, ◌++◌, length, map, take, get_or, All, sym, ap, subst, ◌∙◌, arith}
 use Rattle.std.specs.Prelude.{AllPairs, Result, Ok, Err, OnErr}
 use Rattle.std.proofs.lemmas.List.{get_or_default, get_or-map, get_or-take, length-map, length-take-le, take_more}
 use Rattle.crew_terms.specs.Instance.{Instance}
@@ -7,14 +7,14 @@ use Rattle.crew_terms.specs.Limits.{IsRoute, Limits, Route, teams_in, tasks_in}
 use Rattle.crew_terms.specs.Rules.{IsInstance}
 use Rattle.crew_terms.specs.declared.Task.{Task}
 use Rattle.crew_terms.specs.declared.Team.{Team}
-use Rattle.crew_terms.specs.declared.TheConstants.{MOST_TASKS, MOST_TEAMS}
 use Rattle.crew_terms.specs.declared.Visit.{Visit}
 use Rattle.route_terms.specs.Kept.{AreKeptIn, IsKeptAs}
 use Rattle.route_terms.specs.Kept.AreKeptIn.{None, Kept, Left}
 use Rattle.route_terms.specs.NameLaws.{one_route}
-use Rattle.route_terms.specs.Named.{IsOf, NamedRoute, NamedVisit, by_names, name_of, route_named, task_names, team_names, visit_named}
-use Rattle.column_arena.specs.Carried.{AreCarried, AreRenumbered, IsNamedBy, IsRenumbered, TwoNames}
-use Rattle.column_arena.specs.Columns.{FitsColumns, IsAdded, IsNew, column_of, no_column, route as route_of}
+use Rattle.route_terms.specs.Named.{IsOfInstance, NamedRoute, NamedVisit, by_names, name_of, route_named, task_names, team_names, visit_named}
+use Rattle.column_arena.specs.Carried.{AreCarried, AreRenumbered, IsRenumbered, TwoNames}
+use Rattle.route_terms.specs.Routes.{IsNew, route_of}
+use Rattle.column_arena.specs.Columns.{FitsColumns, IsAdded, column_of, no_column}
 use Rattle.column_arena.specs.Columns.IsAdded.{Stood, Last}
 
 abbrev pub no_name : NamedRoute
@@ -99,7 +99,7 @@ module _ (n : Limits) (is : IsInstance n.instance) (teams tasks : TwoNames) (e :
   no_visits none r keeps = none r.visits (renumbered_visits r keeps)
 
   module _ (k : ℕ) (vs : List Visit) (team : IsRenumbered teams old.team k) (visits : AreRenumbered tasks old.visits vs) where
-    exists : IsOf n.instance (route_of k vs)
+    exists : IsOfInstance n.instance (route_of k vs)
     exists = record {
       team = let l = team.known in omega (arith, many_teams);
       tasks = subst (λ m. All (λ (v : Visit). v.task < m) vs) many_tasks visits.known;
@@ -139,7 +139,7 @@ named_at ts js rs id teams tasks r below e f at =
     ap (λ names. route_named names tasks.old r) e ∙ ap (λ names. route_named ts names r) f
     ∙ ap (route_named ts js) (at ∙ get_or_default rs id r no_column below) ∙ sym (at_map ts js rs id no_name below)
 
-pub carried : (i : Instance) → IsInstance i → (cs : List Route) → All (IsOf i) cs → All FitsColumns cs → AllPairs (λ a b. a ≢ b) cs → AreCarried (team_names i) (task_names i) cs
+pub carried : (i : Instance) → IsInstance i → (cs : List Route) → All (IsOfInstance i) cs → All FitsColumns cs → AllPairs (λ a b. a ≢ b) cs → AreCarried (team_names i) (task_names i) cs
 carried i is cs of_i fit apart = record {
   each = λ k d below. record {
     team = let l = (of_i k d below).team in omega (arith, length-map i.teams (λ (t : Team). t.name));

@@ -1,5 +1,5 @@
 -- what a look-up in order tells
-use Rattle.std.proofs.Common.{◌≡◌, ◌≢◌, ◌<◌, ◌≤◌, inl, inr, ℕ, Bool, true, false, List, [], ◌∷◌, ◌++◌, length, get_or, Option, None, Some, sym, ◌∙◌, arith, true≢false}
+use Rattle.std.proofs.Common.{◌≡◌, ◌<◌, inl, inr, ℕ, Bool, false, List, [], ◌∷◌, ◌++◌, length, get_or, Option, None, Some, sym, ◌∙◌, arith, true≢false}
 use Rattle.std.specs.Prelude.{MatchOption}
 use Rattle.std.specs.List.{list_any, position, position_or_len}
 use Rattle.std.proofs.lemmas.Bool.{cases_lt, cond_below, cond-false, false_from_ne_true}
@@ -10,7 +10,8 @@ use Rattle.std.proofs.lemmas.List.Sums.{fails_before_first}
 use Rattle.crew_terms.specs.Limits.{Route}
 use Rattle.route_terms.specs.Keys.{same_route}
 use Rattle.route_terms.specs.KeyLaws.{same_route_decides}
-use Rattle.column_arena.specs.Columns.{IsNew, column_of, no_column}
+use Rattle.route_terms.specs.Routes.{IsNew}
+use Rattle.column_arena.specs.Columns.{column_of, no_column}
 
 pub position-None : {X : Type 0} (p : X → Bool) (xs : List X) (k : ℕ) (d : X) → position p xs ≡ None → k < length xs → p (get_or xs k d) ≡ false
 position-None p xs k d none below = elim (cases_lt (position_or_len p xs) (length xs)) [

@@ -12,7 +12,8 @@ use Rattle.crew_terms.specs.declared.Visit.{Visit}
 use Rattle.crew_terms.specs.Limits.{Route}
 use Rattle.crew_terms.specs.declared.TheConstants.{MOST_TEAMS, MOST_TASKS}
 use Rattle.column_arena.specs.Kept.{AreKept}
-use Rattle.column_arena.specs.Columns.{AreNumbers, FitsColumns, IsNew, IsUsing, column_of, no_column}
+use Rattle.route_terms.specs.Routes.{IsNew}
+use Rattle.column_arena.specs.Columns.{AreNumbersWith, FitsColumns, IsUsing, column_of, no_column}
 use Rattle.column_arena.specs.Uses.{HaveSameNumbers, Held, IsNoted, held_at, is_at, is_last, place, with_number_if}
 use Rattle.column_arena.proofs.Numbers.{numbers_of_none, numbers_same, numbers_push}
 
@@ -26,7 +27,7 @@ nothing_kept = record {
 pub kept_same : (cs : List Route) (old new : List Held) → HaveSameNumbers old new → AreKept cs old → AreKept cs new
 kept_same cs old new same kept = record {
   columns = kept.columns;
-  uses = λ k j a b. subst (AreNumbers (IsUsing cs k j)) (sym (same (place k j))) (kept.uses k j a b);
+  uses = λ k j a b. subst (AreNumbersWith (IsUsing cs k j)) (sym (same (place k j))) (kept.uses k j a b);
 }
 
 -- what is_at tells of a place
@@ -81,7 +82,7 @@ module _ (cs : List Route) (c : Route) where
       (sym e, subst (λ (o : Route). o.team ≡ k) o h.team, subst (λ (o : Route). Any (λ (v : Visit). v.task ≡ j) o.visits) o h.visits)
 
   uses_more : (k j : ℕ) (h : Held) (b : Bool) → is_at c.team c.visits (place k j) ≡ b → All (λ (v : Visit). v.task < MOST_TASKS) c.visits → j < MOST_TASKS
-      → AreNumbers (IsUsing cs k j) h.ids → AreNumbers (IsUsing (cs ++ c ∷ []) k j) (with_number_if b h (length cs)).ids
+      → AreNumbersWith (IsUsing cs k j) h.ids → AreNumbersWith (IsUsing (cs ++ c ∷ []) k j) (with_number_if b h (length cs)).ids
   uses_more k j h true is small below are =
       let (team, visits) = at_from c.team c.visits k j small below is in
       numbers_push h.ids (length cs) are (λ i u. u.known) (using_more k j) (using_last k j (sym team) visits)
@@ -102,7 +103,7 @@ module _ (cs : List Route) (c : Route) where
       each = All-push FitsColumns cs c kept.columns.each is;
       apart = all_pairs_push (λ a b. a ≢ b) cs c kept.columns.apart fresh;
     };
-    uses = λ k j a b. subst (λ (h : Held). AreNumbers (IsUsing (cs ++ c ∷ []) k j) h.ids) (sym (noted (place k j)))
+    uses = λ k j a b. subst (λ (h : Held). AreNumbersWith (IsUsing (cs ++ c ∷ []) k j) h.ids) (sym (noted (place k j)))
         (uses_more k j (held_at old (place k j)) (is_at c.team c.visits (place k j)) refl is.tasks b (kept.uses k j a b));
   }
 
@@ -120,7 +121,7 @@ next_is_last cs table k j kept a b = elim (cases_Bool (is_last ids (length cs)))
     ids : List ℕ
     ids = (held_at table (place k j)).ids
 
-    are : AreNumbers (IsUsing cs k j) ids
+    are : AreNumbersWith (IsUsing cs k j) ids
     are = kept.uses k j a b
 
     positive : (n : ℕ) → nat_lt 0 n ≡ true → 0 < n

@@ -9,7 +9,7 @@ use Rattle.crew_terms.specs.Limits.{Route}
 use Rattle.search_terms.specs.Earned.{AreLegalOf}
 use Rattle.search_terms.specs.Earned.AreLegalOf.{None, Kept, Left}
 use Rattle.search_terms.specs.Shares.{IsRouteIn}
-use Rattle.column_arena.specs.Columns.{AreNumbers, IsUsing, column_of, no_column}
+use Rattle.column_arena.specs.Columns.{AreNumbersWith, IsUsing, column_of, no_column}
 use Rattle.column_arena.specs.Legal.{AreRuledOut, IsLegalColumn}
 use Rattle.column_arena.proofs.Numbers.{numbers_of_none, numbers_same, numbers_push}
 
@@ -51,7 +51,7 @@ pub record IsLegalBelow (n : Limits) (cs : List Route) (id i : ℕ) : Type 0 whe
 
 -- the numbers of the legal columns below id, and the routes that they name
 pub record AreLegalSoFar (n : Limits) (cs : List Route) (id : ℕ) (ids : List ℕ) : Type 0 where
-  pub numbers : AreNumbers (IsLegalBelow n cs id) ids
+  pub numbers : AreNumbersWith (IsLegalBelow n cs id) ids
   pub routes : AreLegalOf n (take id cs) (map (column_of cs) ids)
 
 module _ (n : Limits) where
@@ -94,7 +94,7 @@ module _ (n : Limits) where
     }
 
   pub legal_end : (cs : List Route) (id : ℕ) (ids : List ℕ) → length cs ≤ id → AreLegalSoFar n cs id ids
-      → AreNumbers (IsLegalColumn n cs) ids × AreLegalOf n cs (map (column_of cs) ids)
+      → AreNumbersWith (IsLegalColumn n cs) ids × AreLegalOf n cs (map (column_of cs) ids)
   legal_end cs id ids long so = (
     numbers_same ids so.numbers (λ i. ((λ h. h.legal), (λ h. record { below = let b = h.known in omega arith; legal = h }))),
     subst (λ front. AreLegalOf n front (map (column_of cs) ids)) (take_all id cs long) so.routes,

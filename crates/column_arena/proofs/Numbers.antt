@@ -4,12 +4,12 @@ use Rattle.std.specs.List.Sorted.{IsStrictlyIncreasing}
 use Rattle.std.proofs.lemmas.Bool.{cases_lt}
 use Rattle.std.proofs.lemmas.List.{get_or_append_left, get_or_push}
 use Rattle.std.proofs.lemmas.List.Elements.{Contains-get_or, Contains-push, Contains-append_left, Contains-push_cases}
-use Rattle.column_arena.specs.Columns.{AreNumbers}
+use Rattle.column_arena.specs.Columns.{AreNumbersWith}
 
-pub numbers_of_none : {Has : ℕ → Type 0} → ((i : ℕ) → Has i → ⊥) → AreNumbers Has []
+pub numbers_of_none : {Has : ℕ → Type 0} → ((i : ℕ) → Has i → ⊥) → AreNumbersWith Has []
 numbers_of_none none = record { rising = λ k l. absurd (omega arith); each = λ i. ((λ c. absurd (let l = c.1 in omega arith)), (λ h. absurd (none i h))) }
 
-pub numbers_same : {Has Gets : ℕ → Type 0} (ids : List ℕ) → AreNumbers Has ids → ((i : ℕ) → Has i ↔ Gets i) → AreNumbers Gets ids
+pub numbers_same : {Has Gets : ℕ → Type 0} (ids : List ℕ) → AreNumbersWith Has ids → ((i : ℕ) → Has i ↔ Gets i) → AreNumbersWith Gets ids
 numbers_same ids are same = record {
   rising = are.rising;
   each = λ i. ((λ c. (same i).0 ((are.each i).0 c)), (λ h. (are.each i).1 ((same i).1 h)));
@@ -29,8 +29,8 @@ rising_push ids id rising below k less = by (cases_lt (k + 1) (length ids))
     by (inr l) = rw (at (omega (arith, long, less)), get_or_push ids id 0 (k + 1) (omega (arith, long, less))) (below (get_or ids k 0) (Contains-get_or ids k 0 (omega (arith, long, less))))
 
 -- with one more number, above all others
-pub numbers_push : {Has Gets : ℕ → Type 0} (ids : List ℕ) (id : ℕ) → AreNumbers Has ids → ((i : ℕ) → Has i → i < id)
-    → ((i : ℕ) → Has i → Gets i) → Gets id → ((i : ℕ) → Gets i → Has i ⊎ (id ≡ i)) → AreNumbers Gets (ids ++ id ∷ [])
+pub numbers_push : {Has Gets : ℕ → Type 0} (ids : List ℕ) (id : ℕ) → AreNumbersWith Has ids → ((i : ℕ) → Has i → i < id)
+    → ((i : ℕ) → Has i → Gets i) → Gets id → ((i : ℕ) → Gets i → Has i ⊎ (id ≡ i)) → AreNumbersWith Gets (ids ++ id ∷ [])
 numbers_push {Has} {Gets} ids id are below more here cases = record {
   rising = rising_push ids id are.rising (λ i c. below i ((are.each i).0 c));
   each = λ i. ((λ c. into i (Contains-push_cases ids id i c)), (λ h. back i (cases i h)));
@@ -44,5 +44,5 @@ numbers_push {Has} {Gets} ids id are below more here cases = record {
     back i (inl h) = Contains-append_left ids (id ∷ []) i ((are.each i).1 h)
     back i (inr e) = subst (Contains (ids ++ id ∷ [])) e (Contains-push ids id)
 
-pub number_at : {Has : ℕ → Type 0} (ids : List ℕ) (m : ℕ) → AreNumbers Has ids → m < length ids → Has (get_or ids m 0)
+pub number_at : {Has : ℕ → Type 0} (ids : List ℕ) (m : ℕ) → AreNumbersWith Has ids → m < length ids → Has (get_or ids m 0)
 number_at ids m are below = (are.each (get_or ids m 0)).0 (Contains-get_or ids m 0 below)

@@ -1,5 +1,5 @@
 -- the names of an instance as a set, and the numbers that names have in another
-use Rattle.std.proofs.Common.{◌≡◌, ◌≢◌, ◌<◌, ◌≤◌, ◌+◌, ℕ, false, List, [], ◌∷◌, ◌++◌, length, length-append, map, take, get_or, All, Option, None, Some, sym, ap, subst, refl, ◌∙◌, arith, true≢false}
+use Rattle.std.proofs.Common.{◌≡◌, ◌≢◌, ◌<◌, ◌+◌, ℕ, false, List, [], ◌∷◌, ◌++◌, length, map, take, get_or, All, Option, None, Some, sym, ap, ◌∙◌, arith, true≢false}
 use Rattle.std.specs.Prelude.{AllPairs, MatchOption}
 use Rattle.std.specs.List.{list_any, position}
 use Rattle.std.specs.Str.{bytes_eq}
@@ -18,7 +18,7 @@ use Rattle.crew_terms.specs.declared.Visit.{Visit}
 use Rattle.route_terms.specs.KeyLaws.{visit_at}
 use Rattle.route_terms.specs.NameLaws.{one_task, one_team}
 use Rattle.route_terms.specs.Named.{NamedVisit, name_of, task_names, team_names, visit_named}
-use Rattle.column_arena.specs.Carried.{AreKnown, AreRenumbered, IsRenumbered, TwoNames}
+use Rattle.column_arena.specs.Carried.{AreRenumbered, IsRenumbered, TwoNames}
 use Rattle.column_arena.proofs.Finding.{position-None}
 use Rattle.column_arena.proofs.Tables.{no_visit}
 

@@ -1,5 +1,5 @@
 -- columns that are carried by names from one instance to another
-use Rattle.std.specs.Prelude.{◌≡◌, ◌≢◌, ◌<◌, ◌^◌, ℕ, List, length, map, All, AllPairs}
+use Rattle.std.specs.Prelude.{◌≡◌, ◌≢◌, ◌<◌, ℕ, List, length, map, All, AllPairs}
 use Rattle.crew_terms.specs.Limits.{Route}
 use Rattle.crew_terms.specs.declared.Visit.{Visit}
 use Rattle.route_terms.specs.Named.{name_of, route_named, visit_named}

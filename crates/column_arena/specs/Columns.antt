@@ -4,14 +4,11 @@ use Rattle.std.specs.List.Sorted.{IsStrictlyIncreasing}
 use Rattle.crew_terms.specs.declared.TheConstants.{MOST_TEAMS, MOST_TASKS}
 use Rattle.crew_terms.specs.declared.Visit.{Visit}
 use Rattle.crew_terms.specs.Limits.{Route}
-
--- the route of team k with these visits
-abbrev pub route : ℕ → List Visit → Route
-route k visits = record { team = k; visits = visits }
+use Rattle.route_terms.specs.Routes.{IsNew, route_of}
 
 -- a blank column, where there is none
 abbrev pub no_column : Route
-no_column = route 0 []
+no_column = route_of 0 []
 
 -- the column with the number id
 abbrev pub column_of : List Route → ℕ → Route
@@ -28,10 +25,6 @@ pub record AreColumns (cs : List Route) : Type 0 where
   pub each : All FitsColumns cs
   pub apart : AllPairs (λ a b. a ≢ b) cs
 
--- no column equals this one
-abbrev pub IsNew : List Route → Route → Type 0
-IsNew cs c = All (λ (o : Route). o ≢ c) cs
-
 -- the number of a column that is to be added, and the columns after it: an equal one stands there, or it stands last
 pub data IsAdded (old : List Route) (c : Route) (id : ℕ) (new : List Route) : Type 0 where
   Stood : (known : id < length old) (equal : column_of old id ≡ c) (same : new ≡ old) → IsAdded old c id new
@@ -44,6 +37,6 @@ pub record IsUsing (cs : List Route) (k j id : ℕ) : Type 0 where
   pub visits : Any (λ (v : Visit). v.task ≡ j) (column_of cs id).visits
 
 -- exactly the numbers that have the property, rising
-pub record AreNumbers (Has : ℕ → Type 0) (ids : List ℕ) : Type 0 where
+pub record AreNumbersWith (Has : ℕ → Type 0) (ids : List ℕ) : Type 0 where
   pub rising : IsStrictlyIncreasing ids
   pub each : (id : ℕ) → Contains ids id ↔ Has id

@@ -1,5 +1,5 @@
 -- which columns of a team visit a task, as it is kept: a table with a list for each team and task
-use Rattle.std.specs.Prelude.{◌≡◌, ◌<◌, ◌+◌, ◌-◌, ◌*◌, ℕ, Bool, ◌&&◌, nat_eq, nat_lt, if◌then◌else◌, List, [], ◌∷◌, ◌++◌, length, slice_index_or}
+use Rattle.std.specs.Prelude.{◌≡◌, ◌+◌, ◌-◌, ◌*◌, ℕ, Bool, ◌&&◌, nat_eq, nat_lt, if◌then◌else◌, List, [], ◌∷◌, ◌++◌, length, slice_index_or}
 use Rattle.std.specs.List.{list_any}
 use Rattle.crew_terms.specs.declared.Visit.{Visit}
 use Rattle.crew_terms.specs.declared.TheConstants.{MOST_TASKS}

@@ -1,15 +1,14 @@
 // Columns by names, from one round to the next.
 ghost use Rattle.std.specs.Prelude.{◌≡◌, ◌<◌, [], ℕ, List, All, IfOk, MatchOption, OnErr, OnOk, length, map, take};
 ghost use Rattle.crew_terms.specs.Limits.{Route as TeamRoute};
-ghost use Rattle.crew_terms.specs.declared.Visit.{Visit as TeamVisit};
 ghost use Rattle.route_terms.specs.Kept.{AreKeptIn, IsKeptAs};
-ghost use Rattle.route_terms.specs.Named.{IsOf, by_names, route_named, task_names as names_of_tasks, team_names as names_of_teams};
-ghost use Rattle.column_arena.specs.Carried.{AreRenumbered, IsNamedBy};
+ghost use Rattle.route_terms.specs.Named.{IsOfInstance, by_names, route_named, task_names as names_of_tasks, team_names as names_of_teams};
+ghost use Rattle.column_arena.specs.Carried.{IsNamedBy};
 
 use crate::columns::Columns;
 use crate::names::{Renumbering, task_names, team_names};
 use crew_instance::Instance;
-use crew_terms::{Name, Visit};
+use crew_terms::Name;
 use node_limits::Limits;
 use route_check::{RouteVerdict, check_route};
 use route_terms::Route;
@@ -39,30 +38,6 @@ impl Model for Carry {
     ghost invariant = { λ c. AreCarried c.teams.items c.tasks.items c.routes.items };
 }
 
-// The visits by the new numbers of their tasks, where all of these exist.
-fn renumbered(
-    alloc: Global,
-    tasks: &Renumbering<'_>,
-    visits: &[Visit],
-) -> Result<Option<Vec<Visit>>, AllocError>
-    requires { All (λ v. v.task < length tasks.now.old) visits.now }
-    ensures { IfOk result (λ found. MatchOption found
-        ((vs : List TeamVisit) → AreRenumbered tasks.now visits.now vs → ⊥)
-        (λ vs. AreRenumbered tasks.now visits.now vs.items)) }
-{
-    let mut new = Vec::with_capacity(alloc, visits.len())?;
-    for visit in visits {
-        let Some(task) = tasks.number(visit.task) else {
-            return Ok(None);
-        };
-        new.push(Visit {
-            task,
-            start: visit.start,
-        })?;
-    }
-    Ok(Some(new))
-}
-
 // The route of the limits that has the names of this one, where there is one.
 fn kept(
     alloc: Global,
@@ -82,7 +57,7 @@ fn kept(
     let Some(team) = teams.number(route.team()) else {
         return Ok(None);
     };
-    let Some(visits) = renumbered(alloc, tasks, route.visits())? else {
+    let Some(visits) = tasks.visits(alloc, route.visits())? else {
         return Ok(None);
     };
     match check_route(limits, team, &visits) {
@@ -110,7 +85,7 @@ impl Carry {
         instance: &Instance,
         columns: &C,
     ) -> Result<Carry, AllocError>
-        requires { All (IsOf instance.now) (C.columns columns.now) }
+        requires { All (IsOfInstance instance.now) (C.columns columns.now) }
         ensures { IfOk result (λ carry. carry ≡ map (by_names instance.now) (C.columns columns.now)) }
     {
         // Names of an instance differ, so columns by names do; and none has no visits.

@@ -2,7 +2,8 @@
 ghost use Rattle.std.specs.Prelude.{◌≡◌, ◌<◌, List, All, IfOk, OnErr, length};
 ghost use Rattle.crew_terms.specs.declared.TheConstants.{MOST_TASKS, MOST_TEAMS};
 ghost use Rattle.crew_terms.specs.Limits.{Route};
-ghost use Rattle.column_arena.specs.Columns.{AreColumns, AreNumbers, IsAdded, IsUsing, column_of, route};
+ghost use Rattle.route_terms.specs.Routes.{route_of};
+ghost use Rattle.column_arena.specs.Columns.{AreColumns, AreNumbersWith, IsAdded, IsUsing, column_of};
 
 use crew_terms::Visit;
 use std::alloc::AllocError;
@@ -33,7 +34,7 @@ pub trait Columns {
     fn using(&self, team: u32, task: u32) -> &[usize]
         requires team { team < MOST_TEAMS }
         requires task { task < MOST_TASKS }
-        ensures { AreNumbers (IsUsing (columns self.now) team task) result.now };
+        ensures { AreNumbersWith (IsUsing (columns self.now) team task) result.now };
 
     /// The number of the column of the team with these visits. Where there is none yet, it is put last. All memory is
     /// taken first; where it runs out, the columns are as before.
@@ -41,6 +42,6 @@ pub trait Columns {
         requires team { team < MOST_TEAMS }
         requires some { 0 < length visits.now }
         requires tasks { All (λ v. v.task < MOST_TASKS) visits.now }
-        ensures added { IfOk result (λ id. IsAdded (columns self.old) (route team visits.now) id (columns self.new)) }
+        ensures added { IfOk result (λ id. IsAdded (columns self.old) (route_of team visits.now) id (columns self.new)) }
         ensures err { OnErr result (columns self.new ≡ columns self.old) };
 }

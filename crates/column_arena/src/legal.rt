@@ -3,7 +3,7 @@ ghost use Rattle.std.specs.Prelude.{◌≡◌, ◌<◌, ◌↔◌, IfOk, IsTrue,
 ghost use Rattle.crew_terms.specs.Limits.{pair_of, tasks_in, teams_in};
 ghost use Rattle.search_terms.specs.Earned.{AreLegalOf};
 ghost use Rattle.search_terms.specs.Shares.{IsRouteIn};
-ghost use Rattle.column_arena.specs.Columns.{AreNumbers, column_of};
+ghost use Rattle.column_arena.specs.Columns.{AreNumbersWith, column_of};
 ghost use Rattle.column_arena.specs.Legal.{AreRuledOut, IsLegalColumn};
 
 use crate::columns::Columns;
@@ -86,7 +86,7 @@ pub fn legal_in<C: Columns>(
     columns: &C,
     out: &mut Vec<usize>,
 ) -> Result<(), AllocError>
-    ensures numbers { OnOk result (AreNumbers (IsLegalColumn limits.now.limits (C.columns columns.now)) out.new.items) }
+    ensures numbers { OnOk result (AreNumbersWith (IsLegalColumn limits.now.limits (C.columns columns.now)) out.new.items) }
     ensures routes { OnOk result (AreLegalOf limits.now.limits (C.columns columns.now)
         (map (column_of (C.columns columns.now)) out.new.items)) }
 {

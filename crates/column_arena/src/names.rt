@@ -1,10 +1,11 @@
 // The names of an instance, and the numbers that they have in another.
-ghost use Rattle.std.specs.Prelude.{◌≡◌, ◌≢◌, ◌<◌, ◌^◌, ℕ, AllPairs, IfOk, MatchOption, length};
+ghost use Rattle.std.specs.Prelude.{◌≡◌, ◌≢◌, ◌<◌, ◌^◌, ℕ, List, All, AllPairs, IfOk, MatchOption, length};
+ghost use Rattle.crew_terms.specs.declared.Visit.{Visit as TeamVisit};
 ghost use Rattle.route_terms.specs.Named.{task_names as names_of_tasks, team_names as names_of_teams};
-ghost use Rattle.column_arena.specs.Carried.{IsRenumbered};
+ghost use Rattle.column_arena.specs.Carried.{AreRenumbered, IsRenumbered};
 
 use crew_instance::Instance;
-use crew_terms::Name;
+use crew_terms::{Name, Visit};
 use indexmap::IndexSet;
 use std::alloc::{AllocError, Global};
 use std::marker::Model;
@@ -82,5 +83,24 @@ impl<'n> Renumbering<'n> {
         let old = self.old;
         let place = self.new.get_index_of(&old[k as usize])?;
         Some(place as u32)
+    }
+    /// The visits by the new numbers of their tasks; None exactly where one of these has no new number.
+    pub fn visits(&self, alloc: Global, visits: &[Visit]) -> Result<Option<Vec<Visit>>, AllocError>
+        requires { All (λ v. v.task < length self.now.old) visits.now }
+        ensures { IfOk result (λ found. MatchOption found
+            ((vs : List TeamVisit) → AreRenumbered self.now visits.now vs → ⊥)
+            (λ vs. AreRenumbered self.now visits.now vs.items)) }
+    {
+        let mut new = Vec::with_capacity(alloc, visits.len())?;
+        for visit in visits {
+            let Some(task) = self.number(visit.task) else {
+                return Ok(None);
+            };
+            new.push(Visit {
+                task,
+                start: visit.start,
+            })?;
+        }
+        Ok(Some(new))
     }
 }

@@ -1,7 +1,8 @@
 // Columns as they are kept, wherever their visits lie.
 ghost use Rattle.std.specs.Prelude.{◌≡◌, ◌<◌, ◌++◌, ◌∷◌, [], IfOk, MatchOption, OnErr, OnOk, length};
 ghost use Rattle.crew_terms.specs.declared.TheConstants.{MOST_TASKS, MOST_TEAMS};
-ghost use Rattle.column_arena.specs.Columns.{AreColumns, AreNumbers, FitsColumns, IsNew, IsUsing, column_of, route as route_of};
+ghost use Rattle.route_terms.specs.Routes.{IsNew, route_of};
+ghost use Rattle.column_arena.specs.Columns.{AreColumns, AreNumbersWith, FitsColumns, IsUsing, column_of};
 
 use crate::uses::{self, Uses};
 use crew_terms::Visit;
@@ -69,7 +70,7 @@ impl<'v> Store<'v> {
     pub fn using(&self, team: u32, task: u32) -> &[usize]
         requires team { team < MOST_TEAMS }
         requires task { task < MOST_TASKS }
-        ensures { AreNumbers (IsUsing self.now team task) result.now }
+        ensures { AreNumbersWith (IsUsing self.now team task) result.now }
     {
         uses::using(&self.uses, team, task)
     }

@@ -1,8 +1,8 @@
 -- kept routes are one list
-use Rattle.std.proofs.Common.{◌≡◌, List, [], ◌∷◌, sym, ap, refl, ◌∙◌}
+use Rattle.std.proofs.Common.{◌≡◌, List, sym, refl, ◌∙◌}
 use Rattle.crew_terms.specs.Limits.{Limits, Route}
 use Rattle.crew_terms.specs.Rules.{IsInstance}
-use Rattle.route_terms.specs.Kept.{AreKeptIn, IsKeptAs}
+use Rattle.route_terms.specs.Kept.{AreKeptIn}
 use Rattle.route_terms.specs.Kept.AreKeptIn.{None, Kept, Left}
 use Rattle.route_terms.specs.NameLaws.{one_route}
 use Rattle.route_terms.specs.Named.{NamedRoute}

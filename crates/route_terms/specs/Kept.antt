@@ -2,11 +2,11 @@
 use Rattle.std.specs.Prelude.{◌≡◌, List, [], ◌∷◌, map}
 use Rattle.crew_terms.specs.Instance.{Instance}
 use Rattle.crew_terms.specs.Limits.{Limits, Route, IsRoute, root_limits}
-use Rattle.route_terms.specs.Named.{NamedRoute, IsOf, by_names}
+use Rattle.route_terms.specs.Named.{NamedRoute, IsOfInstance, by_names}
 
 -- the route with these names, whose team and tasks exist and whose visits are a route in the limits
 pub record IsKeptAs (n : Limits) (named : NamedRoute) (r : Route) : Type 0 where
-  pub exists : IsOf n.instance r
+  pub exists : IsOfInstance n.instance r
   pub names : by_names n.instance r ≡ named
   pub route : IsRoute n r.team r.visits
 

@@ -1,5 +1,5 @@
 -- routes that are equal as keys are equal, and hashed alike
-use Rattle.std.proofs.Common.{◌≡◌, true, ℕ, List, ap, subst, ◌∙◌}
+use Rattle.std.proofs.Common.{◌≡◌, true, ℕ, ap, subst, ◌∙◌}
 use Rattle.std.specs.Bool.{Decides}
 use Rattle.std.specs.Cmp.{IsEquivalence, IsPartialEquivalence, partial_equiv_from_equiv, and_equiv, on_equiv, nat_eq_equiv, unsigned_Decides, first_so, second_so}
 use Rattle.std.specs.Cmp.Lexicographic.{pointwise, pointwise_decides, lists_equiv}
@@ -7,6 +7,7 @@ use Rattle.std.specs.Prelude.{nat_eq}
 use Rattle.crew_terms.specs.declared.Visit.{Visit}
 use Rattle.crew_terms.specs.Limits.{Route}
 use Rattle.route_terms.specs.Keys.{same_visit, same_route, route_input}
+use Rattle.route_terms.specs.Routes.{route_of}
 
 same_visit_equiv : IsEquivalence same_visit
 same_visit_equiv = and_equiv (on_equiv (λ (v : Visit). v.task) nat_eq_equiv) (on_equiv (λ (v : Visit). v.start) nat_eq_equiv)
@@ -28,9 +29,6 @@ same_visit_decides a b = (
       ap (λ m. visit_at m a.start) j ∙ ap (visit_at b.task) t,
   λ e. subst (λ c. same_visit a c ≡ true) e (same_visit_equiv.refl a),
 )
-
-abbrev pub route_of : ℕ → List Visit → Route
-route_of team visits = record { team = team; visits = visits }
 
 pub same_route_decides : (a b : Route) → Decides (same_route a b) (a ≡ b)
 same_route_decides a b = (

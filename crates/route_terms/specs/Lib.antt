@@ -1,3 +1,4 @@
+pub mod Routes
 pub mod Keys
 pub mod KeyLaws
 pub mod Named

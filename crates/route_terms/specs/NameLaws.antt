@@ -1,5 +1,5 @@
 -- names mean one route: since the names of an instance differ, a route is known by them
-use Rattle.std.proofs.Common.{◌≡◌, ◌≢◌, ◌<◌, ◌+◌, inl, inr, ℕ, zero, suc, List, [], ◌∷◌, length, map, get_or, All, sym, ap, subst, refl, ◌∙◌, arith}
+use Rattle.std.proofs.Common.{◌≡◌, ◌≢◌, ◌<◌, inl, inr, ℕ, List, [], ◌∷◌, length, map, get_or, All, sym, ap, refl, ◌∙◌}
 use Rattle.std.proofs.Math.ListN.{get_or-map}
 use Rattle.std.specs.Prelude.{AllPairs}
 use Rattle.std.proofs.lemmas.Bool.{cases_order}
@@ -10,8 +10,9 @@ use Rattle.crew_terms.specs.Rules.{IsInstance}
 use Rattle.crew_terms.specs.declared.Team.{Team}
 use Rattle.crew_terms.specs.declared.Task.{Task}
 use Rattle.crew_terms.specs.declared.Visit.{Visit}
-use Rattle.route_terms.specs.KeyLaws.{route_of, visit_at}
-use Rattle.route_terms.specs.Named.{IsOf, NamedRoute, NamedVisit, by_names, name_of, task_names, team_names, visit_named}
+use Rattle.route_terms.specs.KeyLaws.{visit_at}
+use Rattle.route_terms.specs.Routes.{route_of}
+use Rattle.route_terms.specs.Named.{IsOfInstance, NamedRoute, NamedVisit, by_names, name_of, task_names, team_names, visit_named}
 
 -- the names of teams and tasks, at each number
 pub team_name : (i : Instance) (k : ℕ) → name_of (team_names i) k ≡ (team_of i k).name
@@ -59,7 +60,7 @@ module _ (i : Instance) (is : IsInstance i) where
       cc
 
   -- routes of the instance that have the same names are equal
-  pub one_route : (r s : Route) → IsOf i r → IsOf i s → by_names i r ≡ by_names i s → r ≡ s
+  pub one_route : (r s : Route) → IsOfInstance i r → IsOfInstance i s → by_names i r ≡ by_names i s → r ≡ s
   one_route r s a b e =
       let team : r.team ≡ s.team = one_team r.team s.team a.team b.team (ap (λ (c : NamedRoute). c.team) e) in
       let visits : r.visits ≡ s.visits = one_list r.visits s.visits a.tasks b.tasks (ap (λ (c : NamedRoute). c.visits) e) in

@@ -41,6 +41,6 @@ abbrev pub by_names : Instance → Route → NamedRoute
 by_names i r = route_named (team_names i) (task_names i) r
 
 -- the team and the tasks are the instance's
-pub record IsOf (i : Instance) (r : Route) : Type 0 where
+pub record IsOfInstance (i : Instance) (r : Route) : Type 0 where
   pub team : r.team < length i.teams
   pub tasks : All (λ (v : Visit). v.task < length i.tasks) r.visits

@@ -6,7 +6,7 @@ ghost use Rattle.crew_terms.specs.Instance.{Instance};
 ghost use Rattle.crew_terms.specs.Limits.{Limits, Route as TeamRoute};
 ghost use Rattle.crew_terms.specs.Rules.{IsInstance};
 ghost use Rattle.route_terms.specs.Kept.{AreKeptIn};
-ghost use Rattle.route_terms.specs.Named.{NamedRoute, IsOf, by_names};
+ghost use Rattle.route_terms.specs.Named.{NamedRoute, IsOfInstance, by_names};
 
 mod routes;
 
@@ -14,7 +14,7 @@ pub use routes::Route;
 
 /// Routes of an instance that have the same names are equal.
 pub fn names_mean_one_route()
-    ensures { (i : Instance) (r s : TeamRoute) → IsInstance i → IsOf i r → IsOf i s → by_names i r ≡ by_names i s → r ≡ s }
+    ensures { (i : Instance) (r s : TeamRoute) → IsInstance i → IsOfInstance i r → IsOfInstance i s → by_names i r ≡ by_names i s → r ≡ s }
 {}
 
 /// The routes that are kept in the limits of an instance are one list.

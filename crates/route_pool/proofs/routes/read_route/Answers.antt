@@ -1,6 +1,6 @@
 use Rattle.std.proofs.Common.{◌<◌, ◌≤◌, ◌/◌, length, ap, ◌∙◌, arith}
 use Rattle.route_pool.proofs.Spelled.{is_visit, all_read, task_fits, start_fits, one_more}
-use Rattle.route_terms.specs.KeyLaws.{route_of}
+use Rattle.route_terms.specs.Routes.{route_of}
 use Rattle.route_pool.proofs.routes.read_route.Goals as goal
 
 pub overflow_cast-get : goal.overflow_cast-get

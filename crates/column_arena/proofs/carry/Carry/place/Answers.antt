@@ -1,15 +1,13 @@
-use Rattle.std.proofs.Common.{◌≡◌, ◌<◌, ◌≤◌, ◌≢◌, List, [], length, map, take, get_or, arith, sym, ap, subst, ◌∙◌}
-use Rattle.std.specs.Prelude.{AllPairs}
+use Rattle.std.proofs.Common.{◌≡◌, ◌<◌, ◌≤◌, [], length, map, arith, sym, ap, subst, ◌∙◌}
 use Rattle.std.proofs.lemmas.List.{get_or_default, length-map, take_all}
-use Rattle.crew_terms.specs.Instance.{Instance}
 use Rattle.crew_terms.specs.Limits.{Route}
-use Rattle.crew_terms.specs.Rules.{IsInstance}
 use Rattle.route_terms.specs.Kept.{AreKeptIn, IsKeptAs}
 use Rattle.route_terms.specs.Kept.AreKeptIn.{None}
-use Rattle.route_terms.specs.Named.{NamedRoute, route_named}
-use Rattle.column_arena.specs.Carried.{IsNamedBy, TwoNames}
-use Rattle.column_arena.specs.Columns.{IsAdded, column_of, no_column, route as route_of}
-use Rattle.column_arena.proofs.Carrying.{kept_added, kept_skip, named_at, no_name, none_placed, on_err, some_visits}
+use Rattle.route_terms.specs.Named.{route_named}
+use Rattle.column_arena.specs.Carried.{TwoNames}
+use Rattle.route_terms.specs.Routes.{route_of}
+use Rattle.column_arena.specs.Columns.{IsAdded, column_of, no_column}
+use Rattle.column_arena.proofs.Carrying.{kept_added, kept_skip, named_at, none_placed, on_err, some_visits}
 use Rattle.column_arena.proofs.Renumbering.{task_names_apart, team_names_apart}
 use Rattle.column_arena.proofs.carry.Carry.place.Goals as goal
 

@@ -1,4 +1,3 @@
-use Rattle.std.proofs.Common.{◌≡◌}
 use Rattle.column_arena.proofs.Carrying.{carried}
 use Rattle.column_arena.proofs.carry.Carry.take.Goals as goal
 

@@ -2,7 +2,7 @@ use Rattle.std.proofs.Common.{◌≡◌, ap, ◌∙◌}
 use Rattle.std.specs.List.{position}
 use Rattle.crew_terms.specs.Limits.{Route}
 use Rattle.route_terms.specs.Keys.{same_route}
-use Rattle.column_arena.specs.Columns.{route as route_of}
+use Rattle.route_terms.specs.Routes.{route_of}
 use Rattle.column_arena.proofs.Finding.{found}
 use Rattle.column_arena.proofs.store.Store.find.Goals as goal
 

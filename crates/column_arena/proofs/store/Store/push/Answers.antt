@@ -1,10 +1,8 @@
-use Rattle.std.proofs.Common.{◌≡◌, ◌<◌, ◌∷◌, ◌++◌, [], ℕ, length, get_or, sym, ap, subst, ◌∙◌}
+use Rattle.std.proofs.Common.{◌≡◌, ◌<◌, ◌∷◌, ◌++◌, [], length, get_or, sym, ap, subst, ◌∙◌}
 use Rattle.indexmap.specs.IndexSet.{insert_key}
-use Rattle.crew_terms.specs.declared.Visit.{Visit}
 use Rattle.crew_terms.specs.declared.TheConstants.{MOST_TASKS}
-use Rattle.crew_terms.specs.Limits.{Route}
 use Rattle.route_terms.specs.Keys.{same_route}
-use Rattle.column_arena.specs.Columns.{IsNew}
+use Rattle.route_terms.specs.Routes.{IsNew}
 use Rattle.column_arena.specs.Uses.{IsNoted, place}
 use Rattle.column_arena.proofs.Finding.{inserted}
 use Rattle.column_arena.proofs.Keeping.{kept_same, kept_more, next_is_last}
