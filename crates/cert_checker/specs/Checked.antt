@@ -46,9 +46,11 @@ IsWholeAt (states.Whole ended) d = IsEndOf ended d
 IsWholeAt (states.Refused line reason) d = ⊥
 IsWholeAt states.Spent d = ⊥
 
+-- a line is due
 abbrev pub IsOpen : State → Type 0
 IsOpen at = (reading : Reading) × IsDueAt at reading
 
+-- a dossier is whole, and no line was read after it
 abbrev pub IsEnded : State → Type 0
 IsEnded at = (d : Dossier) × IsWholeAt at d
 

@@ -10,6 +10,7 @@ exact Add a b = a +ℤ b
 exact Sub a b = a -ℤ b
 exact Mul a b = a *ℤ b
 
+-- a number of 128 bits, with a sign
 abbrev pub FitsI128 : ℤ → Type 0
 FitsI128 z = FitsSigned w128 z
 

@@ -25,11 +25,6 @@ use Rattle.dossier_laws.proofs.LeafWrites.{leaf_reached}
 
 -- ---- numbers of a tree
 
-one_leaf : (claim : Claim Leaf) → closed_in claim + left_open_in claim ≡ 1
-one_leaf Bare = refl
-one_leaf (Open leaf) = refl
-one_leaf (Closed leaf) = refl
-
 -- the node still fits into the counts
 pub record Fits (c : TreeCounts) (above : List Above) (t : Written) : Type 0 where
   pub splits_fit : frame_sum splits 1 above + splits t ≤ c.splits
