@@ -149,24 +149,44 @@ fn reads_to_the_end(bytes: usize, piece: usize) -> u64
     reads_of(bytes, piece).saturating_add(1)
 }
 
-#[test]
-fn two_dossiers_in_pieces(rt: HostRuntime) -> Result<(), Fail> {
-    let twice = two_dossiers(rt.alloc())?;
-    let reads = reads_to_the_end(twice.len(), 16);
-    assert_tells(&rt, rt.alloc(), "check", &twice, 16, reads)?;
-    let reads = reads_to_the_end(twice.len(), 1);
-    assert_tells(&rt, rt.alloc(), "check", &twice, 1, reads)
+/// Asserts it of two good dossiers.
+fn assert_tells_of_two(rt: &impl Abort, alloc: Global, piece: usize) -> Result<(), Fail>
+    requires { 1 ≤ piece }
+{
+    let twice = two_dossiers(alloc)?;
+    let reads = reads_to_the_end(twice.len(), piece);
+    assert_tells(rt, alloc, "check", &twice, piece, reads)
+}
+
+/// Asserts it of a dossier that is refused between two good ones. No read comes after the refusal.
+fn assert_tells_of_refusal(rt: &impl Abort, alloc: Global, piece: usize) -> Result<(), Fail>
+    requires { 1 ≤ piece }
+{
+    let front = until_refused(alloc)?;
+    let good = text_of(alloc, ONE_TASK)?;
+    let refused = joined(alloc, &[&front, b"end\n", &good])?;
+    let reads = reads_of(front.len(), piece);
+    assert_tells(rt, alloc, "check", &refused, piece, reads)
 }
 
 #[test]
-fn a_refusal_in_pieces(rt: HostRuntime) -> Result<(), Fail> {
-    let front = until_refused(rt.alloc())?;
-    let good = text_of(rt.alloc(), ONE_TASK)?;
-    let refused = joined(rt.alloc(), &[&front, b"end\n", &good])?;
-    let reads = reads_of(front.len(), 16);
-    assert_tells(&rt, rt.alloc(), "check", &refused, 16, reads)?;
-    let reads = reads_of(front.len(), 1);
-    assert_tells(&rt, rt.alloc(), "check", &refused, 1, reads)
+fn two_dossiers_in_pieces_of_sixteen(rt: HostRuntime) -> Result<(), Fail> {
+    assert_tells_of_two(&rt, rt.alloc(), 16)
+}
+
+#[test]
+fn two_dossiers_byte_by_byte(rt: HostRuntime) -> Result<(), Fail> {
+    assert_tells_of_two(&rt, rt.alloc(), 1)
+}
+
+#[test]
+fn a_refusal_in_pieces_of_sixteen(rt: HostRuntime) -> Result<(), Fail> {
+    assert_tells_of_refusal(&rt, rt.alloc(), 16)
+}
+
+#[test]
+fn a_refusal_byte_by_byte(rt: HostRuntime) -> Result<(), Fail> {
+    assert_tells_of_refusal(&rt, rt.alloc(), 1)
 }
 
 #[test]
