@@ -1,39 +1,10 @@
 // A small dossier line by line, with a pool, a split and closed leaves, and the ways in which lines end.
-use crate::{Checker, Reason, Said, Stop, Verdict};
+use cert_checker::{Checker, Reason, Said, Stop, Verdict};
+use crew_fixtures::dossiers::{HALF_BARE, WITH_WINDOW};
 use crew_terms::PlanVerdict;
 use std::test::Fail;
 
-/// A good dossier: two teams do one task in two windows, split between them; its two leaves are closed.
-const SPLIT: &[&[u8]] = &[
-    b"crew dossier 1",
-    b"size 2 1 2 3",
-    b"place BASE",
-    b"place G1",
-    b"travel 0 10",
-    b"travel 10 0",
-    b"team T1 0 410 460",
-    b"team T2 0 440 490",
-    b"task J 1 420 480 30 2",
-    b"pool 0 2",
-    b"route 0 0 420",
-    b"route 1 0 450",
-    b"plan 1 1",
-    b"tree 1 2 0 1",
-    b"window 0 435",
-    b"leaf closed",
-    b"price 420000000",
-    b"worth 420000000",
-    b"phi 0 420000000",
-    b"worth 0",
-    b"leaf closed",
-    b"price 420000000",
-    b"worth 0",
-    b"worth 420000000",
-    b"phi 0 420000000",
-    b"end",
-];
-
-/// What that dossier says.
+/// What the dossier with a split and closed leaves says.
 const SPLIT_SAYS: Verdict = Verdict {
     unassigned: 1,
     bound: 1,
@@ -42,31 +13,7 @@ const SPLIT_SAYS: Verdict = Verdict {
     left_open: 0,
 };
 
-/// A good dossier whose first leaf is bare and whose second one has prices.
-const HALF_BARE: &[&[u8]] = &[
-    b"crew dossier 1",
-    b"size 2 1 2 1",
-    b"place BASE",
-    b"place G1",
-    b"travel 0 10",
-    b"travel 10 0",
-    b"team T1 0 410 460",
-    b"team T2 0 440 490",
-    b"task J 1 420 480 30 2",
-    b"pool 0 0",
-    b"plan 1 0",
-    b"tree 1 0 2 1",
-    b"window 0 435",
-    b"leaf bare",
-    b"leaf open",
-    b"price 0",
-    b"worth 0",
-    b"worth 0",
-    b"phi 0 0",
-    b"end",
-];
-
-/// What that dossier says.
+/// What the dossier with a bare leaf says.
 const HALF_BARE_SAYS: Verdict = Verdict {
     unassigned: 1,
     bound: 0,
@@ -129,7 +76,7 @@ fn read_all(checker: &mut Checker, lines: &[&[u8]]) -> Result<Kept, Fail> {
 #[test]
 fn reads_a_whole_dossier(rt: HostRuntime) -> Result<(), Fail> {
     let mut checker = Checker::open(rt.alloc())?;
-    let kept = read_all(&mut checker, &SPLIT[..25]);
+    let kept = read_all(&mut checker, &WITH_WINDOW[..25]);
     drop(checker);
     assert_eq!(rt; kept?, (SPLIT_SAYS, 1, 1, None));
     Ok(())

@@ -1,6 +1,6 @@
 // Days that are read: whole ones, each record at the ends of its ranges, and the first bad record.
-use crate::{Day, DayCause, Entry, Refused, read_day};
-use crew_terms::Name;
+use crew_fixtures::name;
+use day_records::{Day, DayCause, Entry, Refused, read_day};
 use field_table::{Cause, FieldFault};
 use std::alloc::{AllocError, Global};
 use std::test::Fail;
@@ -30,9 +30,9 @@ fn reads_entries_and_values(rt: HostRuntime) -> Result<(), Fail> {
         alloc,
         b"place,BASE\r\nplace,G1\r\ntravel,BASE,G1,10\r\nteam,\"T1\",BASE,06:00,14:00,\r\nplan,1\r\n",
     )?;
-    let base = Name::read(b"BASE").ok_or("a name")?;
-    let gate = Name::read(b"G1").ok_or("a name")?;
-    let team = Name::read(b"T1").ok_or("a name")?;
+    let base = name(b"BASE")?;
+    let gate = name(b"G1")?;
+    let team = name(b"T1")?;
     let entries = [
         Entry::Place { name: base },
         Entry::Place { name: gate },
@@ -94,7 +94,8 @@ fn stops_at_a_wrong_kind_or_count(rt: HostRuntime) -> Result<(), Fail> {
         (b"place,X,Y", 0, refused(1, 3, Cause::Count)),
     ];
     for (text, count, stop) in cases {
-        assert!(rt; is_day(&read_day(alloc, text)?, count, stop));
+        let day = read_day(alloc, text)?;
+        assert!(rt; is_day(&day, count, stop), "{}", text.escape_ascii());
     }
     Ok(())
 }
@@ -127,7 +128,8 @@ fn stops_at_a_misspelled_field(rt: HostRuntime) -> Result<(), Fail> {
         (b"plan,1\nplace,\xff\xfe", 1, refused(2, 1, Cause::Spelling)),
     ];
     for (text, count, stop) in cases {
-        assert!(rt; is_day(&read_day(alloc, text)?, count, stop));
+        let day = read_day(alloc, text)?;
+        assert!(rt; is_day(&day, count, stop), "{}", text.escape_ascii());
     }
     Ok(())
 }
@@ -144,7 +146,8 @@ fn stops_at_a_field_out_of_range(rt: HostRuntime) -> Result<(), Fail> {
         (b"plan,9223372036854775807", 0, refused(1, 1, Cause::Range)),
     ];
     for (text, count, stop) in cases {
-        assert!(rt; is_day(&read_day(alloc, text)?, count, stop));
+        let day = read_day(alloc, text)?;
+        assert!(rt; is_day(&day, count, stop), "{}", text.escape_ascii());
     }
     Ok(())
 }
@@ -160,7 +163,8 @@ fn records_are_those_of_csv(rt: HostRuntime) -> Result<(), Fail> {
         (b"plan, 1", 0, refused(1, 1, Cause::Spelling)),
     ];
     for (text, count, stop) in cases {
-        assert!(rt; is_day(&read_day(alloc, text)?, count, stop));
+        let day = read_day(alloc, text)?;
+        assert!(rt; is_day(&day, count, stop), "{}", text.escape_ascii());
     }
     Ok(())
 }
@@ -339,7 +343,7 @@ fn has_all_ends(alloc: Global, key: &[u8], shapes: &[Shape]) -> Result<bool, All
 fn each_field_has_its_range(rt: HostRuntime) -> Result<(), Fail> {
     let alloc = rt.alloc();
     for (key, shapes) in KINDS {
-        assert!(rt; has_all_ends(alloc, key, shapes)?);
+        assert!(rt; has_all_ends(alloc, key, shapes)?, "{}", key.escape_ascii());
     }
     Ok(())
 }

@@ -1,13 +1,11 @@
 // For every kind of line the answers that it can have. The answers are taken from the table of lines.
-use crate::tests::{YES, check, with_line};
+use crate::answers::{YES, assert_told, check, status_of};
+use crew_fixtures::dossiers::TWO_TASKS;
+use crew_fixtures::with_line;
 use std::test::Fail;
 
-/// A good dossier: two teams, the first with two skills, and two tasks, the first of which asks for them.
-const GOOD: &[u8] =
-    b"crew dossier 1\nsize 2 2 2 1\nplace BASE\nplace G1\ntravel 0 10\ntravel 10 0\nteam T1 0 360 840 1 3\nteam T2 0 360 840\ntask A 1 420 450 30 1 1 3\ntask B 1 500 500 30 1\npool 0 0\nplan 0 0\ndo 0 420 0\ndo 1 500 1\ntree 0 0 1 0\nleaf bare\nend\n";
-
-/// The number of a line of the good dossier, another line in its place, and what is written then.
-type Case = (u64, &'static [u8], &'static [u8]);
+/// The number of a line of a good dossier, another line in its place, and what is written then.
+type Case = (usize, &'static [u8], &'static [u8]);
 
 const FORM: &[Case] = &[
     (1, b"", b"no 1 Shape\n"),
@@ -353,9 +351,9 @@ fn each_kind_of_line_has_its_answers(rt: HostRuntime) -> Result<(), Fail> {
     ];
     for table in tables {
         for (number, line, expected) in table {
-            let input = with_line(rt.alloc(), GOOD, *number, line)?;
-            let (_, written) = check(rt.alloc(), input)?;
-            assert_eq!(rt; written.as_slice(), *expected);
+            let input = with_line(rt.alloc(), TWO_TASKS, *number, line)?;
+            let told = check(rt.alloc(), input)?;
+            assert_told(&rt, &told, status_of(expected), expected);
         }
     }
     Ok(())

@@ -1,15 +1,12 @@
 // Dossiers with pools, with leaves that have prices, and with splits: good ones, and the first rule that others break.
-use crate::tests::{GOOD, LACKS_SKILL, WITH_OPEN_LEAF, WITH_POOL, check, joined, with_line};
+use crate::answers::{assert_told, check, status_of};
+use crew_cli::run::Status;
+use crew_fixtures::dossiers::{
+    LACKS_SKILL, Lines, ONE_TASK, WITH_OPEN_LEAF, WITH_PAIR, WITH_POOL, WITH_WINDOW,
+};
+use crew_fixtures::{joined, text_of, with_line};
 use std::alloc::Global;
 use std::test::Fail;
-
-/// A good dossier whose tree splits the window of its task, with two closed leaves.
-pub const WITH_WINDOW: &[u8] =
-    b"crew dossier 1\nsize 2 1 2 3\nplace BASE\nplace G1\ntravel 0 10\ntravel 10 0\nteam T1 0 410 460\nteam T2 0 440 490\ntask J 1 420 480 30 2\npool 0 2\nroute 0 0 420\nroute 1 0 450\nplan 1 1\ntree 1 2 0 1\nwindow 0 435\nleaf closed\nprice 420000000\nworth 420000000\nphi 0 420000000\nworth 0\nleaf closed\nprice 420000000\nworth 0\nworth 420000000\nphi 0 420000000\nend\n";
-
-/// A good dossier whose tree splits the pair of its team and its first task, with two closed leaves.
-const WITH_PAIR: &[u8] =
-    b"crew dossier 1\nsize 1 2 2 3\nplace BASE\nplace G1\ntravel 0 10\ntravel 10 0\nteam T1 0 360 840\ntask A 1 420 420 30 1\ntask B 1 420 420 30 1\npool 0 2\nroute 0 0 420\nroute 0 1 420\nplan 1 1\ndo 0 420 0\ntree 1 2 0 1\npair 0 0\nleaf closed\nprice 840000000 0\nworth 0\nphi 1 0\nleaf closed\nprice 0 840000000\nextra 0 840000000\nworth 840000000\nphi 0 840000000\nphi 1 840000000\nend\n";
 
 const YES_CLOSED: &[u8] = b"yes unassigned 1 bound 1 splits 0 closed 1 open 0\n";
 
@@ -18,7 +15,7 @@ const YES_OPEN: &[u8] = b"yes unassigned 1 bound 0 splits 0 closed 0 open 1\n";
 const YES_SPLIT: &[u8] = b"yes unassigned 1 bound 1 splits 1 closed 2 open 0\n";
 
 /// A dossier, the number of a line of it, another line in its place, and what is written then.
-type Case = (&'static [u8], u64, &'static [u8], &'static [u8]);
+type Case = (Lines, usize, &'static [u8], &'static [u8]);
 
 const GOOD_ONES: &[Case] = &[
     (WITH_POOL, 1, b"crew dossier 1", YES_CLOSED),
@@ -26,12 +23,6 @@ const GOOD_ONES: &[Case] = &[
     (WITH_OPEN_LEAF, 1, b"crew dossier 1", YES_OPEN),
     (WITH_WINDOW, 1, b"crew dossier 1", YES_SPLIT),
     (WITH_PAIR, 1, b"crew dossier 1", YES_SPLIT),
-    (
-        WITH_POOL,
-        18,
-        b"worth 840000001\nphi 0 840000001\nphi 1 840000000\nend\ncrew dossier 1",
-        b"yes unassigned 1 bound 1 splits 0 closed 1 open 0\nno 23 Shape\n",
-    ),
 ];
 
 const POOLS: &[Case] = &[
@@ -46,7 +37,7 @@ const POOLS: &[Case] = &[
     (WITH_POOL, 12, b"route 0 2 420", b"no 12 Number\n"),
     (WITH_POOL, 12, b"route 0 1 2881", b"no 12 Number\n"),
     (WITH_POOL, 10, b"pool 0 1", b"no 12 Shape\n"),
-    (GOOD, 9, b"pool 0 9223372036854775807", b"no 10 Shape\n"),
+    (ONE_TASK, 9, b"pool 0 9223372036854775807", b"no 10 Shape\n"),
 ];
 
 const LEAVES: &[Case] = &[
@@ -124,10 +115,19 @@ fn pools_leaves_and_trees(rt: HostRuntime) -> Result<(), Fail> {
     for table in [GOOD_ONES, POOLS, LEAVES, TREES] {
         for (text, number, line, expected) in table {
             let input = with_line(rt.alloc(), text, *number, line)?;
-            let (_, written) = check(rt.alloc(), input)?;
-            assert_eq!(rt; written.as_slice(), *expected);
+            let told = check(rt.alloc(), input)?;
+            assert_told(&rt, &told, status_of(expected), expected);
         }
     }
+    Ok(())
+}
+
+#[test]
+fn a_dossier_that_begins_behind_a_good_one(rt: HostRuntime) -> Result<(), Fail> {
+    let lines = b"worth 840000001\nphi 0 840000001\nphi 1 840000000\nend\ncrew dossier 1";
+    let told = check(rt.alloc(), with_line(rt.alloc(), WITH_POOL, 18, lines)?)?;
+    let wanted = joined(rt.alloc(), &[YES_CLOSED, b"no 23 Shape\n"])?;
+    assert_told(&rt, &told, Status::No, &wanted);
     Ok(())
 }
 
@@ -140,19 +140,23 @@ fn end_line(alloc: Global, front: &[u8]) -> Result<Vec<u8>, Fail> {
 
 #[test]
 fn each_front_of_a_dossier_is_too_short(rt: HostRuntime) -> Result<(), Fail> {
-    for n in 0..WITH_POOL.len() {
-        let front = &WITH_POOL[..n];
-        let (_, written) = check(rt.alloc(), front.to_vec(rt.alloc())?)?;
-        assert_eq!(rt; written, end_line(rt.alloc(), front)?);
+    let text = text_of(rt.alloc(), WITH_POOL)?;
+    for n in 0..text.len() {
+        let front = &text[..n];
+        let told = check(rt.alloc(), front.to_vec(rt.alloc())?)?;
+        assert_told(&rt, &told, Status::No, &end_line(rt.alloc(), front)?);
     }
     Ok(())
 }
 
 #[test]
 fn numbers_of_one_dossier_are_not_those_of_the_next(rt: HostRuntime) -> Result<(), Fail> {
-    let input = joined(rt.alloc(), &[WITH_POOL, WITH_PAIR, LACKS_SKILL, WITH_POOL])?;
-    let (_, written) = check(rt.alloc(), input)?;
+    let mut input = Vec::new(rt.alloc());
+    for dossier in [WITH_POOL, WITH_PAIR, LACKS_SKILL, WITH_POOL] {
+        input.extend_from_slice(&text_of(rt.alloc(), dossier)?)?;
+    }
+    let told = check(rt.alloc(), input)?;
     let lines = joined(rt.alloc(), &[YES_CLOSED, YES_SPLIT, YES_CLOSED, YES_CLOSED])?;
-    assert_eq!(rt; written, lines);
+    assert_told(&rt, &told, Status::Done, &lines);
     Ok(())
 }

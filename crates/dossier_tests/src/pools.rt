@@ -1,73 +1,46 @@
-ghost use Rattle.std.specs.Prelude.{◌≤◌, ◌<◌, ◌+◌};
+// The routes of a pool.
+ghost use Rattle.std.specs.Prelude.{◌≤◌, ◌<◌, ◌+◌, IfOk};
 ghost use Rattle.crew_terms.specs.Limits.{teams_in};
 ghost use Rattle.crew_terms.specs.declared.TheConstants.{LAST_MINUTE};
+ghost use Rattle.crew_fixtures.specs.Sizes.{HasSizes};
 
-use super::*;
-use crew_instance::{Builder, Instance, Name, Task, Team};
+use crew_fixtures::{FixtureFault, gate_instance, task, team, visit};
+use crew_instance::Instance;
+use crew_terms::{Task, Visit};
+use node_limits::Limits;
+use route_pool::{Pool, PoolVerdict, Route};
 use std::alloc::Global;
 use std::test::Fail;
 
-fn name(bytes: &[u8]) -> Result<Name, Fail> {
-    Ok(Name::read(bytes).ok_or("name")?)
-}
-
-// A task of one team at the gate, with a window of so many minutes.
-fn task(called: &[u8], earliest: u32, minutes: u32) -> Result<Task, Fail>
+/// A task of a minute at the gate, with a window of so many minutes.
+fn short_task(called: &[u8], earliest: u32, minutes: u32) -> Result<Task, FixtureFault>
     requires { earliest + minutes ≤ LAST_MINUTE }
 {
     Ok(Task {
-        name: name(called)?,
-        place: 1,
         earliest,
         latest: earliest + minutes,
         minutes: 1,
-        teams: 1,
-        skills: 0,
+        ..task(called)?
     })
 }
 
-fn team(called: &[u8]) -> Result<Team, Fail> {
-    Ok(Team {
-        name: name(called)?,
-        home: 0,
-        from: 360,
-        until: 840,
-        skills: 0,
-    })
+/// Two teams, and two tasks at one minute.
+fn two_teams(alloc: Global) -> Result<Instance, FixtureFault>
+    ensures { IfOk result (HasSizes 2 2 2) }
+{
+    let tasks = [short_task(b"A", 420, 0)?, short_task(b"B", 420, 0)?];
+    gate_instance(alloc, &[team(b"T1")?, team(b"T2")?], &tasks)
 }
 
-// Two teams at the base, ten minutes from the gate.
-fn gate(alloc: Global) -> Result<Builder, Fail> {
-    let mut day = Builder::new(alloc);
-    day.place(name(b"BASE")?)?;
-    day.place(name(b"G1")?)?;
-    day.default_travel(10);
-    day.team(team(b"T1")?)?;
-    day.team(team(b"T2")?)?;
-    Ok(day)
+/// Two teams, a task with 200 start minutes, and then one with 100.
+fn wide_windows(alloc: Global) -> Result<Instance, FixtureFault>
+    ensures { IfOk result (HasSizes 2 2 2) }
+{
+    let tasks = [short_task(b"A", 380, 199)?, short_task(b"B", 600, 99)?];
+    gate_instance(alloc, &[team(b"T1")?, team(b"T2")?], &tasks)
 }
 
-// Two tasks at one minute.
-fn two_at_once(alloc: Global) -> Result<Instance, Fail> {
-    let mut day = gate(alloc)?;
-    day.task(task(b"A", 420, 0)?)?;
-    day.task(task(b"B", 420, 0)?)?;
-    Ok(day.finish()?)
-}
-
-// A task with 200 start minutes, and then one with 100.
-fn wide_windows(alloc: Global) -> Result<Instance, Fail> {
-    let mut day = gate(alloc)?;
-    day.task(task(b"A", 380, 199)?)?;
-    day.task(task(b"B", 600, 99)?)?;
-    Ok(day.finish()?)
-}
-
-fn visit(task: u32, start: u32) -> Visit {
-    Visit { task, start }
-}
-
-// Puts a route of the team with these visits into the pool.
+/// Puts a route of the team with these visits into the pool.
 fn add(
     alloc: Global,
     pool: &mut Pool,
@@ -83,9 +56,8 @@ fn add(
 
 #[test]
 fn keeps_routes_in_their_order(rt: HostRuntime) -> Result<(), Fail> {
-    let day = two_at_once(rt.alloc())?;
+    let day = two_teams(rt.alloc())?;
     let root = Limits::root(rt.alloc(), &day)?;
-    assert!(rt; root.instance().teams() == 2);
     let mut pool = Pool::new(rt.alloc());
     assert!(rt; pool.is_empty());
     for task in [1, 0] {
@@ -103,9 +75,8 @@ fn keeps_routes_in_their_order(rt: HostRuntime) -> Result<(), Fail> {
 
 #[test]
 fn refuses_a_route_that_stands(rt: HostRuntime) -> Result<(), Fail> {
-    let day = two_at_once(rt.alloc())?;
+    let day = two_teams(rt.alloc())?;
     let root = Limits::root(rt.alloc(), &day)?;
-    assert!(rt; root.instance().teams() == 2);
     let mut pool = Pool::new(rt.alloc());
     let visits = [visit(0, 420)];
     let first = add(rt.alloc(), &mut pool, &root, 0, &visits)?;
@@ -120,9 +91,8 @@ fn refuses_a_route_that_stands(rt: HostRuntime) -> Result<(), Fail> {
 
 #[test]
 fn refuses_what_is_no_route(rt: HostRuntime) -> Result<(), Fail> {
-    let day = two_at_once(rt.alloc())?;
+    let day = two_teams(rt.alloc())?;
     let root = Limits::root(rt.alloc(), &day)?;
-    assert!(rt; root.instance().teams() == 2);
     let mut pool = Pool::new(rt.alloc());
     let both = [visit(1, 420), visit(0, 420)];
     let late = [visit(0, 421)];
@@ -139,7 +109,6 @@ fn refuses_what_is_no_route(rt: HostRuntime) -> Result<(), Fail> {
 fn takes_twenty_thousand_routes(rt: HostRuntime) -> Result<(), Fail> {
     let day = wide_windows(rt.alloc())?;
     let root = Limits::root(rt.alloc(), &day)?;
-    assert!(rt; root.instance().teams() == 2);
     let mut pool = Pool::new(rt.alloc());
     for first in 380..580 {
         for then in 600..700 {

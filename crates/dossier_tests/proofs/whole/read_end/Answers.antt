@@ -1,5 +1,5 @@
 use Rattle.cert_checker.proofs.Judged.{ended_is_open}
-use Rattle.cert_checker.proofs.tests.read_end.Goals as goal
+use Rattle.dossier_tests.proofs.whole.read_end.Goals as goal
 
 pub instance-requires : goal.instance-requires
 instance-requires c = c.is_between.ensures.ended.0 c.if-not-is_between.false

@@ -1,13 +1,16 @@
 // What the program answers, and what it has written, where a read, a write or the flush fails.
 ghost use Rattle.std.specs.Prelude.{◌≤◌};
 
-use crate::apply_tests::DAY;
-use crate::run::{Status, run};
-use crate::steady::{run_in_memory, run_steady};
-use crate::tests::{GOOD, WITH_POOL, YES, joined};
+use crate::answers::YES;
+use crate::days::{DAY, crlf_text};
+use crew_cli::run::{Status, run};
+use crew_cli::steady::{run_in_memory, run_steady};
+use crew_fixtures::dossiers::{ONE_TASK, WITH_POOL};
+use crew_fixtures::{joined, text_of};
 use crew_io::sink::{MemSink, SteadySink};
 use crew_io::source::{MemSource, SteadySource};
 use std::alloc::{AllocError, Global};
+use std::process::Abort;
 use std::test::Fail;
 
 /// More bytes than any output here has.
@@ -98,94 +101,133 @@ fn reads_of(bytes: usize, piece: usize) -> u64
     bytes.div_ceil(piece) as u64
 }
 
-/// A dossier up to the line that is refused, which is the last one here: a potential that is too low.
-const UNTIL_LOW: &[u8] =
-    b"crew dossier 1\nsize 1 2 2 1\nplace BASE\nplace G1\ntravel 0 10\ntravel 10 0\nteam T1 0 360 840\ntask A 1 420 420 30 1\ntask B 1 420 420 30 1\npool 0 2\nroute 0 0 420\nroute 0 1 420\nplan 1 1\ndo 0 420 0\ntree 0 1 0 0\nleaf closed\nprice 840000000 840000000\nworth 840000000\nphi 0 840000000\nphi 1 839999999\n";
+/// Two good dossiers.
+fn two_dossiers(alloc: Global) -> Result<Vec<u8>, AllocError> {
+    let good = text_of(alloc, ONE_TASK)?;
+    joined(alloc, &[&good, &good])
+}
 
-/// How many bytes the first dossier and the lines of the second up to the refused one have.
-fn until_the_refusal() -> usize {
-    GOOD.len().saturating_add(UNTIL_LOW.len())
+/// A good dossier, and one up to the line that is refused, which is the last one here: a potential that is too low.
+fn until_refused(alloc: Global) -> Result<Vec<u8>, AllocError> {
+    let good = text_of(alloc, ONE_TASK)?;
+    let front = text_of(alloc, &WITH_POOL[..19])?;
+    joined(alloc, &[&good, &front, b"phi 1 839999999\n"])
+}
+
+/// Asserts that each read, each write and the flush is told where it fails, of which so many reads are made, and that
+/// small rooms are filled.
+fn assert_tells(
+    rt: &impl Abort,
+    alloc: Global,
+    word: &str,
+    input: &[u8],
+    piece: usize,
+    reads: u64,
+) -> Result<(), Fail>
+    requires { 1 ≤ piece }
+{
+    assert_eq!(rt;
+        told_reads(alloc, word, input, piece)?,
+        Some(reads),
+        "pieces of {piece}"
+    );
+    assert!(rt;
+        tells_writes(alloc, word, input, piece)?,
+        "pieces of {piece}"
+    );
+    assert!(rt;
+        tells_small_rooms(alloc, word, input, piece)?,
+        "pieces of {piece}"
+    );
+    Ok(())
+}
+
+/// One read more than hand out so many bytes in pieces.
+fn reads_to_the_end(bytes: usize, piece: usize) -> u64
+    requires { 1 ≤ piece }
+{
+    reads_of(bytes, piece).saturating_add(1)
+}
+
+/// Asserts it of two good dossiers.
+fn assert_tells_of_two(rt: &impl Abort, alloc: Global, piece: usize) -> Result<(), Fail>
+    requires { 1 ≤ piece }
+{
+    let twice = two_dossiers(alloc)?;
+    let reads = reads_to_the_end(twice.len(), piece);
+    assert_tells(rt, alloc, "check", &twice, piece, reads)
+}
+
+/// Asserts it of a dossier that is refused between two good ones. No read comes after the refusal.
+fn assert_tells_of_refusal(rt: &impl Abort, alloc: Global, piece: usize) -> Result<(), Fail>
+    requires { 1 ≤ piece }
+{
+    let front = until_refused(alloc)?;
+    let good = text_of(alloc, ONE_TASK)?;
+    let refused = joined(alloc, &[&front, b"end\n", &good])?;
+    let reads = reads_of(front.len(), piece);
+    assert_tells(rt, alloc, "check", &refused, piece, reads)
 }
 
 #[test]
 fn two_dossiers_in_pieces_of_sixteen(rt: HostRuntime) -> Result<(), Fail> {
-    let twice = joined(rt.alloc(), &[GOOD, GOOD])?;
-    let reads = reads_of(twice.len(), 16).saturating_add(1);
-    assert_eq!(rt; told_reads(rt.alloc(), "check", &twice, 16)?, Some(reads));
-    assert!(rt; tells_writes(rt.alloc(), "check", &twice, 16)?);
-    assert!(rt; tells_small_rooms(rt.alloc(), "check", &twice, 16)?);
-    Ok(())
+    assert_tells_of_two(&rt, rt.alloc(), 16)
 }
 
 #[test]
 fn two_dossiers_byte_by_byte(rt: HostRuntime) -> Result<(), Fail> {
-    let twice = joined(rt.alloc(), &[GOOD, GOOD])?;
-    let reads = reads_of(twice.len(), 1).saturating_add(1);
-    assert_eq!(rt; told_reads(rt.alloc(), "check", &twice, 1)?, Some(reads));
-    assert!(rt; tells_writes(rt.alloc(), "check", &twice, 1)?);
-    assert!(rt; tells_small_rooms(rt.alloc(), "check", &twice, 1)?);
-    Ok(())
+    assert_tells_of_two(&rt, rt.alloc(), 1)
 }
 
 #[test]
 fn a_refusal_in_pieces_of_sixteen(rt: HostRuntime) -> Result<(), Fail> {
-    let refused = joined(rt.alloc(), &[GOOD, UNTIL_LOW, b"end\n", GOOD])?;
-    let reads = reads_of(until_the_refusal(), 16);
-    assert_eq!(rt; told_reads(rt.alloc(), "check", &refused, 16)?, Some(reads));
-    assert!(rt; tells_writes(rt.alloc(), "check", &refused, 16)?);
-    assert!(rt; tells_small_rooms(rt.alloc(), "check", &refused, 16)?);
-    Ok(())
+    assert_tells_of_refusal(&rt, rt.alloc(), 16)
 }
 
 #[test]
 fn a_refusal_byte_by_byte(rt: HostRuntime) -> Result<(), Fail> {
-    let refused = joined(rt.alloc(), &[GOOD, UNTIL_LOW, b"end\n", GOOD])?;
-    let reads = reads_of(until_the_refusal(), 1);
-    assert_eq!(rt; told_reads(rt.alloc(), "check", &refused, 1)?, Some(reads));
-    assert!(rt; tells_writes(rt.alloc(), "check", &refused, 1)?);
-    assert!(rt; tells_small_rooms(rt.alloc(), "check", &refused, 1)?);
-    Ok(())
+    assert_tells_of_refusal(&rt, rt.alloc(), 1)
 }
 
 #[test]
 fn a_day_in_pieces(rt: HostRuntime) -> Result<(), Fail> {
-    for piece in [16, 1] {
-        let piece = piece.max(1);
-        let reads = reads_of(DAY.len(), piece).saturating_add(1);
-        assert_eq!(rt; told_reads(rt.alloc(), "apply", DAY, piece)?, Some(reads));
-        assert!(rt; tells_writes(rt.alloc(), "apply", DAY, piece)?);
-        assert!(rt; tells_small_rooms(rt.alloc(), "apply", DAY, piece)?);
-    }
-    Ok(())
+    let day = crlf_text(rt.alloc(), DAY)?;
+    let reads = reads_to_the_end(day.len(), 16);
+    assert_tells(&rt, rt.alloc(), "apply", &day, 16, reads)?;
+    let reads = reads_to_the_end(day.len(), 1);
+    assert_tells(&rt, rt.alloc(), "apply", &day, 1, reads)
+}
+
+/// The words of `crew check`.
+fn check_words(alloc: Global) -> Result<Vec<String>, AllocError> {
+    let mut words = Vec::new(alloc);
+    words.push(String::from_str(alloc, "check")?)?;
+    Ok(words)
 }
 
 #[test]
 fn what_does_not_fail_is_no_fault(rt: HostRuntime) -> Result<(), Fail> {
     let alloc = rt.alloc();
-    let mut words = Vec::new(alloc);
-    words.push(String::from_str(alloc, "check")?)?;
-    let mut src = SteadySource::new(GOOD.to_vec(alloc)?, 10);
-    assert_eq!(rt;
-        run_steady(alloc, &words, &mut src, &mut SteadySink::new()),
-        Status::Done
-    );
-    let mut src = MemSource::new(GOOD.to_vec(alloc)?, 10, Vec::new(alloc));
+    let words = check_words(alloc)?;
+    let mut src = SteadySource::new(text_of(alloc, ONE_TASK)?, 10);
+    let steady = run_steady(alloc, &words, &mut src, &mut SteadySink::new());
+    assert_eq!(rt; steady, Status::Done);
+    let mut src = MemSource::new(text_of(alloc, ONE_TASK)?, 10, Vec::new(alloc));
     let mut out = MemSink::new(alloc, YES.len(), 7, Vec::new(alloc))?;
-    assert_eq!(rt;
-        run_in_memory(alloc, &words, &mut src, &mut out),
-        Status::Done
-    );
+    let told = run_in_memory(alloc, &words, &mut src, &mut out);
+    assert_eq!(rt; told, Status::Done);
     assert_eq!(rt; out.got(), YES);
     Ok(())
 }
 
 #[test]
 fn the_first_calls_fail(rt: HostRuntime) -> Result<(), Fail> {
-    for text in [GOOD, WITH_POOL] {
-        let (read, nothing) = answer_over(rt.alloc(), "check", text, 10, &[3], ROOM, &[])?;
+    for dossier in [ONE_TASK, WITH_POOL] {
+        let text = text_of(rt.alloc(), dossier)?;
+        let (read, nothing) = answer_over(rt.alloc(), "check", &text, 10, &[3], ROOM, &[])?;
         assert_eq!(rt; read, Status::ReadFault);
         assert!(rt; nothing.is_empty());
-        let (write, none) = answer_over(rt.alloc(), "check", text, 10, &[], ROOM, &[1])?;
+        let (write, none) = answer_over(rt.alloc(), "check", &text, 10, &[], ROOM, &[1])?;
         assert_eq!(rt; write, Status::WriteFault);
         assert!(rt; none.is_empty());
     }

@@ -1,75 +1,27 @@
 // Leaves of small days, read at the root.
 ghost use Rattle.leaf_check.specs.Reader.{IsReady};
 
-use crate::{Goal, LeafReader, LeafStep};
-use crew_instance::{Builder, Instance, Name, Task, Team};
+use crew_fixtures::{FixtureFault, gate_instance, hardly_overlapping, task, two_at_once};
+use crew_instance::Instance;
+use crew_terms::Task;
 use dossier_terms::Reason;
 use field_table::Cuts;
+use leaf_check::{Goal, LeafReader, LeafStep};
 use node_limits::Limits;
 use std::alloc::Global;
 use std::test::Fail;
 
-fn name(bytes: &[u8]) -> Result<Name, Fail> {
-    Ok(Name::read(bytes).ok_or("name")?)
+/// A task, and no team.
+fn no_teams(alloc: Global) -> Result<Instance, FixtureFault> {
+    let task = Task {
+        latest: 480,
+        teams: 2,
+        ..task(b"J")?
+    };
+    gate_instance(alloc, &[], &[task])
 }
 
-fn team(called: &[u8], from: u32, until: u32) -> Result<Team, Fail> {
-    Ok(Team {
-        name: name(called)?,
-        home: 0,
-        from,
-        until,
-        skills: 0,
-    })
-}
-
-fn task(called: &[u8], earliest: u32, latest: u32, teams: u32) -> Result<Task, Fail> {
-    Ok(Task {
-        name: name(called)?,
-        place: 1,
-        earliest,
-        latest,
-        minutes: 30,
-        teams,
-        skills: 0,
-    })
-}
-
-// A base, and a gate ten minutes from it.
-fn places(alloc: Global) -> Result<Builder, Fail> {
-    let mut day = Builder::new(alloc);
-    day.place(name(b"BASE")?)?;
-    day.place(name(b"G1")?)?;
-    day.default_travel(10);
-    Ok(day)
-}
-
-// One team, and two tasks that begin together.
-fn two_tasks(alloc: Global) -> Result<Instance, Fail> {
-    let mut day = places(alloc)?;
-    day.team(team(b"T1", 360, 840)?)?;
-    day.task(task(b"A", 420, 420, 1)?)?;
-    day.task(task(b"B", 420, 420, 1)?)?;
-    Ok(day.finish()?)
-}
-
-// A task of two teams, which the first may begin at 420 alone, and the second at 450 alone.
-fn two_teams(alloc: Global, latest: u32) -> Result<Instance, Fail> {
-    let mut day = places(alloc)?;
-    day.team(team(b"T1", 410, 460)?)?;
-    day.team(team(b"T2", 440, 490)?)?;
-    day.task(task(b"J", 420, latest, 2)?)?;
-    Ok(day.finish()?)
-}
-
-// A task, and no team.
-fn no_teams(alloc: Global) -> Result<Instance, Fail> {
-    let mut day = places(alloc)?;
-    day.task(task(b"J", 420, 480, 2)?)?;
-    Ok(day.finish()?)
-}
-
-// Reads a leaf: how many of its lines are judged, and what is said of the last one.
+/// Reads a leaf: how many of its lines are judged, and what is said of the last one.
 fn read_leaf(
     reader: &mut LeafReader,
     limits: &Limits<'_>,
@@ -93,7 +45,7 @@ fn read_leaf(
     (lines.len(), LeafStep::More)
 }
 
-// Reads a leaf of the root of a day.
+/// Reads a leaf of the root of a day.
 fn read_root(
     alloc: Global,
     day: &Instance,
@@ -127,7 +79,7 @@ const LEAF: [&[u8]; 4] = [
 
 #[test]
 fn reads_a_closed_leaf(rt: HostRuntime) -> Result<(), Fail> {
-    let day = two_tasks(rt.alloc())?;
+    let day = two_at_once(rt.alloc())?;
     assert_eq!(rt;
         read_root(rt.alloc(), &day, CLOSED, &LEAF)?,
         (4, LeafStep::Done)
@@ -141,7 +93,7 @@ fn reads_a_closed_leaf(rt: HostRuntime) -> Result<(), Fail> {
 
 #[test]
 fn tests_potentials_at_the_last_line(rt: HostRuntime) -> Result<(), Fail> {
-    let day = two_tasks(rt.alloc())?;
+    let day = two_at_once(rt.alloc())?;
     let mut lines = LEAF;
     lines[3] = b"phi 1 839999999";
     let low = LeafStep::No(Reason::Potential(0, 1));
@@ -154,7 +106,7 @@ fn tests_potentials_at_the_last_line(rt: HostRuntime) -> Result<(), Fail> {
 
 #[test]
 fn tests_the_worth_after_the_potentials(rt: HostRuntime) -> Result<(), Fail> {
-    let day = two_tasks(rt.alloc())?;
+    let day = two_at_once(rt.alloc())?;
     let mut lines = LEAF;
     lines[2] = b"phi 0 840000001";
     let low = LeafStep::No(Reason::Worth(0));
@@ -169,7 +121,7 @@ fn tests_the_worth_after_the_potentials(rt: HostRuntime) -> Result<(), Fail> {
 
 #[test]
 fn tests_the_bound_at_the_end(rt: HostRuntime) -> Result<(), Fail> {
-    let day = two_tasks(rt.alloc())?;
+    let day = two_at_once(rt.alloc())?;
     let two = Goal { bound: 2, ..CLOSED };
     let no = LeafStep::No(Reason::Bound);
     assert_eq!(rt; read_root(rt.alloc(), &day, two, &LEAF)?, (4, no));
@@ -192,7 +144,7 @@ fn tests_the_bound_at_the_end(rt: HostRuntime) -> Result<(), Fail> {
 
 #[test]
 fn tells_faults_of_lines(rt: HostRuntime) -> Result<(), Fail> {
-    let day = two_tasks(rt.alloc())?;
+    let day = two_at_once(rt.alloc())?;
     let cases: [(usize, &[u8], Reason); 10] = [
         (0, b"price 840000000", Reason::Shape),
         (0, b"price 840000000 840000000 0", Reason::Shape),
@@ -209,9 +161,12 @@ fn tells_faults_of_lines(rt: HostRuntime) -> Result<(), Fail> {
         let mut lines = LEAF;
         assert!(rt; n < 4);
         lines[n] = line;
+        let told = read_root(rt.alloc(), &day, CLOSED, &lines)?;
         assert_eq!(rt;
-            read_root(rt.alloc(), &day, CLOSED, &lines)?,
-            (n + 1, LeafStep::No(reason))
+            told,
+            (n + 1, LeafStep::No(reason)),
+            "{}",
+            line.escape_ascii()
         );
     }
     Ok(())
@@ -219,7 +174,7 @@ fn tells_faults_of_lines(rt: HostRuntime) -> Result<(), Fail> {
 
 #[test]
 fn reads_an_open_leaf_of_two_teams(rt: HostRuntime) -> Result<(), Fail> {
-    let day = two_teams(rt.alloc(), 480)?;
+    let day = hardly_overlapping(rt.alloc(), 480)?;
     let lines: [&[u8]; 5] = [b"price 0", b"worth 0", b"phi 0 0", b"worth 0", b"phi 0 0"];
     assert_eq!(rt;
         read_root(rt.alloc(), &day, OPEN, &lines)?,
@@ -230,7 +185,7 @@ fn reads_an_open_leaf_of_two_teams(rt: HostRuntime) -> Result<(), Fail> {
 
 #[test]
 fn reads_a_team_with_no_open_task(rt: HostRuntime) -> Result<(), Fail> {
-    let day = two_teams(rt.alloc(), 435)?;
+    let day = hardly_overlapping(rt.alloc(), 435)?;
     let lines: [&[u8]; 4] = [
         b"price 420000000",
         b"worth 420000000",
@@ -261,7 +216,7 @@ fn ends_a_leaf_of_no_teams_with_its_prices(rt: HostRuntime) -> Result<(), Fail> 
 
 #[test]
 fn reads_leaves_one_after_another(rt: HostRuntime) -> Result<(), Fail> {
-    let day = two_tasks(rt.alloc())?;
+    let day = two_at_once(rt.alloc())?;
     let limits = Limits::root(rt.alloc(), &day)?;
     let mut reader = LeafReader::open(rt.alloc(), &limits)?;
     let mut cuts = Cuts::new(rt.alloc())?;
