@@ -5,8 +5,8 @@ use Rattle.dossier_terms.specs.Lines.{instance_text}
 use Rattle.day_terms.specs.declared.Entry.{Entry}
 use Rattle.day_terms.specs.declared.Refused.{Refused}
 use Rattle.day_terms.specs.Days.{IsDayOf}
-use Rattle.day_terms.specs.State.{State, start, after_entry, state_after}
-use Rattle.day_terms.specs.Refusal.{Refusal, refusal_of}
+use Rattle.day_terms.specs.State.{start, state_after}
+use Rattle.day_terms.specs.Refusal.{Refusal, AreTaken, refusal_of}
 use Rattle.day_terms.specs.Rounds.{Round, rounds_of}
 use Rattle.flight_changes.specs.Faults.{fault_of}
 use Rattle.crew_cli.specs.Refused.{refused_line}
@@ -16,11 +16,6 @@ use Rattle.crew_cli.specs.declared.refused.DayFault.TheVariants.{TooLong, InItse
 -- the most bytes that a day's text may have
 abbrev pub DAY : ℕ
 DAY = 8388608
-
--- each of these entries is taken by the state that those before it come to
-abbrev pub AreTaken : State → List Entry → Type 0
-AreTaken s [] = Unit {0}
-AreTaken s (entry ∷ entries) = (refusal_of s entry ≡ None) × AreTaken (after_entry s entry) entries
 
 -- the record of a day that is refused: its number, from 1, and why
 pub record DayStop : Type 0 where
