@@ -10,7 +10,7 @@ use Rattle.std.proofs.lemmas.List.Sums.{fold-append}
 use Rattle.crew_terms.specs.declared.TheConstants.{MOST_TASKS, MOST_TEAMS}
 use Rattle.day_terms.specs.declared.Entry.{Entry}
 use Rattle.day_terms.specs.declared.Entry.TheVariants.{Plan}
-use Rattle.day_terms.specs.State.{State, start, after_entry, state_after, has_place, has_team, has_task}
+use Rattle.day_terms.specs.State.{DayState, start, after_entry, state_after, has_place, has_team, has_task}
 use Rattle.day_terms.specs.Refusal.{Refusal, MissingTravel, AreTaken, first_of, refusal_of, is_bad_count}
 use Rattle.day_terms.specs.Rounds.{first_missing}
 use Rattle.rand_pcg.specs.Lcg.{Lcg}
@@ -20,15 +20,15 @@ use Rattle.day_gen.proofs.Names.{numbered_differ}
 use Rattle.day_gen.proofs.Ranges.{draw_below}
 
 -- the state that entries come to, from a state on
-abbrev pub after_all : State → List Entry → State
+abbrev pub after_all : DayState → List Entry → DayState
 after_all s entries = fold after_entry s entries
 
-taken-append : (s : State) (front back : List Entry) → AreTaken s front → AreTaken (after_all s front) back → AreTaken s (front ++ back)
+taken-append : (s : DayState) (front back : List Entry) → AreTaken s front → AreTaken (after_all s front) back → AreTaken s (front ++ back)
 taken-append s [] back front_taken back_taken = back_taken
 taken-append s (x ∷ xs) back front_taken back_taken = (front_taken.0, taken-append (after_entry s x) xs back front_taken.1 back_taken)
 
 -- six places and their times stand, so many teams and tasks, and no name of a later one is there
-record IsReady (s : State) (k j : ℕ) : Type 0 where
+record IsReady (s : DayState) (k j : ℕ) : Type 0 where
   places : (n : ℕ) → n < 6 → has_place s (place_name n) ≡ true
   team_count : length s.teams ≡ k
   team_names : (i : ℕ) → k ≤ i → i < 2 ^ 64 → has_team s (team_name i) ≡ false
@@ -82,7 +82,7 @@ five_hold a b c d e v w x y z f g h i j = rw (f, g, h, i, j) refl
 either_false : (a b : Bool) → a ≡ false → b ≡ false → (a || b) ≡ false
 either_false a b e f = rw (e, f) refl
 
-team_accepted : (g : Lcg) (s : State) (k j : ℕ) → IsReady s k j → k < MOST_TEAMS → refusal_of s (team_entry g k) ≡ None
+team_accepted : (g : Lcg) (s : DayState) (k j : ℕ) → IsReady s k j → k < MOST_TEAMS → refusal_of s (team_entry g k) ≡ None
 team_accepted g s k j ready few =
     let from : ℕ = 360 + 60 * draw g 4 in
     let count = ready.team_count in
@@ -92,7 +92,7 @@ team_accepted g s k j ready few =
     (ap not (ready.places 0 (omega arith)))
     (lt-leb (from + 480) from (omega arith))
 
-team_kept : (g : Lcg) (s : State) (k j : ℕ) → IsReady s k j → k < MOST_TEAMS → IsReady (after_entry s (team_entry g k)) (k + 1) j
+team_kept : (g : Lcg) (s : DayState) (k j : ℕ) → IsReady s k j → k < MOST_TEAMS → IsReady (after_entry s (team_entry g k)) (k + 1) j
 team_kept g s k j ready few = record {
   places = ready.places;
   team_count = length-append s.teams (_ ∷ []) ∙ ap (λ n. n + 1) ready.team_count;
@@ -105,7 +105,7 @@ team_kept g s k j ready few = record {
   whole = ready.whole;
 }
 
-teams_taken : (g : Lcg) (s : State) (k j n : ℕ) → IsReady s k j → k + n ≤ MOST_TEAMS
+teams_taken : (g : Lcg) (s : DayState) (k j n : ℕ) → IsReady s k j → k + n ≤ MOST_TEAMS
     → AreTaken s (team_entries g k n) × IsReady (after_all s (team_entries g k n)) (k + n) j
 teams_taken g s k j zero ready few = (tt, subst (λ m. IsReady s m j) (omega arith) ready)
 teams_taken g s k j (suc n) ready few =
@@ -117,7 +117,7 @@ one_or_two : (b : Bool) → is_bad_count (if b then 2 else 1) ≡ false
 one_or_two true = refl
 one_or_two false = refl
 
-task_accepted : (g : Lcg) (s : State) (k j : ℕ) → IsReady s k j → j < MOST_TASKS → refusal_of s (task_entry g j) ≡ None
+task_accepted : (g : Lcg) (s : DayState) (k j : ℕ) → IsReady s k j → j < MOST_TASKS → refusal_of s (task_entry g j) ≡ None
 task_accepted g s k j ready few =
     let earliest : ℕ = 360 + draw (after 1 g) 541 in
     let wide : draw (after 2 g) 61 < 61 = draw_below (after 2 g) 61 (omega arith) in
@@ -129,7 +129,7 @@ task_accepted g s k j ready few =
     (either_false _ _ (le-ltb (earliest + draw (after 2 g) 61) earliest (omega arith)) (le-ltb 720 (earliest + draw (after 2 g) 61 - earliest) (omega arith)))
     (one_or_two (draw (after 4 g) 4 == 0))
 
-task_kept : (g : Lcg) (s : State) (k j : ℕ) → IsReady s k j → j < MOST_TASKS → IsReady (after_entry s (task_entry g j)) k (j + 1)
+task_kept : (g : Lcg) (s : DayState) (k j : ℕ) → IsReady s k j → j < MOST_TASKS → IsReady (after_entry s (task_entry g j)) k (j + 1)
 task_kept g s k j ready few = record {
   places = ready.places;
   team_count = ready.team_count;
@@ -142,7 +142,7 @@ task_kept g s k j ready few = record {
   whole = ready.whole;
 }
 
-tasks_taken : (g : Lcg) (s : State) (k j n : ℕ) → IsReady s k j → j + n ≤ MOST_TASKS
+tasks_taken : (g : Lcg) (s : DayState) (k j n : ℕ) → IsReady s k j → j + n ≤ MOST_TASKS
     → AreTaken s (task_entries g j n) × IsReady (after_all s (task_entries g j n)) k (j + n)
 tasks_taken g s k j zero ready few = (tt, subst (λ m. IsReady s k m) (omega arith) ready)
 tasks_taken g s k j (suc n) ready few =
@@ -152,7 +152,7 @@ tasks_taken g s k j (suc n) ready few =
     ((task_accepted g s k j ready below, later.0), subst (λ m. IsReady (after_all s (task_entries g j (suc n))) k m) (omega arith) later.1)
 
 -- entries that are taken one after another, and a plan behind them
-taken_on : (s : State) (front back : List Entry) → AreTaken s front → AreTaken (after_all s front) back → first_missing (after_all (after_all s front) back) ≡ None
+taken_on : (s : DayState) (front back : List Entry) → AreTaken s front → AreTaken (after_all s front) back → first_missing (after_all (after_all s front) back) ≡ None
     → AreTaken s (front ++ back) × (first_missing (after_all s (front ++ back)) ≡ None)
 taken_on s front back front_taken back_taken whole =
     (taken-append s front back front_taken back_taken, subst (λ r. first_missing r ≡ None) (sym (fold-append after_entry s front back)) whole)
