@@ -9,20 +9,14 @@ use crew_instance::{Builder, Instance};
 use crew_terms::{Task, Team};
 use std::alloc::Global;
 
-/// A builder with these places, each so many minutes from each other.
-pub fn builder_of_places(
-    alloc: Global,
-    places: &[&[u8]],
-    minutes: u32,
-) -> Result<Builder, FixtureFault>
-    requires { minutes ≤ LAST_MINUTE }
+/// A builder with these places, and no travel times.
+pub fn builder_of_places(alloc: Global, places: &[&[u8]]) -> Result<Builder, FixtureFault>
     ensures { IfOk result (HasParts (length places.now) [] []) }
 {
     let mut day = Builder::new(alloc);
     for place in places {
         day.place(name(place)?)?;
     }
-    day.default_travel(minutes);
     Ok(day)
 }
 
@@ -61,7 +55,8 @@ pub fn builder_of(
     requires { minutes ≤ LAST_MINUTE }
     ensures { IfOk result (HasParts (length places.now) teams.now tasks.now) }
 {
-    let mut day = builder_of_places(alloc, places, minutes)?;
+    let mut day = builder_of_places(alloc, places)?;
+    day.default_travel(minutes);
     add_teams(&mut day, teams)?;
     add_tasks(&mut day, tasks)?;
     Ok(day)
