@@ -3,7 +3,7 @@ use Rattle.std.proofs.Common.{◌≡◌, ℕ, true, Option, None, Some, MatchOpt
 use Rattle.std.specs.Prelude.{is_some}
 use Rattle.crew_terms.specs.Limits.{Limits}
 use Rattle.node_limits.specs.Minutes.{AreMinutes, HasNoMinute}
-use Rattle.search_terms.specs.Choice.{MayBegin}
+use Rattle.crew_terms.specs.Decided.{MayBegin}
 
 module _ (n : Limits) (k j : ℕ) where
   -- some minute is told exactly where there is one

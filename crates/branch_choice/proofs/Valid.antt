@@ -3,7 +3,8 @@ use Rattle.std.proofs.Common.{◌≤◌, ◌<◌, ◌+◌, ◌/◌, ℕ, List, A
 use Rattle.crew_terms.specs.Limits.{Limits, IsPermittedVisit, tasks_in, window_of}
 use Rattle.crew_terms.specs.declared.Choice.{Choice}
 use Rattle.crew_terms.specs.declared.Choice.TheVariants.{Window, Pair}
-use Rattle.search_terms.specs.Choice.{IsDecided, IsValidChoice, MayBegin}
+use Rattle.crew_terms.specs.Decided.{IsDecided, MayBegin}
+use Rattle.search_terms.specs.Choice.{IsValidChoice}
 use Rattle.branch_choice.specs.Rules.{IsLowestPair, IsOpenPair, IsUsedPair, IsUsesCut, IsWindowCut, NoneIsOpen, AreOneMinute}
 use Rattle.branch_choice.specs.Uses.{BeginsAt, HasUse, IsPermittedUse}
 use Rattle.branch_choice.specs.declared.uses.Use.{Use}

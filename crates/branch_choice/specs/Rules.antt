@@ -4,7 +4,7 @@ use Rattle.crew_terms.specs.Limits.{Limits, tasks_in, window_of}
 use Rattle.crew_terms.specs.Tree.{IsFreePair}
 use Rattle.crew_terms.specs.declared.Choice.{Choice}
 use Rattle.crew_terms.specs.declared.Choice.TheVariants.{Window, Pair}
-use Rattle.search_terms.specs.Choice.{MayBegin}
+use Rattle.crew_terms.specs.Decided.{MayBegin}
 use Rattle.branch_choice.specs.Uses.{AreEnds, HasTwoStarts, HasUse}
 use Rattle.branch_choice.specs.declared.uses.Use.{Use}
 

@@ -1,6 +1,7 @@
 // The rules by which a node is split, in their order.
 ghost use Rattle.std.specs.Prelude.{◌↔◌, All, IfSome, IsNone, MatchOption};
-ghost use Rattle.search_terms.specs.Choice.{IsDecided, IsValidChoice};
+ghost use Rattle.crew_terms.specs.Decided.{IsDecided};
+ghost use Rattle.search_terms.specs.Choice.{IsValidChoice};
 ghost use Rattle.branch_choice.specs.Rules.{IsFirstChoice};
 ghost use Rattle.branch_choice.specs.Uses.{IsPermittedUse};
 

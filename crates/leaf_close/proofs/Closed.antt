@@ -3,7 +3,7 @@ use Rattle.std.proofs.Common.{◌<◌, ℕ, arith}
 use Rattle.crew_terms.specs.Leaf.{AreInRange, Prices}
 use Rattle.crew_terms.specs.Limits.{Limits, IsLimits, teams_in}
 use Rattle.crew_terms.specs.Rules.{IsInstance}
-use Rattle.search_terms.specs.Choice.{IsDecided}
+use Rattle.crew_terms.specs.Decided.{IsDecided}
 use Rattle.search_terms.specs.Closing.{CrowdedPrices, HasNoPlan, IsCrowded, IsShort, IsStuck, ShortPrices, StuckPrices}
 use Rattle.leaf_close.specs.Cases.{AreClosingPrices, CrowdedTask, HasFault, HasNoFault, OfCrowded, OfShort, OfStuck, ShortTask, StuckTeam}
 use Rattle.leaf_close.specs.Faults.{AreFaultPrices, IsFirstFault}

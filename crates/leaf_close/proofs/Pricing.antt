@@ -7,7 +7,8 @@ use Rattle.crew_terms.specs.Leaf.{Prices, pi_of, rho_of}
 use Rattle.crew_terms.specs.Limits.{Limits, IsLimits, is_required, pair_of, tasks_in, teams_in}
 use Rattle.crew_terms.specs.declared.Pair.{Pair}
 use Rattle.crew_terms.specs.declared.Pair.TheVariants.{Free, Forbidden, Required}
-use Rattle.potentials.specs.Prices.{ArePrices, ArePricesOf, with_rho, zero_prices}
+use Rattle.crew_terms.specs.Leaf.{zero_prices}
+use Rattle.potentials.specs.Prices.{ArePrices, ArePricesOf, with_rho}
 use Rattle.search_terms.specs.Closing.{ArePricedBy, StuckPrices, all_cost}
 use Rattle.leaf_close.proofs.Doing.{known_task, known_team}
 

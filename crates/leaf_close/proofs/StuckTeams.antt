@@ -13,7 +13,7 @@ use Rattle.crew_terms.specs.Verdict.{IsBefore}
 use Rattle.crew_terms.specs.declared.Pair.TheVariants.{Required}
 use Rattle.crew_instance.specs.Turns.{AreTurns}
 use Rattle.crew_instance.specs.declared.turns.Turn.{Turn}
-use Rattle.search_terms.specs.Choice.{IsDecided, MayBegin}
+use Rattle.crew_terms.specs.Decided.{IsDecided, MayBegin}
 use Rattle.search_terms.specs.Closing.{IsStuck, NoMinute, NoTime, minute_of, required_job, required_plan}
 use Rattle.leaf_close.specs.Turns.{CanFollowAll, CanNotFollow, MayBeginAll, MayNotBegin, turn_at}
 use Rattle.leaf_close.proofs.Doing.{RequiredAreListed, does, done, known_task}

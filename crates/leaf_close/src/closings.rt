@@ -2,7 +2,7 @@
 ghost use Rattle.std.specs.Prelude.{◌≤◌, IfOk};
 ghost use Rattle.std.specs.Option.{SomeIff};
 ghost use Rattle.crew_terms.specs.Limits.{tasks_in};
-ghost use Rattle.search_terms.specs.Choice.{IsDecided};
+ghost use Rattle.crew_terms.specs.Decided.{IsDecided};
 ghost use Rattle.search_terms.specs.Closing.{HasNoPlan, HasOnePlan, required_plan as plan_required};
 ghost use Rattle.search_terms.specs.Inside.{IsNode};
 ghost use Rattle.potentials.specs.Prices.{ArePricesOf};

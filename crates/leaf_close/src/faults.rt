@@ -1,7 +1,7 @@
 // What keeps a decided node from having a plan.
 ghost use Rattle.std.specs.Prelude.{◌≡◌, ◌<◌, ◌↔◌, IsTrue, MatchOption};
 ghost use Rattle.crew_terms.specs.Limits.{tasks_in};
-ghost use Rattle.search_terms.specs.Choice.{IsDecided};
+ghost use Rattle.crew_terms.specs.Decided.{IsDecided};
 ghost use Rattle.search_terms.specs.Closing.{IsCrowded, IsShort, NoneIsStuck, required_plan};
 ghost use Rattle.leaf_close.specs.Cases.{HasNoFault, IsFirstCrowded, IsFirstShort, IsFirstStuck, NoneIsCrowded, NoneIsShort};
 ghost use Rattle.leaf_close.specs.Faults.{IsFirstFault};

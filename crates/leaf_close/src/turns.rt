@@ -1,7 +1,7 @@
 // Whether a team can do what is required of it.
 ghost use Rattle.std.specs.Prelude.{◌≡◌, ◌<◌, All, MatchBool};
 ghost use Rattle.crew_terms.specs.Limits.{tasks_in, teams_in};
-ghost use Rattle.search_terms.specs.Choice.{IsDecided};
+ghost use Rattle.crew_terms.specs.Decided.{IsDecided};
 ghost use Rattle.search_terms.specs.Closing.{IsStuck, required_plan};
 ghost use Rattle.leaf_close.specs.Turns.{CanFollowAll, CanNotFollow, MayBeginAll, MayNotBegin};
 

@@ -4,7 +4,8 @@ use Rattle.std.proofs.lemmas.Int.{ints, to_z-of_z}
 use Rattle.std.proofs.lemmas.List.{length-replicate, length-set}
 use Rattle.crew_terms.specs.Leaf.{Prices, pi_of}
 use Rattle.crew_terms.specs.Limits.{is_required, tasks_in, teams_in}
-use Rattle.potentials.specs.Prices.{ArePrices, ArePricesOf, with_rho, zero_prices}
+use Rattle.crew_terms.specs.Leaf.{zero_prices}
+use Rattle.potentials.specs.Prices.{ArePrices, ArePricesOf, with_rho}
 use Rattle.search_terms.specs.Closing.{all_cost}
 use Rattle.leaf_close.proofs.Pricing.{ArePairs, IsOfTask, no_pairs, one_task, still_shaped, crowded_priced, task_set, task_skip}
 use Rattle.leaf_close.proofs.prices.crowded_prices.Goals as goal

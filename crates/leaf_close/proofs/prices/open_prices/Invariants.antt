@@ -4,7 +4,8 @@ use Rattle.crew_terms.specs.Instance.{task_of}
 use Rattle.crew_terms.specs.Leaf.{pi_of}
 use Rattle.crew_terms.specs.Limits.{has_required}
 use Rattle.crew_terms.specs.declared.TheConstants.{D}
-use Rattle.potentials.specs.Prices.{ArePrices, ArePricesOf, zero_prices}
+use Rattle.crew_terms.specs.Leaf.{zero_prices}
+use Rattle.potentials.specs.Prices.{ArePrices, ArePricesOf}
 use Rattle.leaf_close.proofs.prices.open_prices.Given as goal
 
 abbrev pub invariant-loop-j : goal.invariant-loop-j
