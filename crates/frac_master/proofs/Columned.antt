@@ -11,7 +11,7 @@ use Rattle.search_terms.specs.Rows.{Row}
 use Rattle.search_terms.specs.Opening.{cost, cost_sum, opens, places_where, visit_number}
 use Rattle.crew_terms.specs.Limits.{Route}
 use Rattle.frac_master.specs.Table.{rows_of}
-use Rattle.frac_master.specs.Columns.{longer}
+use Rattle.frac_master.specs.Columns.{entry_of}
 use Rattle.frac_master.proofs.Picked.{where_more}
 
 pub total-same : (n : ℕ) (f g : ℕ → ℤ) → ((i : ℕ) → i < n → f i ≡ g i) → total n f ≡ total n g
@@ -65,12 +65,12 @@ step_skip all r i at numbers sum below no' basis each value =
     let w = where_more 0 all i Right below ∙ ap (λ b. places_where opens 0 (take i all) ++ cond b ((0 + i) ∷ []) []) no' ∙ append-nil (places_where opens 0 (take i all)) in
     record { basis = basis ∙ sym w; each = each ∙ ap (map (visit_number r)) (sym f); value = value ∙ ap (sum_at (visit_number r)) (sym f) }
 
-pub wide_more : (rows wide new : List (Vec ℤ)) (at : List ℕ) (numbers : List ℤ) (i : ℕ) (row v : Vec ℤ) → i < length rows → get_or rows i row ≡ row
-    → rows_of wide ≡ map (longer at numbers) (rows_of (take i rows)) → v.items ≡ longer at numbers row.items → new ≡ wide ++ v ∷ []
-    → rows_of new ≡ map (longer at numbers) (rows_of (take (i + 1) rows))
-wide_more rows wide new at numbers i row v below is h e n =
+pub entries_more : (rows : List (Vec ℤ)) (column new : List ℤ) (at : List ℕ) (numbers : List ℤ) (i : ℕ) (row : Vec ℤ) (z : ℤ) → i < length rows → row ≡ get_or rows i row
+    → column ≡ map (entry_of at numbers) (rows_of (take i rows)) → z ≡ entry_of at numbers row.items → new ≡ column ++ z ∷ []
+    → new ≡ map (entry_of at numbers) (rows_of (take (i + 1) rows))
+entries_more rows column new at numbers i row z below is h e n =
     let g : Vec ℤ → Row = λ w. w.items in
-    ap rows_of n ∙ map-append g wide (v ∷ []) ∙ ap (λ l. l ++ v.items ∷ []) h ∙ ap (λ y. map (longer at numbers) (rows_of (take i rows)) ++ y ∷ []) e
-    ∙ ap (λ w. map (longer at numbers) (rows_of (take i rows)) ++ longer at numbers (g w) ∷ []) (sym is)
-    ∙ sym (map-append (longer at numbers) (rows_of (take i rows)) (g (get_or rows i row) ∷ []))
-    ∙ ap (map (longer at numbers)) (sym (map_more g rows i row below))
+    n ∙ ap (λ l. l ++ z ∷ []) h ∙ ap (λ y. map (entry_of at numbers) (rows_of (take i rows)) ++ y ∷ []) e
+    ∙ ap (λ w. map (entry_of at numbers) (rows_of (take i rows)) ++ entry_of at numbers (g w) ∷ []) is
+    ∙ sym (map-append (entry_of at numbers) (rows_of (take i rows)) (g (get_or rows i row) ∷ []))
+    ∙ ap (map (entry_of at numbers)) (sym (map_more g rows i row below))

@@ -1,6 +1,6 @@
 -- the place of a variable that opens a row, and the dual number of that row
 use Rattle.std.proofs.Common.{◌≡◌, ◌<◌, ◌+◌, ◌-◌, ◌∷◌, [], ℕ, ℤ, pos, ◌+ℤ◌, ◌*ℤ◌, suc, zero, List, Bool, true, false, cond, length, get_or, filter, ap, sym, subst, arith, ◌∙◌, length-append, inl, inr, ◌⊎◌}
-use Rattle.std.specs.Prelude.{None, Ok, Err, Result, MatchOption, MatchResult}
+use Rattle.std.specs.Prelude.{None, Ok, Err, Result, MatchOption, MatchResult, IfErr, ◌<ℤ◌}
 use Rattle.std.proofs.lemmas.Int.{ints}
 use Rattle.std.proofs.Math.IntN.{*ℤ_comm}
 use Rattle.std.proofs.lemmas.List.{get_or_append_left}
@@ -11,11 +11,16 @@ use Rattle.search_terms.specs.declared.Place.{Place}
 use Rattle.search_terms.specs.declared.Place.TheVariants.{Right, Value}
 use Rattle.search_terms.specs.Rows.{Row, number, value_row}
 use Rattle.search_terms.specs.declared.TheConstants.{VALUE}
-use Rattle.search_terms.specs.Opening.{basics, cost, opener, openers, opening_basis, opens, place_at, places_where, times}
+use Rattle.search_terms.specs.Opening.{basics, cost, opener, openers, opening_basis, opens, place_at, places, places_where, times, OpensWith}
 use Rattle.search_terms.specs.declared.TheConstants.{BIG_M}
-use Rattle.search_terms.specs.Overflows.IsOfPrice.{Scaled, Raised}
-use Rattle.frac_master.specs.Held.{Held}
-use Rattle.frac_master.specs.Prices.{GivesDual, IsDualOf, IsPriceFault, IsRaised}
+use Rattle.search_terms.specs.Overflows.{IsOfPrice, OverflowAt}
+use Rattle.search_terms.specs.Overflows.OverflowAt.{InPrice}
+use Rattle.search_terms.specs.Overflows.IsOfPrice.{Scaled as PriceScaled, Raised as PriceRaised}
+use Rattle.search_terms.specs.Pivot.{IsOptimal}
+use Rattle.crew_terms.specs.Limits.{Limits, Route}
+use Rattle.frac_master.specs.State.{MasterState}
+use Rattle.frac_master.specs.Prices.{GivesDual, IsDualOf, IsDualFault, IsRaised}
+use Rattle.frac_master.specs.Prices.IsDualFault.{Scaled, Raised}
 use Rattle.std.specs.Global.{Vec}
 use Rattle.std.proofs.lemmas.List.{length-map}
 use Rattle.frac_master.specs.Table.{rows_of, table}
@@ -74,36 +79,61 @@ row_of_place ps j lt e =
       is = get_or_append_left (basics ps) (Value ∷ []) Value q.h q.known ∙ q.is;
     }
 
-pub raised_dual : (m : Held) (p : Place) (j : ℕ) (num den : ℤ) → j < length m.places → place_at m.places j ≡ p → opens p ≡ true → cost p ≡ pos BIG_M
-    → num ≡ (pos BIG_M *ℤ number (value_row m.rows) VALUE) +ℤ number (value_row m.rows) j → den ≡ number (value_row m.rows) VALUE → IsDualOf m p num den
-raised_dual m p j num den lt e o k is whole =
-    let v = value_row m.rows in
-    let r = row_of_place m.places j lt (ap opens e ∙ o) in
-    let a = ap (number v) r.place in
-    let b = ap (λ q. number v VALUE *ℤ cost q) (r.is ∙ e) ∙ ap (λ z. number v VALUE *ℤ z) k in
-    let c = *ℤ_comm (number v VALUE) (pos BIG_M) in
-    record { h = r.h; known = r.known; opens = r.is ∙ e; is = is ∙ omega (arith, ints); whole = whole }
+-- two opening rows open with different variables
+abbrev pub OpenersDiffer : Type 0
+OpenersDiffer = (n : Limits) (h i : ℕ) (p : Place) → OpensWith n h p → OpensWith n i p → h ≡ i
 
-pub raised_fault : (m : Held) (p : Place) (j : ℕ) (f : Overflow) → j < length m.places → place_at m.places j ≡ p → opens p ≡ true → cost p ≡ pos BIG_M → IsOverflow f
-    → (f ≡ fault Mul (pos BIG_M) (number (value_row m.rows) VALUE)) ⊎ (f ≡ fault Add (pos BIG_M *ℤ number (value_row m.rows) VALUE) (number (value_row m.rows) j)) → IsPriceFault m f
-raised_fault m p j f lt e o k leaves (inl is) = record { leaves = leaves; how = λ n s. Scaled is }
-raised_fault m p j f lt e o k leaves (inr is) = record {
-  leaves = leaves;
-  how = λ n s.
+-- the number at place j, where p stands, is that of the row which opens with p
+times_is : OpenersDiffer → (ps : List Place) (p : Place) (j : ℕ) (value : Row) (n : Limits) (h : ℕ) → j < length ps → place_at ps j ≡ p → opens p ≡ true → ps ≡ places n → OpensWith n h p
+    → number value j ≡ times (places n) value h
+times_is differ ps p j value n h lt e o s w =
+    let r = row_of_place ps j lt (ap opens e ∙ o) in
+    let d : OpensWith n r.h p = record { known = subst (λ qs. r.h < length (openers qs)) s r.known; is = ap (λ qs. opener qs r.h) (sym s) ∙ r.is ∙ e } in
+    let same = differ n r.h h p d w in
+    ap (number value) (sym r.place) ∙ ap (λ qs. times qs value r.h) s ∙ ap (times (places n) value) same
+
+raised_dual : OpenersDiffer → (m : MasterState) (p : Place) (j : ℕ) (num den : ℤ) → j < length m.places → place_at m.places j ≡ p → opens p ≡ true → cost p ≡ pos BIG_M
+    → pos 0 <ℤ number (value_row m.rows) VALUE
+    → num ≡ (pos BIG_M *ℤ number (value_row m.rows) VALUE) +ℤ number (value_row m.rows) j → den ≡ number (value_row m.rows) VALUE → IsDualOf m p num den
+raised_dual differ m p j num den lt e o k up is whole = record {
+  is = λ n h s w.
       let v = value_row m.rows in
-      let r = row_of_place m.places j lt (ap opens e ∙ o) in
-      let a = ap (number v) (sym r.place) ∙ ap (λ qs. times qs v r.h) s in
-      Raised r.h (subst (λ qs. r.h < length (openers qs)) s r.known) (ap (λ qs. cost (opener qs r.h)) (sym s) ∙ ap cost (r.is ∙ e) ∙ k)
-      (is ∙ ap (fault Add (pos BIG_M *ℤ number v VALUE)) a);
+      let a = times_is differ m.places p j v n h lt e o s w in
+      let b = ap (λ q. number v VALUE *ℤ cost q) w.is ∙ ap (λ z. number v VALUE *ℤ z) k in
+      let c = *ℤ_comm (number v VALUE) (pos BIG_M) in
+      is ∙ omega (arith, ints);
+  whole = whole;
+  positive = subst (λ z. pos 0 <ℤ z) (sym whole) up;
 }
 
-pub gives_dual : (m : Held) (p : Place) (j : ℕ) (r : Result (ℤ × ℤ) Overflow) → m.ended ≡ None → j < length m.places → place_at m.places j ≡ p → opens p ≡ true → cost p ≡ pos BIG_M
-    → IsRaised (value_row m.rows) j r → GivesDual m p r
-gives_dual m p j r none lt e o k h = subst (λ q. MatchOption q (MatchResult r (λ z. IsDualOf m p z.0 z.1) (IsPriceFault m)) (λ f. r ≡ Err f)) (sym none) (by_case r h)
+raised_fault : OpenersDiffer → (m : MasterState) (p : Place) (j : ℕ) (f : Overflow) → j < length m.places → place_at m.places j ≡ p → opens p ≡ true → IsOverflow f
+    → (f ≡ fault Mul (pos BIG_M) (number (value_row m.rows) VALUE)) ⊎ (f ≡ fault Add (pos BIG_M *ℤ number (value_row m.rows) VALUE) (number (value_row m.rows) j)) → IsDualFault m p f
+raised_fault differ m p j f lt e o leaves (inl is) = Scaled leaves is
+raised_fault differ m p j f lt e o leaves (inr is) =
+    Raised leaves (λ n h s w. is ∙ ap (fault Add (pos BIG_M *ℤ number (value_row m.rows) VALUE)) (times_is differ m.places p j (value_row m.rows) n h lt e o s w))
+
+pub gives_dual : OpenersDiffer → (m : MasterState) (p : Place) (j : ℕ) (r : Result (ℤ × ℤ) Overflow) → m.ended ≡ None → j < length m.places → place_at m.places j ≡ p → opens p ≡ true → cost p ≡ pos BIG_M
+    → pos 0 <ℤ number (value_row m.rows) VALUE → IsRaised (value_row m.rows) j r → GivesDual m p r
+gives_dual differ m p j r none lt e o k up h = subst (λ q. MatchOption q (MatchResult r (λ z. IsDualOf m p z.0 z.1) (IsDualFault m p)) (λ f. r ≡ Err f)) (sym none) (by_case r h)
   where
-    by_case : (r : Result (ℤ × ℤ) Overflow) → IsRaised (value_row m.rows) j r → MatchResult r (λ z. IsDualOf m p z.0 z.1) (IsPriceFault m)
-    by_case (Ok z) q = raised_dual m p j z.0 z.1 lt e o k q.0 q.1
-    by_case (Err f) q = raised_fault m p j f lt e o k q.0 q.1
+    by_case : (r : Result (ℤ × ℤ) Overflow) → IsRaised (value_row m.rows) j r → MatchResult r (λ z. IsDualOf m p z.0 z.1) (IsDualFault m p)
+    by_case (Ok z) q = raised_dual differ m p j z.0 z.1 lt e o k up q.0 q.1
+    by_case (Err f) q = raised_fault differ m p j f lt e o q.0 q.1
+
+-- such a fault belongs to the rows, where no variable has a negative reduced cost
+pub belongs : (m : MasterState) (n : Limits) (p : Place) (j : ℕ) (r : Result (ℤ × ℤ) Overflow) → j < length m.places → place_at m.places j ≡ p → opens p ≡ true → cost p ≡ pos BIG_M
+    → m.places ≡ places n → IsOptimal m.rows → IsRaised (value_row m.rows) j r → IfErr r (λ f. (coming : List Route) → OverflowAt n m.rows coming f)
+belongs m n p j (Ok z) lt e o k s done q = tt
+belongs m n p j (Err f) lt e o k s done q = λ coming. InPrice q.0 done (by_how q.1)
+  where
+    by_how : (f ≡ fault Mul (pos BIG_M) (number (value_row m.rows) VALUE)) ⊎ (f ≡ fault Add (pos BIG_M *ℤ number (value_row m.rows) VALUE) (number (value_row m.rows) j)) → IsOfPrice n m.rows f
+    by_how (inl is) = PriceScaled is
+    by_how (inr is) =
+        let v = value_row m.rows in
+        let w = row_of_place m.places j lt (ap opens e ∙ o) in
+        let a = ap (number v) (sym w.place) ∙ ap (λ qs. times qs v w.h) s in
+        PriceRaised w.h (subst (λ qs. w.h < length (openers qs)) s w.known) (ap (λ qs. cost (opener qs w.h)) (sym s) ∙ ap cost (w.is ∙ e) ∙ k)
+        (is ∙ ap (fault Add (pos BIG_M *ℤ number v VALUE)) a)
 
 pub value_read : (rows : List (Vec ℤ)) (basis : List ℕ) (k : ℕ) (d : Vec ℤ) (l : Row) → 0 < length (rows_of rows) → k ≡ length rows → d ≡ get_or rows (k - 1) d → l ≡ d.items → l ≡ value_row (table rows basis)
 value_read rows basis k d l some e at is =

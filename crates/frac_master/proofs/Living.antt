@@ -8,7 +8,7 @@ use Rattle.search_terms.specs.Pivot.{ArePivots, IsPivot, IsImproving, IsBounding
 use Rattle.crew_terms.specs.Limits.{Route}
 use Rattle.search_terms.specs.MasterRun.{IsMasterRun}
 use Rattle.search_terms.specs.MasterRun.MasterRun.{Pivots as Pivoted}
-use Rattle.frac_master.specs.Held.{IsOfRun}
+use Rattle.frac_master.specs.State.{IsOfRun}
 use Rattle.frac_master.specs.Running.{CanRun, Runs}
 use Rattle.frac_master.specs.declared.solved.Solved.{Solved}
 use Rattle.frac_master.specs.declared.solved.Solved.TheVariants.{Optimal, Overflow as Overflowed, Spent}
@@ -23,7 +23,7 @@ pub extend : (k : ℕ) (ps : List Place) (t u : Rows) → IsOfRun ps t → ArePi
 extend zero ps t u o e = subst (IsOfRun ps) e o
 extend (suc k) ps t u o p =
     let m = extend k ps t p.0 o p.1 in
-    record { limits = m.limits; same = m.same; routes = m.routes; made = suc m.made; run = Pivoted m.run p.2 }
+    record { limits = m.limits; same = m.same; routes = m.routes; teams = m.teams; made = suc m.made; run = Pivoted m.run p.2 }
 
 pub same_widths : (l : Laws) (k : ℕ) (ps : List Place) (t u : Rows) → IsOfRun ps t → ArePivots k t u → width u ≡ width t
 same_widths l zero ps t u o e = ap width (sym e)

@@ -1,7 +1,7 @@
 -- the widened rows are those that the route enters
-use Rattle.std.proofs.Common.{◌≡◌, ◌≤◌, ◌<◌, ◌+◌, ◌++◌, ◌∷◌, [], ℕ, ℤ, pos, ◌*ℤ◌, suc, List, Bool, true, false, cond, length, get_or, map, filter, refl, ap, sym, subst, arith, ◌∙◌, length-append, inl, inr, ◌⊎◌, slice_index}
+use Rattle.std.proofs.Common.{◌≡◌, ◌≤◌, ◌<◌, ◌+◌, ◌-◌, ◌++◌, ◌∷◌, [], ℕ, ℤ, pos, ◌*ℤ◌, suc, List, Bool, true, false, cond, length, get_or, map, filter, refl, ap, sym, subst, arith, ◌∙◌, length-append, inl, inr, ◌⊎◌, slice_index}
 use Rattle.std.specs.Global.{Vec}
-use Rattle.std.proofs.lemmas.List.{map-append, get_or-map, length-map}
+use Rattle.std.proofs.lemmas.List.{map-append, get_or-map, length-map, same_lists, get_or_default}
 use Rattle.crew_num.specs.declared.Op.TheVariants.{Add, Mul}
 use Rattle.crew_num.specs.declared.Overflow.{Overflow}
 use Rattle.crew_num.specs.Exact.{IsInRange, fault}
@@ -9,22 +9,25 @@ use Rattle.crew_terms.specs.Limits.{Limits}
 use Rattle.crew_terms.specs.Total.{total}
 use Rattle.search_terms.specs.declared.Place.{Place}
 use Rattle.search_terms.specs.declared.Place.TheVariants.{Right, Value, Unused, Unassigned, Shortage, Excess, Missed, Repeated}
-use Rattle.search_terms.specs.Rows.{Row, Rows, number, row_of, width}
+use Rattle.search_terms.specs.Rows.{Row, Rows, number, row_of, value_row, width}
 use Rattle.search_terms.specs.Opening.{basics, cost_sum, entered, entry, openers, opener, opening_basis, opens, places, places_where, route_number, times, visit_number}
 use Rattle.crew_terms.specs.Limits.{Route}
-use Rattle.search_terms.specs.MasterRun.{IsMasterRun}
-use Rattle.search_terms.specs.MasterRun.MasterRun.{Enters}
 use Rattle.search_terms.specs.Overflows.{IsOfSum}
 use Rattle.search_terms.specs.Overflows.IsOfSum.{Product, Sum}
 use Rattle.frac_master.specs.Table.{rows_of, table}
-use Rattle.frac_master.specs.Held.{Adds, AddsOn, Held, IsOfRun, IsColumnFault}
+use Rattle.frac_master.specs.State.{MasterState}
+use Rattle.frac_master.specs.Adding.{Adds, AddsOn, IsColumnFault}
 use Rattle.frac_master.specs.declared.solved.Added.{Added}
 use Rattle.frac_master.specs.declared.solved.Added.TheVariants.{Overflow as OverflowedAdd}
 use Rattle.std.specs.Prelude.{None, MatchOption}
-use Rattle.master_laws.proofs.Entering.{width_entered}
 use Rattle.frac_master.specs.Sums.{sum_to}
-use Rattle.frac_master.specs.Columns.{IsColumn, IsRowFault, longer}
+use Rattle.frac_master.specs.Columns.{AreWidened, IsColumn, IsRowFault, entry_of}
 use Rattle.frac_master.proofs.Columned.{total-same}
+
+list_ext : {A : Type 0} (xs ys : List A) (d : A) → length xs ≡ length ys → ((k : ℕ) → k < length xs → get_or xs k d ≡ get_or ys k d) → xs ≡ ys
+list_ext xs ys d e h = same_lists xs ys e (λ k b lt.
+    let in' : k < length ys = omega arith in
+    get_or_default xs k b d lt ∙ h k lt ∙ sym (get_or_default ys k b d in'))
 
 visits_same : (all : List Place) (r : Route) (ps : List Place) → map (visit_number r) (filter opens ps) ≡ map (route_number all r) (filter opens ps)
 visits_same all r [] = refl
@@ -72,19 +75,19 @@ entry_is : (ps : List Place) (r : Route) (at : List ℕ) (numbers : List ℤ) (r
 entry_is ps r at numbers row c =
     ap (λ m. sum_to m row at numbers) (at_count ps r at numbers c) ∙ sum_is ps r at numbers row (length (openers ps)) c (omega arith)
 
-longer_rows : (ps : List Place) (r : Route) (at : List ℕ) (numbers : List ℤ) (rows : List Row) → IsColumn ps r at numbers
-    → map (longer at numbers) rows ≡ map (λ row. row ++ entry ps r row ∷ []) rows
-longer_rows ps r at numbers [] c = refl
-longer_rows ps r at numbers (row ∷ rows) c =
-    ap (λ z. (row ++ z ∷ []) ∷ map (longer at numbers) rows) (entry_is ps r at numbers row c)
-    ∙ ap (λ l. (row ++ entry ps r row ∷ []) ∷ l) (longer_rows ps r at numbers rows c)
+pub widened_is : (ps : List Place) (r : Route) (at : List ℕ) (numbers : List ℤ) (rows new : List (Vec ℤ)) (column : List ℤ) (basis : List ℕ) → IsColumn ps r at numbers
+    → column ≡ map (entry_of at numbers) (rows_of rows) → AreWidened (rows_of rows) column (rows_of new) → table new basis ≡ entered ps r (table rows basis)
+widened_is ps r at numbers rows new column basis c e w =
+    let f : Row → Row = λ row. row ++ entry ps r row ∷ [] in
+    let old = rows_of rows in
+    let same = list_ext (rows_of new) (map f old) [] (w.count ∙ sym (length-map old f)) (λ i lt.
+    let in_old : i < length old = omega (arith, w.count) in
+    let g = get_or-map f old i [] [] in_old in
+    let h = ap (λ l. number l i) e ∙ get_or-map (entry_of at numbers) old i [] (pos 0) in_old ∙ entry_is ps r at numbers (get_or old i []) c in
+    w.each i in_old ∙ ap (λ z. get_or old i [] ++ z ∷ []) h ∙ sym g) in
+    ap (λ l. let t : Rows = record { rows = l; basis = basis } in t) same
 
-pub widened_is : (ps : List Place) (r : Route) (at : List ℕ) (numbers : List ℤ) (rows new : List (Vec ℤ)) (basis : List ℕ) → IsColumn ps r at numbers
-    → rows_of new ≡ map (longer at numbers) (rows_of rows) → table new basis ≡ entered ps r (table rows basis)
-widened_is ps r at numbers rows new basis c e =
-    ap (λ l. let t : Rows = record { rows = l; basis = basis } in t) (e ∙ longer_rows ps r at numbers (rows_of rows) c)
-
-pub column_fault : (m : Held) (r : Route) (at : List ℕ) (numbers : List ℤ) (f : Overflow) → IsColumn m.places r at numbers → IsRowFault m.rows.rows at numbers f → IsColumnFault m r f
+pub column_fault : (m : MasterState) (r : Route) (at : List ℕ) (numbers : List ℤ) (f : Overflow) → IsColumn m.places r at numbers → IsRowFault m.rows.rows at numbers f → IsColumnFault m r f
 column_fault m r at numbers f c w = record {
   leaves = w.sum.first.leaves;
   how = λ n e. (w.h, w.known, of_sum n (subst (λ ps. IsColumn ps r at numbers) e c));
@@ -111,21 +114,18 @@ column_fault m r at numbers f c w = record {
             Sum w.sum.h lt (e.0 ∙ ap (λ z. fault Add z (number (row_of m.rows w.h) (slice_index at w.sum.h) *ℤ number numbers w.sum.h)) (sum_is (places n) r at numbers (row_of m.rows w.h) w.sum.h d le)
             ∙ ap (fault Add (total w.sum.h (λ h. times (places n) (row_of m.rows w.h) h *ℤ route_number (places n) r (opener (places n) h)))) p)
 
-pub enters : (ps : List Place) (r : Route) (t : Rows) → IsOfRun ps t → IsOfRun ps (entered ps r t)
-enters ps r t o = record {
-  limits = o.limits;
-  same = o.same;
-  routes = o.routes ++ r ∷ [];
-  made = o.made;
-  run = subst (λ qs. IsMasterRun o.limits (o.routes ++ r ∷ []) o.made (entered qs r t)) (sym o.same) (Enters r o.run tt);
-}
-
 pub known_in : (ps : List Place) (r : Route) (at : List ℕ) (numbers : List ℤ) (t : Rows) (h i : ℕ) → IsColumn ps r at numbers → get_or (opening_basis ps) h 0 < width t
     → length (row_of t i) ≡ width t → slice_index at h < length (row_of t i)
 known_in ps r at numbers t h i c lt e = let f : slice_index at h ≡ get_or (opening_basis ps) h 0 = ap (λ l. slice_index l h) c.basis in omega arith
 
-pub adds_on : (old : Held) (r : Route) (added : Added) (new : Held) → old.ended ≡ None → AddsOn old r added new → Adds old r added new
-adds_on old r added new e a = subst (λ o. MatchOption o (AddsOn old r added new) (λ f. (added ≡ OverflowedAdd f) × (new ≡ old))) (sym e) a
+pub adds_on : (old : MasterState) (column : ℕ) (r : Route) (added : Added) (new : MasterState) → old.ended ≡ None → AddsOn old column r added new → Adds old column r added new
+adds_on old column r added new e a = subst (λ o. MatchOption o (AddsOn old column r added new) (λ f. (added ≡ OverflowedAdd f) × (new ≡ old))) (sym e) a
 
-pub wider : (ps : List Place) (r : Route) (t : Rows) (o : IsOfRun ps t) → 0 < length t.rows → width (entered ps r t) ≡ suc (width t)
-wider ps r t o some = subst (λ qs. width (entered qs r t) ≡ suc (width t)) (sym o.same) (width_entered o.limits r t some)
+pub wider : (ps : List Place) (r : Route) (t : Rows) → 0 < length t.rows → width (entered ps r t) ≡ suc (width t)
+wider ps r t some =
+    let f : Row → Row = λ row. row ++ entry ps r row ∷ [] in
+    let m = length-map t.rows f in
+    let e = ap (λ k. length (get_or (map f t.rows) (k - 1) [])) m in
+    let g = ap length (get_or-map f t.rows (length t.rows - 1) [] [] (omega arith)) in
+    let h = length-append (value_row t) (entry ps r (value_row t) ∷ []) in
+    e ∙ g ∙ h ∙ omega arith

@@ -8,13 +8,14 @@ ghost use Rattle.crew_num.specs.Ratios.{IsFirstProduct};
 ghost use Rattle.frac_master.specs.Choosing.{IsBefore, IsBehind, IsBest, IsRatioFault, Leaves};
 
 use crew_num::{Overflow, cmp_ratio};
+use search_terms::{RIGHT, VALUE};
 use std::cmp::Ordering;
 
 /// The place of the lowest variable of negative reduced cost.
 pub fn entering(value: &[i128]) -> Option<usize>
     ensures { (t : Rows) → value_row t ≡ value.now → MatchOption result (IsOptimal t) (IsEntering t) }
 {
-    for v in 2..value.len() {
+    for v in VALUE + 1..value.len() {
         if value[v] > 0 {
             return Some(v);
         }
@@ -67,7 +68,7 @@ fn best_with(
         return Ok(Some(h));
     };
     let other = row_at(rows, g);
-    if is_before(row[0], number, basis[h], other[0], other[v], basis[g])? {
+    if is_before(row[RIGHT], number, basis[h], other[RIGHT], other[v], basis[g])? {
         return Ok(Some(h));
     }
     Ok(Some(g))

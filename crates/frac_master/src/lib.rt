@@ -1,4 +1,5 @@
-// The master problem in exact numbers.
+// The master problem of a node in exact numbers: its rows, their pivots, the routes that enter, and the numbers that they
+// give.
 #![tactic(auto)]
 
 mod basics;
@@ -10,19 +11,11 @@ pub mod laws;
 mod master;
 mod opening;
 mod pivots;
+mod places;
 mod routes;
 mod running;
 mod solved;
 mod widening;
 
-pub use basics::{Basics, open_basics, opens};
-pub use choosing::{entering, leaving};
-pub use clearing::clear;
-pub use columns::entry;
 pub use master::Master;
-pub use opening::{cost, number};
-pub use pivots::step;
-pub use routes::{Column, column_of, visit_number, visits_to};
-pub use running::run;
 pub use solved::{Added, Solved};
-pub use widening::widened;

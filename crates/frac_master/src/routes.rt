@@ -1,6 +1,6 @@
 // The numbers of a route in the opening rows.
 
-ghost use Rattle.std.specs.Prelude.{◌≡◌, ◌≤◌, ◌<◌, ◌^◌, ◌≤ℤ◌, pos, length, IfOk};
+ghost use Rattle.std.specs.Prelude.{◌≡◌, ◌≤◌, ◌^◌, ◌≤ℤ◌, ◌<ℤ◌, pos, length, IfOk};
 ghost use Rattle.search_terms.specs.Opening.{visit_number as visit_number_of};
 ghost use Rattle.search_terms.specs.Shares.{visits_to as visits_to_of};
 ghost use Rattle.frac_master.specs.Columns.{IsColumn, route_of};
@@ -8,7 +8,7 @@ ghost use Rattle.frac_master.specs.Columns.{IsColumn, route_of};
 use crate::basics::opens;
 use crate::opening::cost;
 use crew_terms::Visit;
-use search_terms::Place;
+use search_terms::{Place, VALUE};
 use std::alloc::{AllocError, Global};
 
 /// The places of the opening rows' basic variables, and the route's number in each of these rows; last the value's.
@@ -34,10 +34,9 @@ pub fn visits_to(task: u32, visits: &[Visit]) -> usize
 
 /// The route's number in the row that opens with b.
 pub fn visit_number(team: u32, visits: &[Visit], b: Place) -> i128
-    requires few { length visits.now < 2 ^ 32 }
     ensures value { result ≡ visit_number_of (route_of team visits.now) b }
     ensures low { pos 0 ≤ℤ result }
-    ensures high { result ≤ℤ pos 4294967295 }
+    ensures high { result <ℤ pos (2 ^ 64) }
 {
     match b {
         Place::Unused(k) if k == team => 1,
@@ -54,8 +53,7 @@ pub fn column_of(
     team: u32,
     visits: &[Visit],
 ) -> Result<Column, AllocError>
-    requires few { length visits.now < 2 ^ 32 }
-    requires places { length places.now ≤ 2 ^ 32 }
+    requires { length places.now ≤ 2 ^ 32 }
     ensures { IfOk result (λ c. IsColumn places.now (route_of team visits.now) c.at.items c.numbers.items) }
 {
     let mut at = Vec::new(alloc);
@@ -69,7 +67,7 @@ pub fn column_of(
             sum += cost(*p) * number;
         }
     }
-    at.push(1)?;
+    at.push(VALUE)?;
     numbers.push(sum)?;
     Ok(Column { at, numbers })
 }
