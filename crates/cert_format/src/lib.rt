@@ -22,7 +22,7 @@ pub use instance_out::write_instance;
 pub use kinds::{Expect, LineFault, LineKind};
 pub use laws::{fault_is_refused, instance_is_read_back, line_has_one_answer};
 pub use lines_out::{Part, put_line};
-pub use numbers::Rest;
+pub use numbers::LineNumbers;
 
 /// Reads a line of the expected kind from its words; it takes no memory. The fault is the first that the
 /// line has: of its shape, then of its name, then of its numbers.

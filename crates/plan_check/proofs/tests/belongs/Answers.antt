@@ -3,18 +3,18 @@ use Rattle.std.specs.List.{All}
 use Rattle.std.proofs.lemmas.Bool.{cases_lt}
 use Rattle.std.proofs.lemmas.List.Elements.{All-contains}
 use Rattle.crew_terms.specs.Plan.{Plan, job_of, Does}
-use Rattle.crew_instance.specs.Teams.{teams_in}
-use Rattle.plan_check.proofs.Known.{job_known}
+use Rattle.crew_terms.specs.Nodes.{job_known}
+use Rattle.crew_instance.specs.Teams.{job_teams}
 use Rattle.plan_check.proofs.tests.belongs.Goals as goal
 
-known_more : (p : Plan) (n m : ℕ) → ((k j t : ℕ) → j < m → Does p k j t → k < n) → All (λ k. k < n) (teams_in (job_of p m)) → (k j t : ℕ) → j < m + 1 → Does p k j t → k < n
+known_more : (p : Plan) (n m : ℕ) → ((k j t : ℕ) → j < m → Does p k j t → k < n) → All (λ k. k < n) (job_teams (job_of p m)) → (k j t : ℕ) → j < m + 1 → Does p k j t → k < n
 known_more p n m before here k j t l (job, e, s, c) = at (cases_lt j m)
   where
     at : (j < m) ⊎ (m ≤ j) → k < n
     at (inl h) = before k j t h (job, e, s, c)
     at (inr h) =
         let f : m ≡ j = omega arith in
-        let all : All (λ x. x < n) job.teams = subst (All (λ x. x < n)) (ap (λ i. teams_in (job_of p i)) f ∙ ap teams_in e) here in
+        let all : All (λ x. x < n) job.teams = subst (All (λ x. x < n)) (ap (λ i. job_teams (job_of p i)) f ∙ ap job_teams e) here in
         All-contains (λ x. x < n) job.teams k all c
 
 pub loop-j-preserved : goal.loop-j-preserved
