@@ -9,9 +9,12 @@ use Rattle.crew_num.specs.declared.Overflow.{Overflow}
 use Rattle.crew_num.specs.Exact.{IsOverflow, fault}
 use Rattle.search_terms.specs.declared.Place.{Place}
 use Rattle.search_terms.specs.declared.Place.TheVariants.{Right, Value}
-use Rattle.search_terms.specs.Rows.{Row, number, value_row}
+use Rattle.search_terms.specs.Rows.{Row, Rows, number, value_row, AreBasic}
+use Rattle.search_terms.specs.Duals.{IsUpTo}
+use Rattle.std.specs.Prelude.{Contains, IfOk}
+use Rattle.std.proofs.lemmas.List.{get_or_default}
 use Rattle.search_terms.specs.declared.TheConstants.{VALUE}
-use Rattle.search_terms.specs.Opening.{basics, cost, opener, openers, opening_basis, opens, place_at, places, places_where, times, OpensWith}
+use Rattle.search_terms.specs.Opening.{basics, cost, opener, openers, opening_basis, opens, place_at, places, places_where, times, dual, OpensWith}
 use Rattle.search_terms.specs.declared.TheConstants.{BIG_M}
 use Rattle.search_terms.specs.Overflows.{IsOfPrice, OverflowAt}
 use Rattle.search_terms.specs.Overflows.OverflowAt.{InPrice}
@@ -141,3 +144,23 @@ value_read rows basis k d l some e at is =
     let lt : k - 1 < length rows = omega arith in
     let f : k - 1 ≡ length (rows_of rows) - 1 = omega arith in
     is ∙ ap (λ (v : Vec ℤ). v.items) at ∙ sym (read rows (k - 1) d lt) ∙ ap (at_row (rows_of rows)) f
+
+pub value_positive : (t : Rows) → AreBasic t → pos 0 <ℤ number (value_row t) VALUE
+value_positive t b =
+    let end : length t.rows - 1 < length t.rows = omega (arith, b.some) in
+    subst (λ k. pos 0 <ℤ number (value_row t) k) b.value (b.positive (length t.rows - 1) end)
+
+-- what a dual number is, where prices are the duals
+pub near : (m : MasterState) (n : Limits) (p : Place) (r : Result (ℤ × ℤ) Overflow) (z : ℤ) → m.ended ≡ None → m.places ≡ places n → Contains (places n) p → opens p ≡ true
+    → ((h : ℕ) → OpensWith n h p → z ≡ dual (places n) (value_row m.rows) h) → IsUpTo (number (value_row m.rows) VALUE *ℤ pos BIG_M) z
+    → GivesDual m p r → IfOk r (λ y. IsUpTo (y.1 *ℤ pos BIG_M) y.0)
+near m n p r z none same c o is up g = by_case r (subst (λ q. MatchOption q (MatchResult r (λ y. IsDualOf m p y.0 y.1) (IsDualFault m p)) (λ f. r ≡ Err f)) none g)
+  where
+    by_case : (r : Result (ℤ × ℤ) Overflow) → MatchResult r (λ y. IsDualOf m p y.0 y.1) (IsDualFault m p) → IfOk r (λ y. IsUpTo (y.1 *ℤ pos BIG_M) y.0)
+    by_case (Err f) q = tt
+    by_case (Ok y) q =
+        let at = get_or_default (places n) c.0 Right p c.1 ∙ c.2 in
+        let w = row_of_place (places n) c.0 c.1 (ap opens at ∙ o) in
+        let d : OpensWith n w.h p = record { known = w.known; is = w.is ∙ at } in
+        let e = is w.h d ∙ sym (q.is n w.h same d) in
+        subst (λ b. IsUpTo (b *ℤ pos BIG_M) y.0) (sym q.whole) (subst (IsUpTo (number (value_row m.rows) VALUE *ℤ pos BIG_M)) e up)

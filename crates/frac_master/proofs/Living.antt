@@ -1,5 +1,5 @@
 -- a master that no overflow has ended goes on
-use Rattle.std.proofs.Common.{◌≡◌, ℕ, zero, suc, List, refl, ap, sym, ◌∙◌, subst}
+use Rattle.std.proofs.Common.{◌≡◌, ℕ, zero, suc, List, length, refl, ap, sym, ◌∙◌, subst}
 use Rattle.crew_num.specs.declared.Overflow.{Overflow}
 use Rattle.crew_terms.specs.Limits.{Limits}
 use Rattle.search_terms.specs.declared.Place.{Place}
@@ -43,3 +43,23 @@ pub pivots_of : (t u : Rows) (pivots made : ℕ) (solved : Solved) → Runs t pi
 pivots_of t u pivots made Optimal r none = r.1
 pivots_of t u pivots made Spent r none = r.1
 pivots_of t u pivots made (Overflowed f) r none = absurd (none f refl)
+
+-- and it is of the same node and the same routes
+pub record Extended (ps : List Place) (t u : Rows) (o : IsOfRun ps t) : Type 0 where
+  pub run : IsOfRun ps u
+  pub limits : run.limits ≡ o.limits
+  pub routes : length run.routes ≡ length o.routes
+
+pub extend_keeps : (k : ℕ) (ps : List Place) (t u : Rows) (o : IsOfRun ps t) → ArePivots k t u → Extended ps t u o
+extend_keeps zero ps t u o e = record {
+  run = record { limits = o.limits; same = o.same; routes = o.routes; teams = o.teams; made = o.made; run = subst (IsMasterRun o.limits o.routes o.made) e o.run };
+  limits = refl;
+  routes = refl;
+}
+extend_keeps (suc k) ps t u o p =
+    let m = extend_keeps k ps t p.0 o p.1 in
+    record {
+      run = record { limits = m.run.limits; same = m.run.same; routes = m.run.routes; teams = m.run.teams; made = suc m.run.made; run = Pivoted m.run.run p.2 };
+      limits = m.limits;
+      routes = m.routes;
+    }

@@ -4,7 +4,7 @@ use Rattle.std.specs.Global.{Vec}
 use Rattle.std.proofs.lemmas.List.{map-append, get_or-map, length-map, same_lists, get_or_default}
 use Rattle.crew_num.specs.declared.Op.TheVariants.{Add, Mul}
 use Rattle.crew_num.specs.declared.Overflow.{Overflow}
-use Rattle.crew_num.specs.Exact.{IsInRange, fault}
+use Rattle.crew_num.specs.Exact.{FitsI128, fault}
 use Rattle.crew_terms.specs.Limits.{Limits}
 use Rattle.crew_terms.specs.Total.{total}
 use Rattle.search_terms.specs.declared.Place.{Place}
@@ -98,7 +98,7 @@ column_fault m r at numbers f c w = record {
       where
         by_how : (f ≡ fault Mul (number (row_of m.rows w.h) (slice_index at w.sum.h)) (number numbers w.sum.h))
             ⊎ ((f ≡ fault Add (sum_to w.sum.h (row_of m.rows w.h) at numbers) (number (row_of m.rows w.h) (slice_index at w.sum.h) *ℤ number numbers w.sum.h))
-            × IsInRange (number (row_of m.rows w.h) (slice_index at w.sum.h) *ℤ number numbers w.sum.h))
+            × FitsI128 (number (row_of m.rows w.h) (slice_index at w.sum.h) *ℤ number numbers w.sum.h))
             → IsOfSum n (route_number (places n) r) (row_of m.rows w.h) f
         by_how (inl e) =
             let k = w.sum.known in

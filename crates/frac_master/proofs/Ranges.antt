@@ -1,5 +1,8 @@
 -- lists over a range that grows by one
-use Rattle.std.proofs.Common.{◌≡◌, ◌+◌, ◌++◌, ◌∷◌, ◌∙◌, [], ℕ, zero, suc, List, Bool, cond, ap, refl, sym, arith, map, filter, append_assoc, append-nil}
+use Rattle.std.proofs.Common.{◌≡◌, ◌<◌, ◌+◌, ◌++◌, ◌∷◌, ◌∙◌, ◌↔◌, [], ℕ, zero, suc, List, Bool, true, false, cond, not, ap, refl, sym, arith, length, map, filter, append_assoc, append-nil, length-append}
+use Rattle.crew_terms.specs.Limits.{is_required}
+use Rattle.crew_terms.specs.declared.Pair.{Pair}
+use Rattle.crew_terms.specs.declared.Pair.TheVariants.{Free, Forbidden, Required}
 use Rattle.std.specs.Prelude.{flat_map}
 use Rattle.std.specs.List.{range_with_len}
 use Rattle.std.proofs.lemmas.List.{map-append}
@@ -29,3 +32,22 @@ pub grown_twice : {A : Type 0} (old front mid new : List A) (x y : A) (all : Lis
     → new ≡ old ++ (all ++ x ∷ y ∷ [])
 grown_twice old front mid new x y all e f g =
     grown old mid new y (all ++ x ∷ []) (grown old front mid x all e f) g ∙ ap (λ l. old ++ l) (append_assoc all (x ∷ []) (y ∷ []))
+
+pub open_from : (b : Bool) (m : ℕ) → (0 < m) ↔ (b ≡ true) → m ≡ 0 → not b ≡ true
+open_from true m s e = let f = s.1 refl in absurd (omega arith)
+open_from false m s e = refl
+
+pub closed_from : (b : Bool) (m : ℕ) → (0 < m) ↔ (b ≡ true) → (m ≡ 0 → ⊥) → not b ≡ false
+closed_from b m s ne = ap not (s.0 (by_case m ne))
+  where
+    by_case : (m : ℕ) → (m ≡ 0 → ⊥) → 0 < m
+    by_case zero ne = absurd (ne refl)
+    by_case (suc m) ne = omega arith
+
+pub pair_from : (q : Pair) → is_required q ≡ true → q ≡ Required
+pair_from Free e = absurd (cc)
+pair_from Forbidden e = absurd (cc)
+pair_from Required e = refl
+
+pub longer_by_one : {A : Type 0} (front new : List A) (x : A) → new ≡ front ++ x ∷ [] → length new ≡ length front + 1
+longer_by_one front new x e = ap length e ∙ length-append front (x ∷ [])

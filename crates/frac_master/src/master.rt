@@ -28,8 +28,8 @@ use crate::widening::{entries, widen};
 use crew_num::Overflow;
 use crew_terms::Visit;
 use master_laws::{
-    entering_keeps_duals, lists_are_runs, openers_differ, openers_within, optimal_prices,
-    pivot_keeps_width, places_are, rows_are_lowest, run_keeps, some_row_bounds, strong_duality,
+    duals_stand, entering_keeps_duals, openers_differ, openers_within, optimal_prices,
+    pivot_keeps_width, places_are, run_keeps, some_row_bounds, strong_duality,
 };
 use node_limits::Limits;
 use search_terms::{Place, RIGHT, VALUE};
@@ -73,20 +73,22 @@ impl Master {
         ensures opened { IfOk result (λ m. m ≡ opened limits.now.limits) }
         ensures list { IfOk result (FollowsList limits.now.limits [] 0) }
     {
+        places_are();
         let places = places_of(alloc, limits)?;
         let teams = teams_of(alloc, limits)?;
         let basics = open_basics(alloc, &teams, &places)?;
         let value = value_row(alloc, &teams, &places, &basics.basics)?;
-        let room = value.clone()?;
+        let room = value_row(alloc, &teams, &places, &basics.basics)?;
         let mut rows = basics.rows;
         rows.push(value)?;
         let mut basis = basics.basis;
+        let columns = Vec::new(alloc);
         basis.push(VALUE)?;
         Ok(Master {
             alloc,
             places,
             tasks: limits.instance().tasks(),
-            columns: Vec::new(alloc),
+            columns,
             rows,
             basis,
             room,
@@ -164,7 +166,7 @@ impl Master {
         pivot_keeps_width();
         run_keeps();
         some_row_bounds();
-        rows_are_lowest();
+
         let (made, solved) = run(&mut self.rows, &mut self.basis, &mut self.room, pivots);
         self.made = made;
         if let Solved::Overflow(fault) = solved {
@@ -222,6 +224,8 @@ impl Master {
             IfOk result (λ z. IsUpTo (z.1 *ℤ pos BIG_M) z.0) }
     {
         optimal_prices();
+        duals_stand();
+        places_are();
         self.dual_of(Place::Shortage(i))
     }
 
@@ -235,6 +239,8 @@ impl Master {
             IfOk result (λ z. IsUpTo (z.1 *ℤ pos BIG_M) z.0) }
     {
         optimal_prices();
+        duals_stand();
+        places_are();
         self.dual_of(Place::Missed(k, i))
     }
 }

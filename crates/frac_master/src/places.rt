@@ -2,7 +2,7 @@
 
 ghost use Rattle.std.specs.Prelude.{◌≡◌, ◌≤◌, ◌++◌, ◌<◌, ◌+◌, ◌*◌, [], ◌∷◌, ℕ, IfOk, filter, flat_map, map, not, length};
 ghost use Rattle.std.specs.List.{range_with_len};
-ghost use Rattle.crew_terms.specs.Limits.{has_required, tasks_in, teams_in};
+ghost use Rattle.crew_terms.specs.Limits.{has_required, is_required as required_pair, tasks_in, teams_in};
 ghost use Rattle.crew_terms.specs.Minutes.{required_teams};
 ghost use Rattle.crew_terms.specs.declared.TheConstants.{MOST_TASKS, MOST_TEAMS};
 ghost use Rattle.search_terms.specs.Opening.{places, required_pairs, teams_for};
@@ -50,6 +50,16 @@ fn push_tasks(places: &mut Vec<Place>, limits: &Limits<'_>) -> Result<(), AllocE
     Ok(())
 }
 
+/// Whether the node requires the pair.
+fn is_required(pair: Pair) -> bool
+    ensures { result ≡ required_pair pair }
+{
+    match pair {
+        Pair::Required => true,
+        Pair::Free | Pair::Forbidden => false,
+    }
+}
+
 /// Puts the missed and the repeated parts of the task's required pairs behind these places.
 fn push_pairs_of(
     places: &mut Vec<Place>,
@@ -62,7 +72,7 @@ fn push_pairs_of(
     ensures few { length places.new.items ≤ length places.old.items + 2 * MOST_TEAMS }
 {
     for k in 0..limits.instance().teams() as u32 {
-        if limits.pair(k, j) == Pair::Required {
+        if is_required(limits.pair(k, j)) {
             places.push(Place::Missed(k, j))?;
             places.push(Place::Repeated(k, j))?;
         }

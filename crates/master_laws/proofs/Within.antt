@@ -19,11 +19,11 @@ use Rattle.search_terms.specs.Opening.{places, place_at, basic_at, basic_number,
 use Rattle.search_terms.specs.MasterRun.{MasterRun, IsMasterRun}
 use Rattle.search_terms.specs.MasterRun.MasterRun.{Opens, Pivots, Enters}
 use Rattle.search_terms.specs.Shares.{unassigned_of}
-use Rattle.search_terms.specs.BasicChoice.{AreParts, choice_of, is_unassigned_at}
+use Rattle.search_terms.specs.BasicChoice.{AreWholeParts, choice_of, is_unassigned_at}
 use Rattle.search_terms.specs.declared.TheConstants.{RIGHT, VALUE}
 use Rattle.master_laws.proofs.Below.{below}
 use Rattle.master_laws.proofs.Ring.{not_negative, cancel_up_to, times_up_to, cancel_positive}
-use Rattle.master_laws.proofs.Totals.{total-same, lt_or_last}
+use Rattle.crew_terms.specs.Totals.{total-same, lt_or_last}
 use Rattle.master_laws.proofs.Solutions.{solves_next}
 use Rattle.master_laws.proofs.Entering.{AreWithin, folded, stand_in, solves_unfolded, spike, spike-other, product_plus, product_spike}
 use Rattle.master_laws.proofs.Runs.{of_run}
@@ -338,7 +338,7 @@ pub record AreWithinWhole (n : Limits) (routes : List Route) (whole : ℕ) (x : 
   pub of_tasks : (j : ℕ) → unassigned_of (choice_of n routes whole x) j ≤ whole
 
 pub within_whole : (n : Limits) (routes : List Route) (made : ℕ) (t : Rows) (whole : ℕ) (x : ℕ → ℕ) → IsMasterRun n routes made t
-    → All (λ (r : Route). r.team < teams_in n) routes → AreParts n routes t whole x → AreWithinWhole n routes whole x
+    → All (λ (r : Route). r.team < teams_in n) routes → AreWholeParts n routes t whole x → AreWithinWhole n routes whole x
 within_whole n routes made t whole x run teams a =
     let f = feasible_of n routes made t run in
     let c = cofactors (length t.rows) (row_numbers t) f.basic.positive in

@@ -130,10 +130,10 @@ pub fn rows_are_lowest()
 /// In a run over routes of known teams, no share of a route or of an unassigned task is more than a whole.
 pub fn shares_are_parts()
     ensures routes { (n : Limits) (routes : List Route) (made whole i : ℕ) (t : Rows) (x : ℕ → ℕ) → IsMasterRun n routes made t →
-        All (λ (r : Route). r.team < teams_in n) routes → AreParts n routes t whole x → i < length routes →
+        All (λ (r : Route). r.team < teams_in n) routes → AreWholeParts n routes t whole x → i < length routes →
         x (length (places n) + i) ≤ whole }
     ensures tasks { (n : Limits) (routes : List Route) (made whole j : ℕ) (t : Rows) (x : ℕ → ℕ) → IsMasterRun n routes made t →
-        All (λ (r : Route). r.team < teams_in n) routes → AreParts n routes t whole x →
+        All (λ (r : Route). r.team < teams_in n) routes → AreWholeParts n routes t whole x →
         unassigned_of (choice_of n routes whole x) j ≤ whole }
 {}
 
