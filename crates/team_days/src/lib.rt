@@ -1,0 +1,6 @@
+// The days of the teams in a plan: where a team can take a task more, and that a plan stays legal exactly there.
+#![tactic(auto)]
+
+mod laws;
+
+pub use laws::free_teams_may_begin;
