@@ -1,12 +1,12 @@
 -- a job more: what its teams do then, and when the plan stays feasible
-use Rattle.std.proofs.Common.{◌≡◌, ◌≢◌, ◌≤◌, ◌<◌, ◌⊎◌, inl, inr, ℕ, length, get_or, set, Option, None, Some, arith, refl, sym, subst, ap, ◌∙◌, get_or-set_same, get_or-set_other}
+use Rattle.std.proofs.Common.{◌≡◌, ◌≢◌, ◌≤◌, ◌<◌, ◌⊎◌, inl, inr, ℕ, length, None, Some, arith, refl, sym, subst, ap, ◌∙◌, get_or-set_same, get_or-set_other}
 use Rattle.std.specs.Prelude.{Contains, ◌↔◌}
 use Rattle.std.proofs.Math.ListN.{length-set}
 use Rattle.std.proofs.lemmas.Bool.{cases_order}
 use Rattle.crew_terms.specs.Instance.{Instance, CanFollow}
 use Rattle.crew_terms.specs.Plan.{Plan, Job, job_of, Does}
 use Rattle.crew_terms.specs.Legal.{IsJob, IsFeasible, IsLegal, IsPacked}
-use Rattle.team_days.specs.Free.{IsFreeFor, IsLastBefore, IsFirstAfter}
+use Rattle.team_days.specs.Free.{IsLastBefore, IsFirstAfter}
 use Rattle.team_days.specs.Adding.{AreFree, FitsNowhere, IsAddition, with_job}
 
 module _ (p : Plan) (j : ℕ) (job : Job) (l : j < length p) (none : job_of p j ≡ None) where

@@ -2,5 +2,7 @@
 #![tactic(auto)]
 
 mod laws;
+mod obstacles;
 
 pub use laws::free_teams_may_begin;
+pub use obstacles::{Obstacle, obstacle_at, obstacle_in};
