@@ -1,11 +1,14 @@
 -- a job more: what its teams do then, and when the plan stays feasible
-use Rattle.std.proofs.Common.{◌≡◌, ◌≢◌, ◌≤◌, ◌<◌, ◌⊎◌, inl, inr, ℕ, length, None, Some, arith, refl, sym, subst, ap, ◌∙◌, get_or-set_same, get_or-set_other}
-use Rattle.std.specs.Prelude.{Contains, ◌↔◌}
+use Rattle.std.proofs.Common.{◌≡◌, ◌≢◌, ◌≤◌, ◌<◌, ◌⊎◌, inl, inr, ℕ, length, Option, None, Some, arith, refl, sym, subst, ap, ◌∙◌, get_or-set_same, get_or-set_other, List, ◌+◌, cond}
+use Rattle.std.specs.Prelude.{Contains, ◌↔◌, is_none}
 use Rattle.std.proofs.Math.ListN.{length-set}
 use Rattle.std.proofs.lemmas.Bool.{cases_order}
+use Rattle.std.proofs.lemmas.List.Sums.{sum_by-set}
 use Rattle.crew_terms.specs.Instance.{Instance, CanFollow}
-use Rattle.crew_terms.specs.Plan.{Plan, Job, job_of, Does}
+use Rattle.crew_terms.specs.Plan.{Plan, Job, job_of, Does, unassigned_count}
 use Rattle.crew_terms.specs.Legal.{IsJob, IsFeasible, IsLegal, IsPacked}
+use Rattle.crew_instance.specs.Turns.{AreTurns}
+use Rattle.crew_instance.specs.declared.turns.Turn.{Turn}
 use Rattle.team_days.specs.Free.{IsLastBefore, IsFirstAfter}
 use Rattle.team_days.specs.Adding.{AreFree, FitsNowhere, IsAddition, with_job}
 
@@ -47,6 +50,19 @@ module _ (p : Plan) (j : ℕ) (job : Job) (l : j < length p) (none : job_of p j 
           inl (record { task = same; start = sym f ∙ ap (λ (o : Job). o.start) y; team = subst (λ (o : Job). Contains o.teams k) y m })
       at (inr (inl a)) = inr (old (λ same. omega arith))
       at (inr (inr a)) = inr (old (λ same. omega arith))
+
+  -- who is not one of the job's teams does what it did
+  pub other_day : (k n : ℕ) (vs : List Turn) → (Contains job.teams k → ⊥) → AreTurns p k n vs → AreTurns (with_job p j job) k n vs
+  other_day k n vs other are = record {
+    few = are.few;
+    order = are.order;
+    done = λ v c. let d = are.done v c in (does_old k v.task v.start d.0, d.1);
+    all = λ h s m d. are.all h s m (old h s (does_cases k h s d));
+  }
+    where
+      old : (h s : ℕ) → IsNew k h s ⊎ Does p k h s → Does p k h s
+      old h s (inl new) = absurd (other new.team)
+      old h s (inr d) = d
 
   module _ (i : Instance) where
     pub free_if_feasible : IsFeasible i (with_job p j job) → AreFree i p j job
@@ -134,3 +150,11 @@ module _ (i : Instance) (p : Plan) where
         let addition : IsAddition i p j job = record { task = task; unassigned = none; window = good.window; list = good.list } in
         nowhere j job addition ((legal_law j job addition legal).0 is)),
   )
+
+-- with a job in the place of nothing, one task less is unassigned
+pub one_less : (p : Plan) (j : ℕ) (job : Job) → j < length p → job_of p j ≡ None → unassigned_count (with_job p j job) + 1 ≡ unassigned_count p
+one_less p j job l none =
+    let one : Option Job → ℕ = λ o. cond (is_none o) 1 0 in
+    let e : unassigned_count (with_job p j job) + one (job_of p j) ≡ unassigned_count p + 0 = sum_by-set one p j (Some job) None l in
+    let f : unassigned_count (with_job p j job) + 1 ≡ unassigned_count p + 0 = subst (λ (o : Option Job). unassigned_count (with_job p j job) + one o ≡ unassigned_count p + 0) none e in
+    omega arith

@@ -1,10 +1,10 @@
 -- the turns of a team on both sides of a minute
 use Rattle.std.proofs.Common.{◌≡◌, ◌≤◌, ◌<◌, ◌-◌, ◌⊎◌, inl, inr, ℕ, List, length, get_or, Option, None, Some, arith, sym, ap, ◌∙◌}
-use Rattle.std.specs.Prelude.{All, MatchOption}
+use Rattle.std.specs.Prelude.{All, Contains, IfSome, MatchOption}
 use Rattle.std.specs.List.Sorted.{IsNonDecreasingBy}
 use Rattle.std.proofs.lemmas.Bool.{cases_lt}
 use Rattle.std.proofs.lemmas.List.{get_or_default, get_or_past}
-use Rattle.std.proofs.lemmas.List.Elements.{Contains-get_or}
+use Rattle.std.proofs.lemmas.List.Elements.{Contains-get_or, All-contains}
 use Rattle.crew_terms.specs.Instance.{Instance}
 use Rattle.crew_terms.specs.Plan.{Plan, job_of, Does}
 use Rattle.crew_terms.specs.Legal.{IsFeasible}
@@ -12,7 +12,7 @@ use Rattle.crew_terms.specs.Verdict.{IsBefore}
 use Rattle.crew_instance.specs.Turns.{AreTurns}
 use Rattle.crew_instance.specs.declared.turns.Turn.{Turn}
 use Rattle.team_days.specs.Free.{IsLastBefore}
-use Rattle.team_days.specs.Obstacles.{IsCut, IsNextFrom, IsTurnOf}
+use Rattle.team_days.specs.Obstacles.{IsCut, IsDay, IsNextFrom, IsTurnOf}
 
 abbrev pub turn : ℕ → ℕ → Turn
 turn h s = record { start = s; task = h }
@@ -41,6 +41,11 @@ turns_known i p k n vs feasible are x d l = known (get_or vs x d) (are.done (get
       task = let a = task_known p k v.task v.start (job, e, f, m) in let b = feasible.whole in omega arith;
       window = let late = (feasible.jobs v.task job e).window.late in omega arith;
     }
+
+-- and so is one of them, if there is one
+pub turn_known : (i : Instance) (k : ℕ) (vs : List Turn) (o : Option Turn) → IsDay i k vs → IfSome o (Contains vs) → IfSome o (IsTurnOf i)
+turn_known i k vs None day listed = tt
+turn_known i k vs (Some v) (p, feasible, are) listed = All-contains (IsTurnOf i) vs v (turns_known i p k (length p) vs feasible are) listed
 
 no_later : (v w : Turn) → IsBefore v.start v.task w.start w.task → v.start ≤ w.start
 no_later v w (inl l) = omega arith

@@ -1,8 +1,9 @@
 -- what keeps a team from taking a task into its day
 use Rattle.std.specs.Prelude.{◌≡◌, ◌≤◌, ◌<◌, ◌⊎◌, ℕ, List, length, slice_index_or}
 use Rattle.crew_terms.specs.Instance.{Instance, task_of, IsQualified, IsInShift, CanFollow}
-use Rattle.crew_terms.specs.Legal.{IsFit}
+use Rattle.crew_terms.specs.Legal.{IsFit, IsFeasible}
 use Rattle.crew_terms.specs.Plan.{Plan, Does}
+use Rattle.crew_instance.specs.Turns.{AreTurns}
 use Rattle.crew_instance.specs.declared.turns.Turn.{Turn}
 use Rattle.team_days.specs.declared.obstacles.Obstacle.{Obstacle}
 use Rattle.team_days.specs.declared.obstacles.Obstacle.TheVariants.{Free, Skill, Shift, Busy}
@@ -23,6 +24,10 @@ pub data IsObstacle (i : Instance) (p : Plan) (k j t : ℕ) (told : Obstacle) : 
 pub record IsTurnOf (i : Instance) (v : Turn) : Type 0 where
   pub task : v.task < length i.tasks
   pub window : v.start ≤ (task_of i v.task).latest
+
+-- the turns are what team k does in a feasible plan, in order
+abbrev pub IsDay : Instance → ℕ → List Turn → Type 0
+IsDay i k turns = (p : Plan) × IsFeasible i p × AreTurns p k (length p) turns
 
 -- of what team k begins at minute t or later, this is the first
 pub record IsNextFrom (p : Plan) (k t : ℕ) (v : Turn) : Type 0 where

@@ -4,5 +4,5 @@
 mod laws;
 mod obstacles;
 
-pub use laws::free_teams_may_begin;
-pub use obstacles::{Obstacle, obstacle_at, obstacle_in};
+pub use laws::{free_teams_may_begin, jobs_stay, other_days_stay};
+pub use obstacles::{Obstacle, is_free_in, obstacle_at, obstacle_in};

@@ -1,11 +1,11 @@
 // What keeps a team from taking a task into its day.
-ghost use Rattle.std.specs.Prelude.{◌≡◌, ◌≢◌, ◌≤◌, ◌<◌, ◌↔◌, ℕ, length, All, Contains, IfSome, IsTrue, MatchOption};
+ghost use Rattle.std.specs.Prelude.{◌≡◌, ◌≢◌, ◌≤◌, ◌<◌, ◌↔◌, ℕ, length, Contains, IfSome, IsTrue, MatchOption};
 ghost use Rattle.crew_terms.specs.Instance.{CanFollow, IsInShift, task_of};
 ghost use Rattle.crew_terms.specs.Legal.{IsFeasible};
 ghost use Rattle.crew_terms.specs.Plan.{Plan as Jobs, Does};
 ghost use Rattle.crew_instance.specs.Turns.{AreTurns};
 ghost use Rattle.team_days.specs.Free.{IsFreeFor, IsLastBefore};
-ghost use Rattle.team_days.specs.Obstacles.{IsCut, IsNextFrom, IsObstacle, IsTurnOf};
+ghost use Rattle.team_days.specs.Obstacles.{IsCut, IsDay, IsNextFrom, IsObstacle, IsTurnOf};
 
 use arrayvec::ArrayVec;
 use crew_instance::{Instance, Plan, Turn, fill_turns};
@@ -21,6 +21,18 @@ pub enum Obstacle {
     Shift,
     /// The team begins this task then, comes too late from it, or would come too late to it.
     Busy(u32),
+}
+
+impl Obstacle {
+    /// Whether nothing keeps the team from it.
+    pub fn is_free(self) -> bool
+        ensures { IsTrue result ↔ (self ≡ Obstacle.Free) }
+    {
+        match self {
+            Obstacle::Free => true,
+            Obstacle::Skill | Obstacle::Shift | Obstacle::Busy(_) => false,
+        }
+    }
 }
 
 /// Whether the team can come from home and be back in its shift.
@@ -117,13 +129,13 @@ fn goes_on_late(instance: &Instance, turn: Turn, next: Option<Turn>) -> Option<u
     }
 }
 
-/// What keeps team `k` from beginning task `j` at minute `t`, where the turns are all that the team does in a plan. Each
-/// of them is found by halving the list.
+/// What keeps team `k` from taking task `j` at minute `t` into its day, where the turns are what the team does in a
+/// feasible plan, in order. Those on both sides of the minute are found by halving the list.
 pub fn obstacle_in(instance: &Instance, turns: &[Turn], k: u32, j: u32, t: u32) -> Obstacle
     requires team { k < length instance.now.teams }
     requires task { j < length instance.now.tasks }
     requires window { t ≤ (task_of instance.now j).latest }
-    requires turns { All (IsTurnOf instance.now) turns.now }
+    requires day { IsDay instance.now k turns.now }
     ensures { (p : Jobs) → IsFeasible instance.now p → AreTurns p k (length p) turns.now → IsObstacle instance.now p k j t result }
 {
     if !instance.qualified(k, j) {
@@ -144,6 +156,18 @@ pub fn obstacle_in(instance: &Instance, turns: &[Turn], k: u32, j: u32, t: u32) 
         return Obstacle::Busy(h);
     }
     Obstacle::Free
+}
+
+/// Whether team `k` can take task `j` at minute `t` into its day, where the turns are what the team does in a feasible
+/// plan, in order.
+pub fn is_free_in(instance: &Instance, turns: &[Turn], k: u32, j: u32, t: u32) -> bool
+    requires team { k < length instance.now.teams }
+    requires task { j < length instance.now.tasks }
+    requires window { t ≤ (task_of instance.now j).latest }
+    requires day { IsDay instance.now k turns.now }
+    ensures { (p : Jobs) → IsFeasible instance.now p → AreTurns p k (length p) turns.now → IsTrue result ↔ IsFreeFor instance.now p k j t }
+{
+    obstacle_in(instance, turns, k, j, t).is_free()
 }
 
 /// What keeps team `k` from taking task `j` at minute `t` into its day in a feasible plan: the first of a skill that it

@@ -1,16 +1,11 @@
-use Rattle.std.proofs.Common.{length, List, subst, sym}
-use Rattle.std.specs.Prelude.{All}
+use Rattle.std.proofs.Common.{length, subst, sym}
 use Rattle.crew_instance.specs.Turns.{AreTurns}
-use Rattle.crew_instance.specs.declared.turns.Turn.{Turn}
-use Rattle.team_days.specs.Obstacles.{IsTurnOf}
-use Rattle.team_days.proofs.Day.{turns_known}
 use Rattle.team_days.proofs.Told.{tells_free}
 use Rattle.team_days.proofs.obstacles.obstacle_at.Goals as goal
 
-pub obstacle_in-requires-clause-turns : goal.obstacle_in-requires-clause-turns
-obstacle_in-requires-clause-turns c =
-    let known = turns_known c.args.instance.now c.args.plan.now c.args.k _ _ c.requires.plan c.fill_turns.ensures in
-    subst (λ (vs : List Turn). All (IsTurnOf c.args.instance.now) vs) (sym c.as_slice.ensures.value) known
+pub obstacle_in-requires-clause-day : goal.obstacle_in-requires-clause-day
+obstacle_in-requires-clause-day c =
+    (c.args.plan.now, c.requires.plan, subst (AreTurns c.args.plan.now c.args.k (length c.args.plan.now)) (sym c.as_slice.ensures.value) c.fill_turns.ensures)
 
 pub returns-clause-obstacle : goal.returns-clause-obstacle
 returns-clause-obstacle c =

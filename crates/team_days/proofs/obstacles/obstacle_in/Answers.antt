@@ -1,6 +1,7 @@
 use Rattle.std.proofs.Common.{refl}
 use Rattle.crew_terms.specs.Legal.{IsFit}
 use Rattle.team_days.specs.Obstacles.{HasNone}
+use Rattle.team_days.proofs.Day.{turn_known}
 use Rattle.team_days.proofs.Told.{begins_then, comes_late, goes_on_late, idle_from, comes_from, goes_on_from}
 use Rattle.team_days.proofs.obstacles.obstacle_in.Goals as goal
 
@@ -38,3 +39,9 @@ returns c = λ p feasible are.
       comes = comes_from c.args.instance.now p c.args.k c.args.j c.args.t feasible c.neighbours-before.result.0 (c.neighbours-before.ensures.before p c.args.k are) c.in_default-comes_late.ensures;
       goes_on = goes_on_from c.args.instance.now p c.args.k c.args.j c.args.t feasible c.neighbours-before.result.1 next c.in_default.ensures c.in_default-goes_on_late.ensures;
     }) refl
+
+pub comes_late-requires-clause-before : goal.comes_late-requires-clause-before
+comes_late-requires-clause-before c = turn_known c.args.instance.now c.args.k c.args.turns.now c.neighbours-before.result.0 c.requires.day c.neighbours-before.ensures.listed
+
+pub goes_on_late-requires-clause-next : goal.goes_on_late-requires-clause-next
+goes_on_late-requires-clause-next c = turn_known c.args.instance.now c.args.k c.args.turns.now c.neighbours-before.result.1 c.requires.day c.neighbours-before.ensures.next_listed
