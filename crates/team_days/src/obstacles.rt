@@ -69,7 +69,7 @@ fn turns_before(turns: &[Turn], t: u32) -> usize
 }
 
 /// The last of a team's turns before the minute, and the first at the minute or after it.
-fn neighbours(turns: &[Turn], t: u32) -> (Option<Turn>, Option<Turn>)
+pub(crate) fn neighbours(turns: &[Turn], t: u32) -> (Option<Turn>, Option<Turn>)
     ensures before { (p : Jobs) (k : ℕ) → AreTurns p k (length p) turns.now →
         MatchOption result.0 ((h s : ℕ) → Does p k h s → t ≤ s) (λ v. IsLastBefore p k t v.task v.start) }
     ensures next { (p : Jobs) (k : ℕ) → AreTurns p k (length p) turns.now →
