@@ -4,14 +4,14 @@ use Rattle.crew_terms.specs.declared.Choice.{Choice}
 use Rattle.branch_tree.specs.declared.tree.Node.{Node}
 use Rattle.branch_tree.specs.declared.tree.Node.TheVariants as nodes
 use Rattle.crew_terms.specs.Branches.{LeafNode, SplitNode}
-use Rattle.branch_tree.specs.Trees.{BranchTree, Leaf, preorder}
+use Rattle.branch_tree.specs.Trees.{BranchTree, ClaimedLeaf, preorder}
 
 -- the trees are the same, and so is what comes behind their nodes
 record AreSame (t u : BranchTree) (xs ys : List Node) : Type 0 where
   tree : t ≡ u
   rest : xs ≡ ys
 
-same_leaves : (a b : Leaf) (xs ys : List Node) → nodes.Leaf a.state a.prices ∷ xs ≡ nodes.Leaf b.state b.prices ∷ ys → AreSame (LeafNode a) (LeafNode b) xs ys
+same_leaves : (a b : ClaimedLeaf) (xs ys : List Node) → nodes.Leaf a.state a.prices ∷ xs ≡ nodes.Leaf b.state b.prices ∷ ys → AreSame (LeafNode a) (LeafNode b) xs ys
 same_leaves a b xs ys e =
     let s : a.state ≡ b.state = cc in
     let p : a.prices ≡ b.prices = cc in

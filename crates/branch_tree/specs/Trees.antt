@@ -1,21 +1,22 @@
 -- branch trees of which each leaf has prices, their nodes in preorder, and their numbers
 use Rattle.std.specs.Prelude.{◌≡◌, ◌+◌, ℕ, List, [], ◌∷◌, ◌++◌, Option, None, Some, max}
-use Rattle.crew_terms.specs.Branches.{Branches, LeafNode, SplitNode, splits, depth, leaf_sum}
+use Rattle.crew_terms.specs.Branches.{Branches, LeafNode, SplitNode, Claim, Bare, Open, Closed, splits, depth, leaf_sum, closed_in, left_open_in}
 use Rattle.crew_terms.specs.Leaf.{Prices}
 use Rattle.crew_terms.specs.declared.Choice.{Choice}
 use Rattle.crew_terms.specs.declared.TreeCounts.{TreeCounts}
 use Rattle.branch_tree.specs.declared.tree.LeafState.{LeafState}
-use Rattle.branch_tree.specs.declared.tree.LeafState.TheVariants.{Bare, Open, Closed}
+use Rattle.branch_tree.specs.declared.tree.LeafState.TheVariants as states
 use Rattle.branch_tree.specs.declared.tree.Node.{Node}
 use Rattle.branch_tree.specs.declared.tree.Node.TheVariants as nodes
 
 -- what a leaf claims, and its prices
-pub record Leaf : Type 0 where
+pub record ClaimedLeaf : Type 0 where
   pub state : LeafState
   pub prices : Prices
 
+-- a branch tree whose leaves have prices
 abbrev pub BranchTree : Type 0
-BranchTree = Branches Choice Leaf
+BranchTree = Branches Choice ClaimedLeaf
 
 -- the nodes: each split, then its first child, and then its second
 abbrev pub preorder : BranchTree → List Node
@@ -28,30 +29,27 @@ IsPreorder ns = (t : BranchTree) × (ns ≡ preorder t)
 
 -- ---- numbers
 
-abbrev pub closed_in : LeafState → ℕ
-closed_in Bare = 0
-closed_in Open = 0
-closed_in Closed = 1
-
-abbrev pub left_open_in : LeafState → ℕ
-left_open_in Bare = 1
-left_open_in Open = 1
-left_open_in Closed = 0
+-- what a leaf in this state claims, without its prices
+abbrev pub claim_of : LeafState → Claim (Unit {0})
+claim_of states.Bare = Bare
+claim_of states.Open = Open tt
+claim_of states.Closed = Closed tt
 
 -- the closed leaves
 abbrev pub closed : BranchTree → ℕ
-closed t = leaf_sum (λ (leaf : Leaf). closed_in leaf.state) t
+closed t = leaf_sum (λ (leaf : ClaimedLeaf). closed_in (claim_of leaf.state)) t
 
 -- the leaves that are bare or open
 abbrev pub left_open : BranchTree → ℕ
-left_open t = leaf_sum (λ (leaf : Leaf). left_open_in leaf.state) t
+left_open t = leaf_sum (λ (leaf : ClaimedLeaf). left_open_in (claim_of leaf.state)) t
 
+-- the numbers of a tree
 abbrev pub counts_of : BranchTree → TreeCounts
 counts_of t = record { splits = splits t; closed = closed t; left_open = left_open t; depth = depth t }
 
 -- these are the nodes of a tree with this number
-abbrev pub IsNumberOf : (BranchTree → ℕ) → List Node → ℕ → Type 0
-IsNumberOf f ns n = (t : BranchTree) × (ns ≡ preorder t) × (n ≡ f t)
+abbrev pub IsCountIn : (BranchTree → ℕ) → List Node → ℕ → Type 0
+IsCountIn f ns n = (t : BranchTree) × (ns ≡ preorder t) × (n ≡ f t)
 
 -- these are the nodes of a tree with these numbers
 abbrev pub AreCountsOf : List Node → TreeCounts → Type 0
@@ -66,7 +64,7 @@ state_of (nodes.Leaf state prices) = Some state
 abbrev pub with_leaf : LeafState → ℕ → TreeCounts → TreeCounts
 with_leaf state level c = record {
   splits = c.splits;
-  closed = c.closed + closed_in state;
-  left_open = c.left_open + left_open_in state;
+  closed = c.closed + closed_in (claim_of state);
+  left_open = c.left_open + left_open_in (claim_of state);
   depth = max c.depth level;
 }

@@ -2,7 +2,7 @@
 ghost use Rattle.std.specs.Prelude.{◌≡◌, ◌≤◌, ◌<◌, ◌+◌, ◌*◌, length, reverse, slice_index_or};
 ghost use Rattle.crew_terms.specs.Branches.{depth, splits};
 ghost use Rattle.crew_terms.specs.declared.TheConstants.{MOST_NODES};
-ghost use Rattle.branch_tree.specs.Trees.{AreCountsOf, IsNumberOf, IsPreorder, closed, left_open, state_of, with_leaf};
+ghost use Rattle.branch_tree.specs.Trees.{AreCountsOf, IsCountIn, IsPreorder, closed, left_open, state_of, with_leaf};
 ghost use Rattle.branch_tree.specs.Levels.{next_node};
 
 use arrayvec::ArrayVec;
@@ -148,7 +148,7 @@ impl Tree {
 
     /// How many splits there are.
     pub fn splits(&self) -> u32
-        ensures number { IsNumberOf splits self.now result }
+        ensures number { IsCountIn splits self.now result }
         ensures few { result ≤ MOST_NODES }
     {
         self.counts.splits
@@ -156,7 +156,7 @@ impl Tree {
 
     /// How many leaves are closed.
     pub fn closed(&self) -> u32
-        ensures number { IsNumberOf closed self.now result }
+        ensures number { IsCountIn closed self.now result }
         ensures few { result ≤ MOST_NODES + 1 }
     {
         self.counts.closed
@@ -164,7 +164,7 @@ impl Tree {
 
     /// How many leaves are bare or open.
     pub fn left_open(&self) -> u32
-        ensures number { IsNumberOf left_open self.now result }
+        ensures number { IsCountIn left_open self.now result }
         ensures few { result ≤ MOST_NODES + 1 }
     {
         self.counts.left_open
@@ -172,7 +172,7 @@ impl Tree {
 
     /// The most splits that are above a leaf.
     pub fn depth(&self) -> u32
-        ensures number { IsNumberOf depth self.now result }
+        ensures number { IsCountIn depth self.now result }
         ensures few { result ≤ MOST_NODES }
     {
         self.counts.depth

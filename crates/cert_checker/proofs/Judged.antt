@@ -2,11 +2,11 @@
 use Rattle.std.proofs.Common.{◌≡◌, ◌+◌, ℕ, refl}
 use Rattle.crew_terms.specs.Words.{Words}
 use Rattle.dossier_terms.specs.Dossier.{Dossier}
-use Rattle.dossier_terms.specs.Reading.{Reading, Form, Said as Answer, More as Goes, Whole as Ends, No as Refuses}
+use Rattle.dossier_terms.specs.Reading.{Reading, Form, Answer, More as Goes, Whole as Ends, No as Refuses}
 use Rattle.dossier_terms.specs.Table.{Says}
 use Rattle.cert_checker.specs.Due.{Tells}
 use Rattle.cert_checker.specs.Checked.{IsEnded, IsOpen, IsJudged, IsReached, IsTrueYes, said_of, StandsAfter}
-use Rattle.cert_checker.specs.Kept.{IsSettled, state_in}
+use Rattle.cert_checker.specs.Kept.{IsSettled, kept_state}
 use Rattle.cert_checker.specs.Said.{IsSaidOf}
 use Rattle.cert_checker.specs.declared.checker.Said.{Said}
 use Rattle.cert_checker.specs.declared.checker.State.{State}
@@ -19,7 +19,7 @@ pub record IsAnswered (reading : Reading) (words : Words) (number : ℕ) (step :
   pub answer : Answer
   pub is : Says reading words answer
   pub says : said ≡ said_of number answer
-  pub stands : StandsAfter number answer (state_in number step)
+  pub stands : StandsAfter number answer (kept_state number step)
 
 -- what is told of a step is the answer of the table
 pub answered : (reading : Reading) (words : Words) (number : ℕ) (step : Step) (said : Said) → Tells (Says reading words) step → IsSaidOf number step said
@@ -32,7 +32,7 @@ answered reading words number (No reason) said tells says = record { answer = Re
 pub settles : (reading : Reading) (words : Words) (number : ℕ) (step : Step) → IsReached reading → Tells (Says reading words) step
     → ((d n : Reading) (ws : Words) → IsReached d → Says d ws (Goes n) → IsReached n)
     → ((d : Reading) (ws : Words) (w : Dossier) → IsReached d → Says d ws (Ends w) → IsTrueYes w)
-    → IsSettled (state_in number step)
+    → IsSettled (kept_state number step)
 settles reading words number (More next) reached tells goes ends = (tells.0, goes reading tells.0 words reached tells.1, tells.2)
 settles reading words number (Whole ended) reached tells goes ends = (tells.0, tells.2, ends reading words tells.0 reached tells.1)
 settles reading words number (No reason) reached tells goes ends = tt
@@ -41,7 +41,7 @@ settles reading words number (No reason) reached tells goes ends = tt
 pub judged : (lines : ℕ) (reading : Reading) (words : Words) (step : Step) (said : Said) → IsReached reading → Tells (Says reading words) step
     → ((d : Reading) (ws : Words) (a b : Answer) → IsReached d → Says d ws a → Says d ws b → b ≡ a)
     → IsSaidOf (lines + 1) step said
-    → IsJudged lines reading words said (record { lines = lines + 1; at = state_in (lines + 1) step })
+    → IsJudged lines reading words said (record { lines = lines + 1; at = kept_state (lines + 1) step })
 judged lines reading words step said reached tells one says = let it = answered reading words (lines + 1) step said tells says in record {
   answer = it.answer;
   is = it.is;

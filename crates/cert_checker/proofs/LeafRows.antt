@@ -12,7 +12,7 @@ use Rattle.dossier_terms.specs.declared.Reason.TheVariants as reasons
 use Rattle.dossier_terms.specs.Dossier.{Written, Leaf}
 use Rattle.crew_terms.specs.Branches.{Open, Closed}
 use Rattle.dossier_terms.specs.Lines.{end_line, counts_of}
-use Rattle.dossier_terms.specs.Reading.{Reading, Said, More as Goes, Whole as Ends, No as Refuses, leaf_done, whole, Above, LeafSite}
+use Rattle.dossier_terms.specs.Reading.{Reading, Answer, More as Goes, Whole as Ends, No as Refuses, leaf_done, whole, Above, LeafSite}
 use Rattle.crew_terms.specs.declared.TreeCounts.{TreeCounts}
 use Rattle.dossier_terms.specs.Rules.{Holds, Fails}
 use Rattle.dossier_terms.specs.Table.{Finish, Says, end_row}
@@ -26,8 +26,8 @@ use Rattle.leaf_check.specs.declared.reader.Goal.{Goal}
 use Rattle.leaf_check.specs.declared.reader.LeafReader.{LeafReader}
 use Rattle.leaf_check.specs.declared.reader.LeafStep.TheVariants as steps
 use Rattle.tree_walk.specs.Way.{IsAt, IsLeaf}
-use Rattle.cert_checker.specs.Due.{HasLeafRoom, IsInLeaf, IsNode, IsStep, draft_of, site_of}
-use Rattle.cert_checker.specs.declared.due.Draft.{Draft as Held}
+use Rattle.cert_checker.specs.Due.{HasLeafRoom, IsInLeaf, IsAtNode, IsStep, draft_of, site_of}
+use Rattle.cert_checker.specs.declared.due.BegunDossier.{BegunDossier as Held}
 use Rattle.cert_checker.specs.declared.due.TreeDraft.{TreeDraft}
 use Rattle.cert_checker.specs.declared.due.Due.TheVariants.{End as EndLine}
 use Rattle.cert_checker.specs.declared.due.Step.TheVariants.{Whole, No}
@@ -35,7 +35,7 @@ use Rattle.cert_checker.proofs.NodeRows.{at_node, limits_at, moved, written_back
 
 -- ---- what the reader of a leaf tells
 
-module _ (a : LeafSite) (Rules : Said → Type 0) (new : LeafReader) where
+module _ (a : LeafSite) (Rules : Answer → Type 0) (new : LeafReader) where
   pub told_more : LeafTells a Rules steps.More new → (next : Reading) × Rules (Goes next) × StandsFor a new next
   told_more (TellsMore next says stands is) = (next, says, stands)
   told_more (TellsDone leaf says is) = absurd (cc)
@@ -70,17 +70,17 @@ rested_back tree held draft rest e f = written_back tree held draft rest held.wa
 module _ (tree : TreeDraft) (t : Trail) (rest : Rest) (woke : t ≡ trail_over tree.draft.value.base.instance tree.draft.value.limits)
     (back : trail_over t.limits.instance rest ≡ t) (over : IsRestOver t.limits.instance rest) where
   -- the walk stands where it stood
-  pub stays : (fs : List Above) → IsNode tree fs → IsNode (rested tree rest) fs
+  pub stays : (fs : List Above) → IsAtNode tree fs → IsAtNode (rested tree rest) fs
   stays fs node = at_node tree t t tree.walk rest woke refl back over fs node.claimed
       (subst (λ x. IsAt (root_limits tree.draft.value.base.instance) x tree.walk fs) (sym woke) node.at)
 
   -- the goal is that of the place
-  pub goal_at : (is_closed : Bool) (goal : Goal) (fs : List Above) → IsNode tree fs → goal.bound ≡ tree.draft.value.bound → goal.unassigned ≡ unassigned_count tree.draft.value.plan → goal.is_closed ≡ is_closed
+  pub goal_at : (is_closed : Bool) (goal : Goal) (fs : List Above) → IsAtNode tree fs → goal.bound ≡ tree.draft.value.bound → goal.unassigned ≡ unassigned_count tree.draft.value.plan → goal.is_closed ≡ is_closed
       → IsGoalAt (site_of tree fs is_closed) t.limits goal
   goal_at is_closed goal fs node bound count kind = record { limits = sym (limits_at tree t fs woke node); bound = bound; unassigned = count; is_closed = kind }
 
   -- one more line of the leaf is due
-  pub in_leaf : (new : TreeDraft) → new ≡ rested tree rest → (is_closed : Bool) (reader : LeafReader) (fs : List Above) (next : Reading) → IsNode tree fs → HasLeafRoom tree is_closed
+  pub in_leaf : (new : TreeDraft) → new ≡ rested tree rest → (is_closed : Bool) (reader : LeafReader) (fs : List Above) (next : Reading) → IsAtNode tree fs → HasLeafRoom tree is_closed
       → IsReady t.limits reader → StandsFor (site_of tree fs is_closed) reader next → IsInLeaf new reader is_closed fs next
   in_leaf new is is_closed reader fs next node room ready stands = subst (λ (x : TreeDraft). IsInLeaf x reader is_closed fs next) (sym is) (record {
     node = stays fs node;

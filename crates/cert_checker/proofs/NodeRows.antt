@@ -11,7 +11,7 @@ use Rattle.dossier_terms.specs.declared.Reason.TheVariants as reasons
 use Rattle.dossier_terms.specs.Dossier.{Leaf}
 use Rattle.crew_terms.specs.Branches.{LeafNode, Claim, Bare, InFirst, closed, left_open, split_of, side_of, frame_sum}
 use Rattle.dossier_terms.specs.Lines.{window_line, pair_line, bare_line, open_line, closed_line}
-use Rattle.dossier_terms.specs.Reading.{Reading, Said, More as Goes, No as Refuses, Nodes, Ends, Prices, node_done, Begun, Above}
+use Rattle.dossier_terms.specs.Reading.{Reading, Answer, More as Goes, No as Refuses, Nodes, Ends, Prices, node_done, Begun, Above}
 use Rattle.crew_terms.specs.declared.TreeCounts.{TreeCounts}
 use Rattle.crew_terms.specs.Tree.{limits_below, child, CanSplit}
 use Rattle.crew_terms.specs.declared.Choice.{Choice}
@@ -23,31 +23,20 @@ use Rattle.dossier_terms.specs.Rules.{Holds, Fails, Spelled, Then, Else, On, Beg
 use Rattle.dossier_terms.specs.Table.{IsCounts, Says, node_row, after_bare, after_leaf, HasSplitRoom, after_split, split_fault}
 use Rattle.node_limits.specs.Trail.{Trail}
 use Rattle.node_limits.specs.Rest.{Rest, IsRestOver, trail_over}
-use Rattle.tree_walk.specs.Way.{Walked, IsAt, IsSomewhere, IsLeaf, LeavesLeaf, Enters, branch_of}
+use Rattle.tree_walk.specs.Way.{Walked, IsAt, IsLeaf, LeavesLeaf, Enters, branch_of}
 use Rattle.cert_format.specs.Expected.{expect_of}
 use Rattle.cert_format.specs.Lines.{IsFaultOf}
 use Rattle.cert_format.specs.declared.kinds.Expect.TheVariants as expected
 use Rattle.cert_format.specs.declared.kinds.LineFault.{LineFault}
 use Rattle.leaf_check.specs.declared.reader.LeafReader.{LeafReader}
-use Rattle.cert_checker.specs.Due.{Awaits, HasLeafRoom, HasSplitLeft, IsInTree, IsNode, IsReaderFor, IsStep, Tells, draft_of}
-use Rattle.cert_checker.specs.declared.due.Draft.{Draft as Held}
+use Rattle.cert_checker.specs.Due.{Awaits, HasLeafRoom, HasSplitLeft, IsInTree, IsAtNode, IsReaderFor, IsStep, Tells, draft_of}
+use Rattle.cert_checker.specs.declared.due.BegunDossier.{BegunDossier as Held}
 use Rattle.cert_checker.specs.declared.due.TreeDraft.{TreeDraft}
 use Rattle.cert_checker.specs.declared.due.Due.TheVariants.{Node as NodeDue, End as EndDue}
 use Rattle.cert_checker.specs.declared.due.Step.{Step}
 use Rattle.cert_checker.proofs.Steps.{tells_row}
 
 -- ---- where a walk stands
-
--- splits change no instance
-instance_in : (n : Limits) (choice : Choice) (side : Side) → (child n choice side).instance ≡ n.instance
-instance_in n (choices.Window j cut) First = refl
-instance_in n (choices.Window j cut) Second = refl
-instance_in n (choices.Pair k j) First = refl
-instance_in n (choices.Pair k j) Second = refl
-
-pub instance_below : (i : Instance) (fs : List Above) → (limits_below (root_limits i) fs).instance ≡ i
-instance_below i [] = refl
-instance_below i (f ∷ fs) = instance_in (limits_below (root_limits i) fs) (split_of f) (side_of f) ∙ instance_below i fs
 
 -- the tree where the walk went on and the limits with it
 abbrev pub moved : TreeDraft → Rest → Walked → TreeDraft
@@ -68,16 +57,9 @@ pub taken_woke : (tree held : TreeDraft) (draft : Held) (taken : Rest) (t : Trai
 taken_woke tree held draft taken t e f took woke =
     woke ∙ ap (trail_over draft.base.instance) took ∙ ap (λ (d : Held). trail_over d.base.instance d.limits) (f ∙ ap (λ (x : TreeDraft). x.draft.value) e)
 
--- the walk that was taken out of its box stands at a node, by the limits that woke
-pub somewhere : (tree held : TreeDraft) (t : Trail) → held ≡ tree → t ≡ trail_over tree.draft.value.base.instance tree.draft.value.limits → IsInTree tree → IsSomewhere t held.walk
-somewhere tree held t same woke (above, node) =
-    let root = root_limits tree.draft.value.base.instance in
-    let at : IsAt root t tree.walk above = subst (λ x. IsAt root x tree.walk above) (sym woke) node.at in
-    (root, above, subst (λ (x : TreeDraft). IsAt root t x.walk above) (sym same) at)
-
 -- a node of the tree is due, and this is the state of the table
 abbrev pub IsDueAt : TreeDraft → Option (Box LeafReader) → Reading → Type 0
-IsDueAt tree reader r = (above : List Above) × IsNode tree above × IsReaderFor tree.draft.value.base.instance reader × (r ≡ Nodes (draft_of tree.draft.value) tree.claimed above)
+IsDueAt tree reader r = (above : List Above) × IsAtNode tree above × IsReaderFor tree.draft.value.base.instance reader × (r ≡ Nodes (draft_of tree.draft.value) tree.claimed above)
 
 module _ (tree : TreeDraft) (old new : Trail) (to : Walked) (rest : Rest)
     (woke : old ≡ trail_over tree.draft.value.base.instance tree.draft.value.limits) (same : new.limits.instance ≡ old.limits.instance)
@@ -86,7 +68,7 @@ module _ (tree : TreeDraft) (old new : Trail) (to : Walked) (rest : Rest)
   of_instance = same ∙ ap (λ (t : Trail). t.limits.instance) woke
 
   -- the limits at rest are those of the node where the walk stands
-  pub at_node : (gs : List Above) → IsCounts tree.claimed → IsAt (root_limits tree.draft.value.base.instance) new to gs → IsNode (moved tree rest to) gs
+  pub at_node : (gs : List Above) → IsCounts tree.claimed → IsAt (root_limits tree.draft.value.base.instance) new to gs → IsAtNode (moved tree rest to) gs
   at_node gs claimed at =
       let i = tree.draft.value.base.instance in
       record {
@@ -95,12 +77,12 @@ module _ (tree : TreeDraft) (old new : Trail) (to : Walked) (rest : Rest)
         at = subst (λ t. IsAt (root_limits i) t to gs) (sym (subst (λ x. trail_over x rest ≡ new) of_instance back)) at;
       }
 
-  woken : (fs : List Above) → IsNode tree fs → IsAt (root_limits tree.draft.value.base.instance) old tree.walk fs
+  woken : (fs : List Above) → IsAtNode tree fs → IsAt (root_limits tree.draft.value.base.instance) old tree.walk fs
   woken fs node = subst (λ t. IsAt (root_limits tree.draft.value.base.instance) t tree.walk fs) (sym woke) node.at
 
   -- past a leaf the walk stands at the node that is due
   pub left_at : (box : Box TreeDraft) → box.value ≡ moved tree rest to → (reader : Option (Box LeafReader)) (is_closed : Bool) → LeavesLeaf is_closed old tree.walk new to false
-      → IsReaderFor tree.draft.value.base.instance reader → (fs : List Above) (claim : Claim Leaf) → IsNode tree fs → IsLeaf is_closed claim
+      → IsReaderFor tree.draft.value.base.instance reader → (fs : List Above) (claim : Claim Leaf) → IsAtNode tree fs → IsLeaf is_closed claim
       → Awaits (NodeDue box reader) (node_done (draft_of tree.draft.value) tree.claimed fs (LeafNode claim))
   left_at box is reader is_closed leaves for_tree fs claim node kind =
       let p = leaves (root_limits tree.draft.value.base.instance) fs claim (draft_of tree.draft.value) tree.claimed (woken fs node) kind in
@@ -108,7 +90,7 @@ module _ (tree : TreeDraft) (old new : Trail) (to : Walked) (rest : Rest)
 
   -- below a split the walk stands in its first child
   pub entered_at : (box : Box TreeDraft) → box.value ≡ moved tree rest to → (reader : Option (Box LeafReader)) (choice : Choice) → Enters choice old tree.walk new to
-      → IsReaderFor tree.draft.value.base.instance reader → (fs : List Above) → IsNode tree fs
+      → IsReaderFor tree.draft.value.base.instance reader → (fs : List Above) → IsAtNode tree fs
       → Awaits (NodeDue box reader) (Nodes (draft_of tree.draft.value) tree.claimed (InFirst choice ∷ fs))
   entered_at box is reader choice enters for_tree fs node =
       subst (λ t. IsDueAt t reader (Nodes (draft_of tree.draft.value) tree.claimed (InFirst choice ∷ fs))) (sym is)
@@ -118,7 +100,7 @@ module _ (tree : TreeDraft) (old new : Trail) (to : Walked) (rest : Rest)
 pub ended_at : (tree : TreeDraft) (old new : Trail) (to : Walked) (rest : Rest) (box : Box TreeDraft) (seen : TreeCounts) (is_closed : Bool)
     → old ≡ trail_over tree.draft.value.base.instance tree.draft.value.limits → LeavesLeaf is_closed old tree.walk new to true
     → box.value ≡ moved tree rest to → seen ≡ to.seen
-    → (fs : List Above) (claim : Claim Leaf) → IsNode tree fs → IsLeaf is_closed claim
+    → (fs : List Above) (claim : Claim Leaf) → IsAtNode tree fs → IsLeaf is_closed claim
     → Awaits (EndDue box seen) (node_done (draft_of tree.draft.value) tree.claimed fs (LeafNode claim))
 ended_at tree old new to rest box seen is_closed woke leaves is saw fs claim node kind =
     let at : IsAt (root_limits tree.draft.value.base.instance) old tree.walk fs = subst (λ t. IsAt (root_limits tree.draft.value.base.instance) t tree.walk fs) (sym woke) node.at in
@@ -126,22 +108,22 @@ ended_at tree old new to rest box seen is_closed woke leaves is saw fs claim nod
     (p.0, saw ∙ p.2.seen, p.1 ∙ ap (λ (t : TreeDraft). Ends (draft_of t.draft.value) t.claimed p.0) (sym is))
 
 -- the limits that woke are those of the node
-pub limits_at : (tree : TreeDraft) (t : Trail) (fs : List Above) → t ≡ trail_over tree.draft.value.base.instance tree.draft.value.limits → IsNode tree fs
+pub limits_at : (tree : TreeDraft) (t : Trail) (fs : List Above) → t ≡ trail_over tree.draft.value.base.instance tree.draft.value.limits → IsAtNode tree fs
     → t.limits ≡ limits_below (root_limits tree.draft.value.base.instance) fs
 limits_at tree t fs woke node = ap (λ (x : Trail). x.limits) woke ∙ node.at.way.limits
 
 -- ---- room
 
-level_at : (tree : TreeDraft) (fs : List Above) → IsNode tree fs → length tree.walk.above ≡ length fs
+level_at : (tree : TreeDraft) (fs : List Above) → IsAtNode tree fs → length tree.walk.above ≡ length fs
 level_at tree fs node = ap length node.at.way.kept ∙ length-map fs branch_of
 
-pub room_at : (tree : TreeDraft) (fs : List Above) → IsNode tree fs → HasSplitLeft tree → HasSplitRoom tree.claimed fs
+pub room_at : (tree : TreeDraft) (fs : List Above) → IsAtNode tree fs → HasSplitLeft tree → HasSplitRoom tree.claimed fs
 room_at tree fs node room = (
   subst (λ s. s < tree.claimed.splits) (ap (λ (c : TreeCounts). c.splits) node.at.seen) room.splits,
   subst (λ s. s < tree.claimed.depth) (level_at tree fs node) room.depth,
 )
 
-pub room_above : (tree : TreeDraft) (fs : List Above) → IsNode tree fs → HasSplitRoom tree.claimed fs → HasSplitLeft tree
+pub room_above : (tree : TreeDraft) (fs : List Above) → IsAtNode tree fs → HasSplitRoom tree.claimed fs → HasSplitLeft tree
 room_above tree fs node room = record {
   splits = subst (λ s. s < tree.claimed.splits) (sym (ap (λ (c : TreeCounts). c.splits) node.at.seen)) room.0;
   depth = subst (λ s. s < tree.claimed.depth) (sym (level_at tree fs node)) room.1;
@@ -151,11 +133,11 @@ room_above tree fs node room = record {
 abbrev HasLeafRoomIn : TreeCounts → List Above → Bool → Type 0
 HasLeafRoomIn c fs is_closed = (if is_closed then frame_sum closed 0 fs else frame_sum left_open 0 fs) < (if is_closed then c.closed else c.left_open)
 
-pub leaf_room_at : (tree : TreeDraft) (is_closed : Bool) (fs : List Above) → IsNode tree fs → HasLeafRoom tree is_closed → HasLeafRoomIn tree.claimed fs is_closed
+pub leaf_room_at : (tree : TreeDraft) (is_closed : Bool) (fs : List Above) → IsAtNode tree fs → HasLeafRoom tree is_closed → HasLeafRoomIn tree.claimed fs is_closed
 leaf_room_at tree true fs node room = subst (λ s. s < tree.claimed.closed) (ap (λ (c : TreeCounts). c.closed) node.at.seen) room
 leaf_room_at tree false fs node room = subst (λ s. s < tree.claimed.left_open) (ap (λ (c : TreeCounts). c.left_open) node.at.seen) room
 
-pub leaf_room_above : (tree : TreeDraft) (is_closed : Bool) (fs : List Above) → IsNode tree fs → HasLeafRoomIn tree.claimed fs is_closed → HasLeafRoom tree is_closed
+pub leaf_room_above : (tree : TreeDraft) (is_closed : Bool) (fs : List Above) → IsAtNode tree fs → HasLeafRoomIn tree.claimed fs is_closed → HasLeafRoom tree is_closed
 leaf_room_above tree true fs node room = subst (λ s. s < tree.claimed.closed) (sym (ap (λ (c : TreeCounts). c.closed) node.at.seen)) room
 leaf_room_above tree false fs node room = subst (λ s. s < tree.claimed.left_open) (sym (ap (λ (c : TreeCounts). c.left_open) node.at.seen)) room
 
@@ -214,27 +196,27 @@ open_not_closed : open_line ≡ closed_line → ⊥
 open_not_closed e = let f : ◌≡◌ {A = ℕ} 111 99 = cc in absurd (omega arith)
 
 -- a leaf line is judged as such
-leaf_says : (b : Begun) (c : TreeCounts) (fs : List Above) (ws : Words) (said : Said) (rest : Words) → ws ≡ codes "leaf" ∷ rest
+leaf_says : (b : Begun) (c : TreeCounts) (fs : List Above) (ws : Words) (said : Answer) (rest : Words) → ws ≡ codes "leaf" ∷ rest
     → ((Begins (codes "window") ws → ⊥) → (Begins (codes "pair") ws → ⊥) → node_row b c fs ws said) → node_row b c fs ws said
 leaf_says b c fs ws said rest is row = row (not_both (codes "leaf") (codes "window") ws leaf_not_window (rest, is)) (not_both (codes "leaf") (codes "pair") ws leaf_not_pair (rest, is))
 
-pub window_says : (b : Begun) (c : TreeCounts) (fs : List Above) (j cut : ℕ) (ws : Words) (said : Said) → j < length b.instance.tasks → cut ≤ LAST_MINUTE → ws ≡ window_line j cut
+pub window_says : (b : Begun) (c : TreeCounts) (fs : List Above) (j cut : ℕ) (ws : Words) (said : Answer) → j < length b.instance.tasks → cut ≤ LAST_MINUTE → ws ≡ window_line j cut
     → after_split b c fs (choices.Window j cut) said → node_row b c fs ws said
 window_says b c fs j cut ws said task day is rest = Then (_, is) (Holds (_, is, refl) (Spelled (j, cut) (task, day) is rest))
 
-pub pair_says : (b : Begun) (c : TreeCounts) (fs : List Above) (k j : ℕ) (ws : Words) (said : Said) → k < length b.instance.teams → j < length b.instance.tasks → ws ≡ pair_line k j
+pub pair_says : (b : Begun) (c : TreeCounts) (fs : List Above) (k j : ℕ) (ws : Words) (said : Answer) → k < length b.instance.teams → j < length b.instance.tasks → ws ≡ pair_line k j
     → after_split b c fs (choices.Pair k j) said → node_row b c fs ws said
 pair_says b c fs k j ws said team task is rest = Else (not_both (codes "pair") (codes "window") ws pair_not_window (_, is))
     (Then (_, is) (Holds (_, is, refl) (Spelled (k, j) (team, task) is rest)))
 
-pub bare_says : (b : Begun) (c : TreeCounts) (fs : List Above) (ws : Words) (said : Said) → ws ≡ bare_line → after_bare b c fs said → node_row b c fs ws said
+pub bare_says : (b : Begun) (c : TreeCounts) (fs : List Above) (ws : Words) (said : Answer) → ws ≡ bare_line → after_bare b c fs said → node_row b c fs ws said
 bare_says b c fs ws said is rest = leaf_says b c fs ws said _ is (λ w p. Else w (Else p (Holds (_, is, refl) (Then is rest))))
 
-pub open_says : (b : Begun) (c : TreeCounts) (fs : List Above) (ws : Words) (said : Said) → ws ≡ open_line → after_leaf b c fs false said → node_row b c fs ws said
+pub open_says : (b : Begun) (c : TreeCounts) (fs : List Above) (ws : Words) (said : Answer) → ws ≡ open_line → after_leaf b c fs false said → node_row b c fs ws said
 open_says b c fs ws said is rest = leaf_says b c fs ws said _ is (λ w p. Else w (Else p (Holds (_, is, refl)
     (Else (λ e. bare_not_open (sym e ∙ is)) (Then is rest)))))
 
-pub closed_says : (b : Begun) (c : TreeCounts) (fs : List Above) (ws : Words) (said : Said) → ws ≡ closed_line → after_leaf b c fs true said → node_row b c fs ws said
+pub closed_says : (b : Begun) (c : TreeCounts) (fs : List Above) (ws : Words) (said : Answer) → ws ≡ closed_line → after_leaf b c fs true said → node_row b c fs ws said
 closed_says b c fs ws said is rest = leaf_says b c fs ws said _ is (λ w p. Else w (Else p (Holds (_, is, refl)
     (Else (λ e. bare_not_closed (sym e ∙ is)) (Else (λ e. open_not_closed (sym e ∙ is)) (Holds is rest))))))
 
@@ -242,13 +224,13 @@ closed_says b c fs ws said is rest = leaf_says b c fs ws said _ is (λ w p. Else
 
 -- a node is due, and the step is what its row says
 pub node_step : (tree : Box TreeDraft) (reader : Option (Box LeafReader)) (ws : Words) (step : Step)
-    → ((fs : List Above) → IsNode tree.value fs → Tells (node_row (draft_of tree.value.draft.value) tree.value.claimed fs ws) step) → IsStep (NodeDue tree reader) ws step
+    → ((fs : List Above) → IsAtNode tree.value fs → Tells (node_row (draft_of tree.value.draft.value) tree.value.claimed fs ws) step) → IsStep (NodeDue tree reader) ws step
 node_step tree reader ws step f = λ reading awaited. subst (λ r. Tells (Says r ws) step) (sym awaited.3) (f awaited.0 awaited.1)
 
 -- what some rules tell behind the words of a line, its row tells
-pub node_rest : (tree : Box TreeDraft) (reader : Option (Box LeafReader)) (ws : Words) (step : Step) (Rules : List Above → Said → Type 0)
-    → ((fs : List Above) (said : Said) → Rules fs said → node_row (draft_of tree.value.draft.value) tree.value.claimed fs ws said)
-    → ((fs : List Above) → IsNode tree.value fs → Tells (Rules fs) step) → IsStep (NodeDue tree reader) ws step
+pub node_rest : (tree : Box TreeDraft) (reader : Option (Box LeafReader)) (ws : Words) (step : Step) (Rules : List Above → Answer → Type 0)
+    → ((fs : List Above) (said : Answer) → Rules fs said → node_row (draft_of tree.value.draft.value) tree.value.claimed fs ws said)
+    → ((fs : List Above) → IsAtNode tree.value fs → Tells (Rules fs) step) → IsStep (NodeDue tree reader) ws step
 node_rest tree reader ws step Rules row told = node_step tree reader ws step (λ fs node. tells_row (Rules fs) (node_row (draft_of tree.value.draft.value) tree.value.claimed fs ws) step (row fs) (told fs node))
 
 -- a fault of a line of these counts is one where the node is due

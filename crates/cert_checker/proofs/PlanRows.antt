@@ -13,13 +13,12 @@ use Rattle.crew_terms.specs.Verdict.{IsVerdict, IsPlanOf}
 use Rattle.crew_terms.specs.declared.PlanVerdict.{PlanVerdict}
 use Rattle.dossier_terms.specs.declared.Reason.TheVariants as reasons
 use Rattle.dossier_terms.specs.Lines.{plan_line, do_line}
-use Rattle.dossier_terms.specs.Reading.{Said, More as Goes, Jobs, Trees, jobs_due, Begun}
+use Rattle.dossier_terms.specs.Reading.{Answer, More as Goes, Jobs, Trees, jobs_due, Begun}
 use Rattle.dossier_terms.specs.Rules.{Must, Holds, HoldsBy, FailsBy, Spelled, On}
 use Rattle.dossier_terms.specs.Table.{IsDoLine, plan_row, job_row, after_job}
-use Rattle.cert_format.specs.Lines.{IsJobOf}
 use Rattle.head_check.specs.Numbers.{naturals, AreBelow}
 use Rattle.cert_checker.specs.Due.{IsBegun, Tells, draft_of}
-use Rattle.cert_checker.specs.declared.due.Draft.{Draft as Held}
+use Rattle.cert_checker.specs.declared.due.BegunDossier.{BegunDossier as Held}
 use Rattle.cert_checker.specs.declared.due.Due.TheVariants.{Job as JobDue, Tree as TreeDue}
 use Rattle.cert_checker.specs.declared.due.Step.TheVariants.{More, No}
 
@@ -68,17 +67,9 @@ plan_of_more i p j start ks h below known = record {
         let there : job_of (slice_set p j (Some job)) g ≡ job_of p g = get_or-set_other p j g (Some job) None (λ e. ne (sym e)) in
         h.known k g t (d.0, sym there ∙ d.1, d.2, d.3)
 
-pub job_says : (b : Begun) (k from : ℕ) (ws : Words) (p : ℕ × Job) (said : Said) → IsDoLine b.instance p → ws ≡ do_line p
+pub job_says : (b : Begun) (k from : ℕ) (ws : Words) (p : ℕ × Job) (said : Answer) → IsDoLine (length b.instance.teams) (length b.instance.tasks) p → ws ≡ do_line p
     → Must (from ≤ p.0) reasons.Shape (after_job (record b { plan = slice_set b.plan p.0 (Some p.1) }) k (suc p.0)) said → job_row b k from ws said
 job_says b k from ws p said fits is rest = Holds (_, is, omega arith) (Spelled p fits is rest)
-
--- a line that fits the counts fits the instance
-pub line_of_counts : (i : Instance) (m n : ℕ) (p : ℕ × Job) → m ≡ length i.teams → n ≡ length i.tasks → IsJobOf m n p → IsDoLine i p
-line_of_counts i m n p a b h = record {
-  task = subst (λ x. p.0 < x) b h.task;
-  start = h.start;
-  teams = subst (λ x. AllByRecursion (λ k. k < x) p.1.teams) a h.teams;
-}
 
 pub job_goes_on : (b : Box Held) (more from : ℕ) → 0 < more → IsBegun b.value → Tells (after_job (draft_of b.value) more from) (More (JobDue b (more - 1) from))
 job_goes_on b zero from l h = absurd (omega arith)

@@ -17,23 +17,23 @@ use Rattle.dossier_terms.specs.Lines.{pool_line, route_line, visit_words}
 use Rattle.dossier_terms.specs.Reading.{More as Goes, No as Refuses, routes_due, Begun}
 use Rattle.dossier_terms.specs.Rules.{Holds, Fails, Spelled, On, Begins}
 use Rattle.dossier_terms.specs.Table.{IsRouteLine, IsPairs, pool_row, route_row, begin}
-use Rattle.node_limits.specs.Rest.{State, Rest, IsRestOver, limits_over, trail_over}
+use Rattle.dossier_terms.specs.Counted.{route_pairs}
+use Rattle.node_limits.specs.Rest.{NodeState, Rest, IsRestOver, limits_over, trail_over}
 use Rattle.node_limits.specs.Trail.{Trail}
 use Rattle.route_pool.specs.Numbers.{AreNumbersOf}
-use Rattle.route_pool.specs.Verdict.{IsVerdict, pool_after}
+use Rattle.route_pool.specs.Verdict.{IsPoolVerdict, pool_after}
 use Rattle.route_pool.specs.declared.pool.PoolVerdict.{PoolVerdict}
 use Rattle.route_pool.specs.declared.pool.PoolVerdict.TheVariants.{Added, NotRoute, Repeated}
 use Rattle.cert_format.specs.Fields.{visit_numbers}
-use Rattle.cert_format.specs.Lines.{IsRouteOf}
 use Rattle.cert_checker.specs.Due.{IsRoot, Tells, draft_of}
 use Rattle.cert_checker.specs.Rules.{TellsRoute}
-use Rattle.cert_checker.specs.declared.due.Draft.{Draft as Held}
+use Rattle.cert_checker.specs.declared.due.BegunDossier.{BegunDossier as Held}
 use Rattle.cert_checker.specs.declared.due.Step.{Step}
 use Rattle.cert_checker.specs.declared.due.Step.TheVariants.{More, Whole, No}
 
 -- ---- the limits of the root
 
-none_left : (f : State → Limits) (past : List State) → map f past ≡ [] → past ≡ []
+none_left : (f : NodeState → Limits) (past : List NodeState) → map f past ≡ [] → past ≡ []
 none_left f [] e = refl
 none_left f (s ∷ past) e = absurd (cc)
 
@@ -89,22 +89,6 @@ pool_more i budget k c ws a b is le = Holds (_, is, refl) (Spelled (k, c) (a, b)
 
 -- ---- a line `route`
 
-visits_length : (vs : List Visit) → length (flat_map visit_words vs) ≡ 2 * length vs
-visits_length [] = refl
-visits_length (v ∷ vs) = let a = visits_length vs in omega (arith, length-append (visit_words v) (flat_map visit_words vs))
-
-route_pairs : (r : Route) → 1 ≤ length r.visits → IsPairs (route_line r)
-route_pairs r some = let a = visits_length r.visits in (length r.visits - 1, omega arith)
-
--- a line that fits the counts fits the instance
-pub route_of_counts : (i : Instance) (m n : ℕ) (r : Route) → m ≡ length i.teams → n ≡ length i.tasks → IsRouteOf m n r → IsRouteLine i r
-route_of_counts i m n r a b h = record {
-  team = subst (λ x. r.team < x) a h.team;
-  some = h.some;
-  tasks = subst (λ x. AllByRecursion (λ (v : Visit). v.task < x) r.visits) b h.tasks;
-  starts = h.starts;
-}
-
 small_tasks : (n : ℕ) (vs : List Visit) → n ≤ MOST_TASKS → AllByRecursion (λ (v : Visit). v.task < n) vs → AllByRecursion (λ (v : Visit). v.task < 2 ^ 32) vs
 small_tasks n [] few h = tt
 small_tasks n (v ∷ vs) few h = let a = h.0 in (omega arith, small_tasks n vs few h.1)
@@ -113,19 +97,19 @@ small_starts : (vs : List Visit) → AllByRecursion (λ (v : Visit). v.start ≤
 small_starts [] h = tt
 small_starts (v ∷ vs) h = let a = h.0 in (omega arith, small_starts vs h.1)
 
-pub route_numbers : (m n : ℕ) (r : Route) → n ≤ MOST_TASKS → IsRouteOf m n r → AreNumbersOf r.visits (map pos (flat_map visit_numbers r.visits))
+pub route_numbers : (m n : ℕ) (r : Route) → n ≤ MOST_TASKS → IsRouteLine m n r → AreNumbersOf r.visits (map pos (flat_map visit_numbers r.visits))
 route_numbers m n r few h = record { spelled = refl; tasks = small_tasks n r.visits few h.tasks; starts = small_starts r.visits h.starts }
 
 -- the row of a route is what the pool says of it
 pub route_judged : (b : Begun) (more : ℕ) (ws : Words) (r : Route) (new : List Route) (verdict : PoolVerdict) (after : Held) (step : Step)
-    → IsRouteLine b.instance r → ws ≡ route_line r → IsVerdict (root_limits b.instance) b.pool r verdict → pool_after b.pool r new verdict
+    → IsRouteLine (length b.instance.teams) (length b.instance.tasks) r → ws ≡ route_line r → IsPoolVerdict (root_limits b.instance) b.pool r verdict → pool_after b.pool r new verdict
     → draft_of after ≡ record b { pool = new } → TellsRoute after more verdict step → Tells (route_row b more ws) step
 route_judged b more ws r new verdict after step fits is says pool e told = at verdict says pool step told
   where
     shape : Begins (codes "route") ws × IsPairs ws
     shape = ((_, is), subst IsPairs (sym is) (route_pairs r fits.some))
 
-    at : (v : PoolVerdict) → IsVerdict (root_limits b.instance) b.pool r v → pool_after b.pool r new v → (s : Step) → TellsRoute after more v s → Tells (route_row b more ws) s
+    at : (v : PoolVerdict) → IsPoolVerdict (root_limits b.instance) b.pool r v → pool_after b.pool r new v → (s : Step) → TellsRoute after more v s → Tells (route_row b more ws) s
     at Added h p (More due) t =
         let next : routes_due (draft_of after) more ≡ routes_due (record b { pool = b.pool ++ r ∷ [] }) more =
         ap (λ d. routes_due d more) (e ∙ ap (λ (x : List Route). record b { pool = x }) p) in

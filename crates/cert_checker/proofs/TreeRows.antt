@@ -6,21 +6,21 @@ use Rattle.crew_terms.specs.Instance.{Instance}
 use Rattle.crew_terms.specs.Limits.{root_limits}
 use Rattle.dossier_terms.specs.declared.Reason.{Reason}
 use Rattle.dossier_terms.specs.Lines.{tree_line}
-use Rattle.dossier_terms.specs.Reading.{Said, More as Goes, No as Refuses, Nodes, Begun}
+use Rattle.dossier_terms.specs.Reading.{Answer, More as Goes, No as Refuses, Nodes, Begun}
 use Rattle.crew_terms.specs.declared.TreeCounts.{TreeCounts}
 use Rattle.dossier_terms.specs.Rules.{Holds, Spelled, On}
 use Rattle.dossier_terms.specs.Table.{IsCounts, tree_row, after_counts}
 use Rattle.node_limits.specs.Rest.{Rest, limits_over, trail_over}
 use Rattle.node_limits.specs.Trail.{Trail}
 use Rattle.tree_walk.specs.Way.{Walked, IsAt}
-use Rattle.cert_checker.specs.Due.{IsNode, IsRoot, Tells, draft_of}
+use Rattle.cert_checker.specs.Due.{IsAtNode, IsRoot, Tells, draft_of}
 use Rattle.cert_checker.specs.Rules.{IsTreeFault}
-use Rattle.cert_checker.specs.declared.due.Draft.{Draft as Held}
+use Rattle.cert_checker.specs.declared.due.BegunDossier.{BegunDossier as Held}
 use Rattle.cert_checker.specs.declared.due.TreeDraft.{TreeDraft}
 use Rattle.cert_checker.specs.declared.due.Due.TheVariants.{Node}
 use Rattle.cert_checker.specs.declared.due.Step.TheVariants.{More, No}
 
-tree_says : (b : Begun) (c : TreeCounts) (ws : Words) (said : Said) → IsCounts c → ws ≡ tree_line c
+tree_says : (b : Begun) (c : TreeCounts) (ws : Words) (said : Answer) → IsCounts c → ws ≡ tree_line c
     → after_counts b c said → tree_row b ws said
 tree_says b c ws said fits is rest = Holds (_, is, refl) (Spelled c fits is rest)
 
@@ -32,7 +32,7 @@ tree_faulty b claimed ws reason fits is broken = tree_says (draft_of b.value) cl
 -- the numbers of a tree break no rule, and its root is due
 pub tree_begun : (b : Box Held) (claimed : TreeCounts) (tree : Box TreeDraft) (ws : Words) → IsCounts claimed
     → ws ≡ tree_line claimed → IsTreeFault (draft_of b.value) claimed None
-    → tree.value.draft ≡ b → tree.value.claimed ≡ claimed → IsNode tree.value [] → Tells (tree_row (draft_of b.value) ws) (More (Node tree None))
+    → tree.value.draft ≡ b → tree.value.claimed ≡ claimed → IsAtNode tree.value [] → Tells (tree_row (draft_of b.value) ws) (More (Node tree None))
 tree_begun b claimed tree ws fits is good e f node =
     let root = Nodes (draft_of b.value) claimed [] in
     let same : root ≡ Nodes (draft_of tree.value.draft.value) tree.value.claimed [] =

@@ -7,7 +7,7 @@ use Rattle.dossier_terms.specs.declared.Reason.{Reason}
 use Rattle.dossier_terms.specs.declared.Reason.TheVariants as reasons
 use Rattle.dossier_terms.specs.Dossier.{Dossier, IsGood}
 use Rattle.crew_terms.specs.Branches.{splits, closed, left_open}
-use Rattle.dossier_terms.specs.Reading.{Reading, Form, Said as Answer, More as Goes, Whole as Ends, No as Refuses}
+use Rattle.dossier_terms.specs.Reading.{Reading, Form, Answer, More as Goes, Whole as Ends, No as Refuses}
 use Rattle.dossier_terms.specs.Table.{Says, Reaches}
 use Rattle.head_check.specs.declared.due.HeadDue.TheVariants as heads
 use Rattle.cert_checker.specs.Due.{Awaits, IsEndOf}
@@ -46,9 +46,11 @@ IsWholeAt (states.Whole ended) d = IsEndOf ended d
 IsWholeAt (states.Refused line reason) d = ⊥
 IsWholeAt states.Spent d = ⊥
 
+-- a line is due
 abbrev pub IsOpen : State → Type 0
 IsOpen at = (reading : Reading) × IsDueAt at reading
 
+-- a dossier is whole, and no line was read after it
 abbrev pub IsEnded : State → Type 0
 IsEnded at = (d : Dossier) × IsWholeAt at d
 

@@ -6,7 +6,7 @@ use Rattle.crew_terms.specs.Instance.{Instance}
 use Rattle.crew_terms.specs.Limits.{Limits as NodeLimits, root_limits}
 use Rattle.crew_terms.specs.Verdict.{IsPlanOf}
 use Rattle.dossier_terms.specs.Dossier.{Dossier, Written}
-use Rattle.dossier_terms.specs.Reading.{Reading, Said, More as Goes, Whole as Ends, No as Refuses, whole, limits_of, Pools, Routes, Plans, Jobs, Trees, Nodes, Ends as EndDue, Begun as Read, Above, LeafSite}
+use Rattle.dossier_terms.specs.Reading.{Reading, Answer, More as Goes, Whole as Ends, No as Refuses, whole, limits_of, Pools, Routes, Plans, Jobs, Trees, Nodes, Ends as EndDue, Begun as Read, Above, LeafSite}
 use Rattle.dossier_terms.specs.Table.{IsCounts, Says}
 use Rattle.node_limits.specs.Rest.{Rest, IsRestOver, limits_over, trail_over}
 use Rattle.head_check.specs.Head.{Holds as HoldsHead, IsLineDue, reading_of}
@@ -16,15 +16,15 @@ use Rattle.crew_terms.specs.declared.Choice.{Choice}
 use Rattle.crew_terms.specs.declared.Choice.TheVariants as choices
 use Rattle.dossier_terms.specs.Lines.{counts_of}
 use Rattle.tree_walk.specs.Way.{IsAt, leaves_like}
-use Rattle.cert_checker.specs.declared.due.Draft.{Draft}
+use Rattle.cert_checker.specs.declared.due.BegunDossier.{BegunDossier}
 use Rattle.cert_checker.specs.declared.due.TreeDraft.{TreeDraft}
-use Rattle.cert_checker.specs.declared.due.Ended.{Ended}
+use Rattle.cert_checker.specs.declared.due.EndedDossier.{EndedDossier}
 use Rattle.cert_checker.specs.declared.due.Due.{Due}
 use Rattle.cert_checker.specs.declared.due.Due.TheVariants.{Head, Pool, Route, Plan, Job, Tree, Node, Leaf, End}
 use Rattle.cert_checker.specs.declared.due.Step.{Step}
 use Rattle.cert_checker.specs.declared.due.Step.TheVariants.{More, Whole, No}
 
-abbrev pub draft_of : Draft → Read
+abbrev pub draft_of : BegunDossier → Read
 draft_of b = record { instance = b.base.instance; budget = b.base.nodes; kept = b.kept; pool = b.pool; plan = b.plan; bound = b.bound }
 
 -- these are the limits of the root
@@ -34,19 +34,19 @@ pub record IsRoot (i : Instance) (limits : Rest) : Type 0 where
   pub past : limits.past ≡ []
 
 -- a dossier before its tree
-pub record IsBegun (b : Draft) : Type 0 where
+pub record IsBegun (b : BegunDossier) : Type 0 where
   pub plan : IsPlanOf b.base.instance b.plan
   pub root : IsRoot b.base.instance b.limits
 
 -- the walk stands at the node below these splits, and the limits are its
-pub record IsNode (tree : TreeDraft) (above : List Above) : Type 0 where
+pub record IsAtNode (tree : TreeDraft) (above : List Above) : Type 0 where
   pub claimed : IsCounts tree.claimed
   pub over : IsRestOver tree.draft.value.base.instance tree.draft.value.limits
   pub at : IsAt (root_limits tree.draft.value.base.instance) (trail_over tree.draft.value.base.instance tree.draft.value.limits) tree.walk above
 
 -- the walk stands at a node
 abbrev pub IsInTree : TreeDraft → Type 0
-IsInTree tree = (above : List Above) × IsNode tree above
+IsInTree tree = (above : List Above) × IsAtNode tree above
 
 -- the split is of a task, or of a team and a task, of the instance
 abbrev pub IsKnown : Instance → Choice → Type 0
@@ -71,7 +71,7 @@ site_of tree above is_closed = record { begun = draft_of tree.draft.value; count
 
 -- the reader stands for what has been read of the leaf below these splits
 pub record IsInLeaf (tree : TreeDraft) (reader : LeafReader) (is_closed : Bool) (above : List Above) (reading : Reading) : Type 0 where
-  pub node : IsNode tree above
+  pub node : IsAtNode tree above
   pub ready : IsReady (limits_of (site_of tree above is_closed)) reader
   pub room : HasLeafRoom tree is_closed
   pub stands : StandsFor (site_of tree above is_closed) reader reading
@@ -85,7 +85,7 @@ Awaits (Route b more) r = IsBegun b.value × (r ≡ Routes (draft_of b.value) mo
 Awaits (Plan b) r = IsBegun b.value × (r ≡ Plans (draft_of b.value))
 Awaits (Job b more from) r = IsBegun b.value × (r ≡ Jobs (draft_of b.value) more from)
 Awaits (Tree b) r = IsRoot b.value.base.instance b.value.limits × (r ≡ Trees (draft_of b.value))
-Awaits (Node tree reader) r = (above : List Above) × IsNode tree.value above × IsReaderFor tree.value.draft.value.base.instance reader × (r ≡ Nodes (draft_of tree.value.draft.value) tree.value.claimed above)
+Awaits (Node tree reader) r = (above : List Above) × IsAtNode tree.value above × IsReaderFor tree.value.draft.value.base.instance reader × (r ≡ Nodes (draft_of tree.value.draft.value) tree.value.claimed above)
 Awaits (Leaf tree reader is_closed) r = (above : List Above) × IsInLeaf tree.value reader.value is_closed above r
 Awaits (End tree seen) r = (t : Written) × (seen ≡ counts_of t) × (r ≡ EndDue (draft_of tree.value.draft.value) tree.value.claimed t)
 
@@ -94,13 +94,13 @@ abbrev pub IsAwaited : Due → Type 0
 IsAwaited due = (reading : Reading) × Awaits due reading
 
 -- what is kept stands for this dossier, whose tree has these numbers
-pub record IsEndOf (ended : Ended) (d : Dossier) : Type 0 where
+pub record IsEndOf (ended : EndedDossier) (d : Dossier) : Type 0 where
   pub tree : Written
   pub is : d ≡ whole (draft_of ended.draft.value) tree
   pub counts : ended.counts ≡ counts_of tree
 
 -- the step is what these rules say, and what is kept stands for what they lead to
-abbrev pub Tells : (Said → Type 0) → Step → Type 0
+abbrev pub Tells : (Answer → Type 0) → Step → Type 0
 Tells Rules (More due) = (next : Reading) × Rules (Goes next) × Awaits due next
 Tells Rules (Whole ended) = (d : Dossier) × Rules (Ends d) × IsEndOf ended d
 Tells Rules (No reason) = Rules (Refuses reason)

@@ -1,5 +1,6 @@
 -- what the fields of a checker stand for
 use Rattle.std.specs.Prelude.{◌≤◌, ◌^◌, ℕ}
+use Rattle.crew_terms.specs.declared.TheConstants.{LONGEST_INPUT}
 use Rattle.dossier_terms.specs.Dossier.{Dossier}
 use Rattle.dossier_terms.specs.Reading.{Reading}
 use Rattle.cert_checker.specs.Due.{Awaits, IsEndOf}
@@ -12,10 +13,10 @@ use Rattle.cert_checker.specs.declared.checker.State.TheVariants as states
 use Rattle.cert_checker.specs.declared.checker.Checker.TheInside.{Inside}
 
 -- the state that keeps what a step at the line of this number keeps
-abbrev pub state_in : ℕ → Step → State
-state_in number (More due) = states.Due due
-state_in number (Whole ended) = states.Whole ended
-state_in number (No reason) = states.Refused number reason
+abbrev pub kept_state : ℕ → Step → State
+kept_state number (More due) = states.Due due
+kept_state number (Whole ended) = states.Whole ended
+kept_state number (No reason) = states.Refused number reason
 
 abbrev pub checked : Inside → Checked
 checked a = record { lines = a.lines; at = a.state }
@@ -33,4 +34,4 @@ IsSettled states.Spent = Unit {0}
 
 pub record IsKept (a : Inside) : Type 0 where
   pub state : IsSettled a.state
-  pub few : a.lines ≤ 2 ^ 62
+  pub few : a.lines ≤ LONGEST_INPUT

@@ -2,14 +2,14 @@
 use Rattle.std.specs.Prelude.{◌≡◌, ℕ, [], Option, None, Some}
 use Rattle.dossier_terms.specs.declared.Reason.{Reason}
 use Rattle.dossier_terms.specs.declared.Reason.TheVariants.{Pool}
-use Rattle.dossier_terms.specs.Reading.{Said, No as Refuses, Nodes, routes_due, Begun}
+use Rattle.dossier_terms.specs.Reading.{Answer, No as Refuses, Nodes, routes_due, Begun}
 use Rattle.crew_terms.specs.declared.TreeCounts.{TreeCounts}
 use Rattle.dossier_terms.specs.Rules.{Goes}
 use Rattle.dossier_terms.specs.Table.{after_counts}
 use Rattle.route_pool.specs.declared.pool.PoolVerdict.{PoolVerdict}
 use Rattle.route_pool.specs.declared.pool.PoolVerdict.TheVariants.{Added, NotRoute, Repeated}
 use Rattle.cert_checker.specs.Due.{Awaits, draft_of}
-use Rattle.cert_checker.specs.declared.due.Draft.{Draft as Held}
+use Rattle.cert_checker.specs.declared.due.BegunDossier.{BegunDossier as Held}
 use Rattle.cert_checker.specs.declared.due.Step.{Step}
 use Rattle.cert_checker.specs.declared.due.Step.TheVariants.{More, No}
 
@@ -23,4 +23,4 @@ TellsRoute b more _ _ = ⊥
 -- the first rule that the numbers of a tree break; none where they break none
 abbrev pub IsTreeFault : Begun → TreeCounts → Option Reason → Type 0
 IsTreeFault b c (Some reason) = after_counts b c (Refuses reason)
-IsTreeFault b c None = (s : Said) → Goes (Nodes b c []) s → after_counts b c s
+IsTreeFault b c None = (s : Answer) → Goes (Nodes b c []) s → after_counts b c s

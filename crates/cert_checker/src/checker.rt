@@ -1,15 +1,16 @@
 // The checker: what it has read, and what it says of one more line.
 ghost use Rattle.std.specs.Prelude.{◌≡◌, ◌≤◌, ◌<◌, ◌+◌, ◌^◌, ◌↔◌, ℕ, Some, None, Ok, IfOk, OnErr, IsErr, IsTrue, IfSome};
 ghost use Rattle.crew_terms.specs.Words.{IsLine, words_of};
+ghost use Rattle.crew_terms.specs.declared.TheConstants.{LONGEST_INPUT};
 ghost use Rattle.dossier_terms.specs.declared.Reason.{Reason};
 ghost use Rattle.dossier_terms.specs.Dossier.{Dossier};
 ghost use Rattle.dossier_terms.specs.Reading.{Reading};
 ghost use Rattle.cert_checker.specs.Checked.{IsDueAt, IsEnded, IsJudged, IsOpen, IsReached, IsTrueYes, IsWholeAt, fresh_checker, refused_at, stop_reason_of, verdict_of};
 ghost use Rattle.cert_checker.specs.Due.{Awaits, IsEndOf};
-ghost use Rattle.cert_checker.specs.Kept.{IsKeptFrom, state_in};
+ghost use Rattle.cert_checker.specs.Kept.{IsKeptFrom, kept_state};
 ghost use Rattle.cert_checker.specs.Said.{IsSaidOf};
 
-use crate::due::{Due, Ended, Step};
+use crate::due::{Due, EndedDossier, Step};
 use crate::judge::judge;
 use crate::laws::{one_answer, reached_goes_on, whole_is_true};
 use crew_instance::{Instance, Plan, unassigned};
@@ -59,7 +60,7 @@ enum State {
     // A line of a dossier is due.
     Due(Due),
     // A dossier is whole: the first line of the next one is due, or the end of the input.
-    Whole(Ended),
+    Whole(EndedDossier),
     Refused { line: u64, reason: Reason },
     Spent,
 }
@@ -86,7 +87,7 @@ impl Model for Checker {
 }
 
 /// What a whole dossier says.
-fn whole_verdict(ended: &Ended) -> Verdict
+fn whole_verdict(ended: &EndedDossier) -> Verdict
     ensures { (d : Dossier) → IsEndOf ended.now d → result ≡ verdict_of d }
 {
     Verdict {
@@ -112,7 +113,7 @@ fn put_back(state: &mut State, next: State)
 fn settle(state: &mut State, step: Step, line: u64) -> Said
     requires taken { state.old ≡ State.Spent }
     ensures said { IsSaidOf line step result }
-    ensures kept { state.new ≡ state_in line step }
+    ensures kept { state.new ≡ kept_state line step }
 {
     match step {
         Step::More(due) => {
@@ -159,7 +160,7 @@ impl Checker {
     /// How many lines are judged so far; those after a line that is refused are not.
     pub fn lines(&self) -> u64
         ensures count { result ≡ self.now.lines }
-        ensures few { result ≤ 2 ^ 62 }
+        ensures few { result ≤ LONGEST_INPUT }
     {
         self.lines
     }
@@ -170,7 +171,7 @@ impl Checker {
         requires taken { self.old.at ≡ State.Spent }
         requires kept { IsKeptFrom due }
         requires plain { IsLine line.now }
-        requires few { self.old.lines < 2 ^ 62 }
+        requires few { self.old.lines < LONGEST_INPUT }
         ensures judged { (reading : Reading) → IsReached reading → Awaits due reading → IfOk result (λ said. IsJudged self.old.lines reading (words_of line.now) said self.new) }
         ensures memory { OnErr result (self.new ≡ record self.old { at = State.Spent }) }
     {
@@ -187,7 +188,7 @@ impl Checker {
     /// and after want of memory every later call does that.
     pub fn line(&mut self, line: &[u8]) -> Result<Said, AllocError>
         requires plain { IsLine line.now }
-        requires few { self.old.lines < 2 ^ 62 }
+        requires few { self.old.lines < LONGEST_INPUT }
 
         // The line that was due is judged by the table of lines.
         ensures judged { (due : Reading) → IsReached due → IsDueAt self.old.at due → IfOk result (λ said. IsJudged self.old.lines due (words_of line.now) said self.new) }

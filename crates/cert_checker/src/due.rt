@@ -11,7 +11,7 @@ use tree_walk::Walk;
 
 /// A dossier without its tree. The routes of the pool and the jobs of the plan may not all be read yet.
 #[derive(Drop)]
-pub struct Draft {
+pub struct BegunDossier {
     /// The instance and the node budget.
     pub base: Base,
     /// How many routes of the pool come from the round before.
@@ -30,7 +30,7 @@ pub struct Draft {
 #[derive(Drop)]
 pub struct TreeDraft {
     /// All that came before the line `tree`.
-    pub draft: Box<Draft>,
+    pub draft: Box<BegunDossier>,
     /// The numbers of the line `tree`.
     pub claimed: TreeCounts,
     /// The way to the node that is due, and the numbers of what came before it.
@@ -39,9 +39,9 @@ pub struct TreeDraft {
 
 /// A whole dossier: all but its tree, of which it has the numbers.
 #[derive(Drop)]
-pub struct Ended {
+pub struct EndedDossier {
     /// All that came before the line `tree`.
-    pub draft: Box<Draft>,
+    pub draft: Box<BegunDossier>,
     /// The numbers of the tree.
     pub counts: TreeCounts,
 }
@@ -57,23 +57,23 @@ pub enum Due {
     },
     /// A line `route`.
     Route {
-        draft: Box<Draft>,
+        draft: Box<BegunDossier>,
         more: u64,
     },
     /// The line `plan`.
     Plan {
-        draft: Box<Draft>,
+        draft: Box<BegunDossier>,
     },
     /// A line `do`.
     Job {
-        draft: Box<Draft>,
+        draft: Box<BegunDossier>,
         more: u32,
         /// The least task that the line may be of: the one after that of the line before.
         from: u32,
     },
     /// The line `tree`.
     Tree {
-        draft: Box<Draft>,
+        draft: Box<BegunDossier>,
     },
     /// The line of a node: `window`, `pair` or `leaf`.
     Node {
@@ -102,7 +102,7 @@ pub enum Step {
     /// It breaks no rule, and this is due next.
     More(Due),
     /// It ends a good dossier.
-    Whole(Ended),
+    Whole(EndedDossier),
     /// It breaks a rule.
     No(Reason),
 }

@@ -2,7 +2,7 @@
 ghost use Rattle.std.specs.Prelude.{◌≡◌};
 ghost use Rattle.crew_terms.specs.Words.{Words};
 ghost use Rattle.dossier_terms.specs.Dossier.{Dossier};
-ghost use Rattle.dossier_terms.specs.Reading.{Reading, Said as Answer, More, Whole};
+ghost use Rattle.dossier_terms.specs.Reading.{Reading, Answer, More, Whole};
 ghost use Rattle.dossier_terms.specs.Table.{Says};
 ghost use Rattle.cert_checker.specs.Checked.{IsReached, IsTrueYes};
 

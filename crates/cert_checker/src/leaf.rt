@@ -1,7 +1,7 @@
 // The lines of a leaf's numbers, and the line `end`.
 ghost use Rattle.cert_checker.specs.Due.{IsAwaited, IsStep};
 
-use crate::due::{Due, Ended, Step, TreeDraft};
+use crate::due::{Due, EndedDossier, Step, TreeDraft};
 use crate::node::leave;
 use cert_format::{Expect, fault_is_refused, read_line};
 use crew_instance::unassigned;
@@ -58,7 +58,7 @@ pub fn end_line(tree: Box<TreeDraft>, seen: TreeCounts, words: LineWords<'_>) ->
             claimed: _,
             walk: _,
         } = Box::into_inner(tree);
-        Step::Whole(Ended {
+        Step::Whole(EndedDossier {
             draft,
             counts: seen,
         })

@@ -7,7 +7,7 @@ ghost use Rattle.dossier_terms.specs.Reading.{Prices, node_done, Above, LeafSite
 ghost use Rattle.leaf_check.specs.Reader.{IsReady, StandsFor};
 ghost use Rattle.crew_terms.specs.Tree.{CanSplit, IsFreePair};
 ghost use Rattle.tree_walk.specs.Way.{IsLeaf};
-ghost use Rattle.cert_checker.specs.Due.{Awaits, HasLeafRoom, HasSplitLeft, IsAwaited, IsInTree, IsKnown, IsNode, IsReaderFor, IsStep, Tells, draft_of};
+ghost use Rattle.cert_checker.specs.Due.{Awaits, HasLeafRoom, HasSplitLeft, IsAwaited, IsInTree, IsKnown, IsAtNode, IsReaderFor, IsStep, Tells, draft_of};
 ghost use Rattle.dossier_terms.specs.Table.{after_bare, after_leaf, after_split, split_fault};
 
 use crate::due::{Due, Step, TreeDraft};
@@ -48,7 +48,7 @@ pub fn leave(
     requires node { IsInTree tree.value }
     requires reader { IsReaderFor tree.value.draft.value.base.instance reader }
     requires room { HasLeafRoom tree.value is_closed }
-    ensures { (fs : List Above) (claim : Claim Leaf) → IsNode tree.value fs → IsLeaf is_closed claim
+    ensures { (fs : List Above) (claim : Claim Leaf) → IsAtNode tree.value fs → IsLeaf is_closed claim
         → Awaits result (node_done (draft_of tree.value.draft.value) tree.value.claimed fs (LeafNode claim)) }
 {
     let held = &mut *tree;
@@ -106,7 +106,7 @@ fn split_line(
     requires node { IsInTree tree.value }
     requires reader { IsReaderFor tree.value.draft.value.base.instance reader }
     requires known { IsKnown tree.value.draft.value.base.instance choice }
-    ensures { IfOk result (λ step. (fs : List Above) → IsNode tree.value fs → Tells (after_split (draft_of tree.value.draft.value) tree.value.claimed fs choice) step) }
+    ensures { IfOk result (λ step. (fs : List Above) → IsAtNode tree.value fs → Tells (after_split (draft_of tree.value.draft.value) tree.value.claimed fs choice) step) }
 {
     if !has_split_room(&tree) {
         return Ok(Step::No(Reason::Count));
@@ -126,7 +126,7 @@ fn split_line(
 fn bare_line(alloc: Global, tree: Box<TreeDraft>, reader: Option<Box<LeafReader>>) -> Step
     requires node { IsInTree tree.value }
     requires reader { IsReaderFor tree.value.draft.value.base.instance reader }
-    ensures { (fs : List Above) → IsNode tree.value fs → Tells (after_bare (draft_of tree.value.draft.value) tree.value.claimed fs) result }
+    ensures { (fs : List Above) → IsAtNode tree.value fs → Tells (after_bare (draft_of tree.value.draft.value) tree.value.claimed fs) result }
 {
     if !has_leaf_room(&tree, false) {
         return Step::No(Reason::Count);
@@ -164,7 +164,7 @@ fn leaf_line(
 ) -> Result<Step, AllocError>
     requires node { IsInTree tree.value }
     requires reader { IsReaderFor tree.value.draft.value.base.instance reader }
-    ensures { IfOk result (λ step. (fs : List Above) → IsNode tree.value fs → Tells (after_leaf (draft_of tree.value.draft.value) tree.value.claimed fs is_closed) step) }
+    ensures { IfOk result (λ step. (fs : List Above) → IsAtNode tree.value fs → Tells (after_leaf (draft_of tree.value.draft.value) tree.value.claimed fs is_closed) step) }
 {
     if !has_leaf_room(&tree, is_closed) {
         return Ok(Step::No(Reason::Count));

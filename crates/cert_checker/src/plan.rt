@@ -4,7 +4,7 @@ ghost use Rattle.dossier_terms.specs.Reading.{jobs_due};
 ghost use Rattle.dossier_terms.specs.Table.{after_job};
 ghost use Rattle.cert_checker.specs.Due.{Awaits, IsAwaited, IsBegun, IsStep, Tells, draft_of};
 
-use crate::due::{Draft, Due, Step};
+use crate::due::{BegunDossier, Due, Step};
 use cert_format::{Expect, LineKind, fault_is_refused, read_line};
 use crew_terms::PlanVerdict;
 use dossier_terms::Reason;
@@ -14,7 +14,7 @@ use plan_check::check_plan;
 use std::alloc::{AllocError, Global};
 
 /// What is due where so many jobs are to come, of tasks from `from` on.
-fn due_jobs(draft: Box<Draft>, more: u32, from: u32) -> Due
+fn due_jobs(draft: Box<BegunDossier>, more: u32, from: u32) -> Due
     requires { IsBegun draft.value }
     ensures { Awaits result (jobs_due (draft_of draft.value) more from) }
 {
@@ -30,7 +30,7 @@ fn due_jobs(draft: Box<Draft>, more: u32, from: u32) -> Due
 }
 
 /// The line `plan`.
-pub fn plan_line(mut draft: Box<Draft>, words: LineWords<'_>) -> Step
+pub fn plan_line(mut draft: Box<BegunDossier>, words: LineWords<'_>) -> Step
     requires { IsAwaited (Due.Plan draft) }
     ensures { IsStep (Due.Plan draft) words.entry result }
 {
@@ -49,7 +49,7 @@ pub fn plan_line(mut draft: Box<Draft>, words: LineWords<'_>) -> Step
 }
 
 /// What is said after a job, where so many more are to come.
-fn judge_job(draft: Box<Draft>, more: u32, from: u32) -> Step
+fn judge_job(draft: Box<BegunDossier>, more: u32, from: u32) -> Step
     requires { IsBegun draft.value }
     ensures { Tells (after_job (draft_of draft.value) more from) result }
 {
@@ -70,7 +70,7 @@ fn judge_job(draft: Box<Draft>, more: u32, from: u32) -> Step
 /// A line `do`.
 pub fn job_line(
     alloc: Global,
-    mut draft: Box<Draft>,
+    mut draft: Box<BegunDossier>,
     more: u32,
     from: u32,
     words: LineWords<'_>,

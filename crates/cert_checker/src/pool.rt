@@ -5,7 +5,7 @@ ghost use Rattle.dossier_terms.specs.Table.{begin};
 ghost use Rattle.cert_checker.specs.Due.{Awaits, IsAwaited, IsBegun, IsStep, draft_of};
 ghost use Rattle.cert_checker.specs.Rules.{TellsRoute};
 
-use crate::due::{Draft, Due, Step};
+use crate::due::{BegunDossier, Due, Step};
 use cert_format::{Expect, LineKind, fault_is_refused, read_line};
 use crew_instance::Plan;
 use dossier_terms::Reason;
@@ -24,7 +24,7 @@ fn natural(n: i64) -> u64
 }
 
 /// What is due where so many routes are to come.
-fn due_routes(draft: Box<Draft>, more: u64) -> Due
+fn due_routes(draft: Box<BegunDossier>, more: u64) -> Due
     requires { IsBegun draft.value }
     ensures { Awaits result (routes_due (draft_of draft.value) more) }
 {
@@ -45,7 +45,7 @@ fn begin_pool(alloc: Global, base: Base, kept: u64, routes: u64) -> Result<Due, 
     let limits = Limits::root(alloc, &base.instance)?;
     let limits = limits.rest();
     let plan = Plan::empty(alloc, base.instance.tasks())?;
-    let draft = Draft {
+    let draft = BegunDossier {
         base,
         kept,
         limits,
@@ -77,7 +77,7 @@ pub fn pool_line(alloc: Global, base: Box<Base>, words: LineWords<'_>) -> Result
 }
 
 /// What is said behind a route, of which the pool says this, where so many more are to come.
-fn judge_route(draft: Box<Draft>, more: u64, verdict: PoolVerdict) -> Step
+fn judge_route(draft: Box<BegunDossier>, more: u64, verdict: PoolVerdict) -> Step
     requires { IsBegun draft.value }
     ensures { TellsRoute draft.value more verdict result }
 {
@@ -90,7 +90,7 @@ fn judge_route(draft: Box<Draft>, more: u64, verdict: PoolVerdict) -> Step
 /// A line `route`.
 pub fn route_line(
     alloc: Global,
-    mut draft: Box<Draft>,
+    mut draft: Box<BegunDossier>,
     more: u64,
     words: LineWords<'_>,
 ) -> Result<Step, AllocError>

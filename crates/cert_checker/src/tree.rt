@@ -1,10 +1,10 @@
 // The line `tree`: the numbers of a branch tree.
 ghost use Rattle.std.specs.Prelude.{◌≡◌, [], IfOk};
 ghost use Rattle.dossier_terms.specs.Table.{IsCounts};
-ghost use Rattle.cert_checker.specs.Due.{IsAwaited, IsNode, IsRoot, IsStep, draft_of};
+ghost use Rattle.cert_checker.specs.Due.{IsAwaited, IsAtNode, IsRoot, IsStep, draft_of};
 ghost use Rattle.cert_checker.specs.Rules.{IsTreeFault};
 
-use crate::due::{Draft, Due, Step, TreeDraft};
+use crate::due::{BegunDossier, Due, Step, TreeDraft};
 use cert_format::{Expect, LineKind, fault_is_refused, read_line};
 use crew_instance::unassigned;
 use crew_terms::TreeCounts;
@@ -14,7 +14,7 @@ use std::alloc::{AllocError, Global};
 use tree_walk::Walk;
 
 /// The first rule that the numbers of a tree break: they must fit each other, the budget and the bound.
-fn fault_of_tree(draft: &Draft, claimed: TreeCounts) -> Option<Reason>
+fn fault_of_tree(draft: &BegunDossier, claimed: TreeCounts) -> Option<Reason>
     requires { IsCounts claimed }
     ensures { IsTreeFault (draft_of draft.now) claimed result }
 {
@@ -34,14 +34,14 @@ fn fault_of_tree(draft: &Draft, claimed: TreeCounts) -> Option<Reason>
 /// A dossier whose tree is to be read from its root on. No memory is taken by the numbers that are claimed.
 fn begin_tree(
     alloc: Global,
-    draft: Box<Draft>,
+    draft: Box<BegunDossier>,
     claimed: TreeCounts,
 ) -> Result<Box<TreeDraft>, AllocError>
     requires root { IsRoot draft.value.base.instance draft.value.limits }
     requires counts { IsCounts claimed }
     ensures draft { IfOk result (λ tree. tree.value.draft ≡ draft) }
     ensures claimed { IfOk result (λ tree. tree.value.claimed ≡ claimed) }
-    ensures node { IfOk result (λ tree. IsNode tree.value []) }
+    ensures node { IfOk result (λ tree. IsAtNode tree.value []) }
 {
     let tree = TreeDraft {
         draft,
@@ -53,7 +53,7 @@ fn begin_tree(
 }
 
 /// The line `tree`.
-pub fn tree_line(alloc: Global, draft: Box<Draft>, words: LineWords<'_>) -> Result<Step, AllocError>
+pub fn tree_line(alloc: Global, draft: Box<BegunDossier>, words: LineWords<'_>) -> Result<Step, AllocError>
     requires { IsAwaited (Due.Tree draft) }
     ensures { IfOk result (IsStep (Due.Tree draft) words.entry) }
 {

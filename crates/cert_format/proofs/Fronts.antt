@@ -4,6 +4,7 @@ use Rattle.std.specs.Prelude.{Result, Ok, Err, OnErr}
 use Rattle.std.specs.List.{join_with_byte}
 use Rattle.std.proofs.lemmas.List.{take_more, map-append, take-append-le, take-append-drop}
 use Rattle.crew_io.specs.Io.{Appended, AppendedPart}
+use Rattle.crew_io.specs.Appends.{take_past}
 use Rattle.crew_terms.specs.Words.{Words, line_text}
 
 -- the whole begins with the bytes
@@ -13,17 +14,6 @@ pub record IsFront (xs whole : List ℕ) : Type 0 where
 
 pub front_within : (xs ys whole : List ℕ) → IsFront xs ys → IsFront ys whole → IsFront xs whole
 front_within xs ys whole a b = record { rest = a.rest ++ b.rest; is = b.is ∙ ap (λ zs. zs ++ b.rest) a.is ∙ append_assoc xs a.rest b.rest }
-
-pub appended_both : (old mid new : Option (List ℕ)) (xs ys : List ℕ) → Appended old mid xs → Appended mid new ys → Appended old new (xs ++ ys)
-appended_both None mid new xs ys a b = subst (λ m. Appended m new ys) a b
-appended_both (Some bytes) mid new xs ys a b = subst (λ m. Appended m new ys) a b ∙ ap Some (append_assoc bytes xs ys)
-
-take_past : (xs zs : List ℕ) (n : ℕ) → take (length xs + n) (xs ++ zs) ≡ xs ++ take n zs
-take_past [] zs n = ap (λ k. take k zs) (omega arith)
-take_past (x ∷ xs) zs n = ap (λ k. take k (x ∷ (xs ++ zs))) (suc_plus (length xs) n) ∙ ap (λ l. x ∷ l) (take_past xs zs n)
-  where
-    suc_plus : (a b : ℕ) → suc a + b ≡ suc (a + b)
-    suc_plus a b = omega arith
 
 pub part_after : (old mid new : Option (List ℕ)) (xs ys whole : List ℕ) → Appended old mid xs → AppendedPart mid new ys → IsFront (xs ++ ys) whole → AppendedPart old new whole
 part_after None mid new xs ys whole a b f = subst (λ m. AppendedPart m new ys) a b

@@ -10,22 +10,19 @@ use Rattle.std.proofs.lemmas.List.Elements.{filter-append, All-get_or}
 use Rattle.std.proofs.lemmas.List.Concat.{flat_map-append}
 use Rattle.std.proofs.lemmas.List.FromFn.{map-range_with_len_more}
 use Rattle.crew_io.specs.Io.{Appended, AppendedPart}
+use Rattle.crew_io.specs.Appends.{appended_none, appended_both}
 use Rattle.crew_terms.specs.Words.{Words, line_text}
 use Rattle.crew_terms.specs.Instance.{Instance, minutes_between}
 use Rattle.crew_terms.specs.Rules.{IsInstance}
 use Rattle.dossier_terms.specs.Lines.{instance_text, size_of, size_line, place_line, travel_line, team_line, task_line}
-use Rattle.cert_format.specs.Parts.{text_of}
+use Rattle.cert_format.specs.Parts.{part_word}
 use Rattle.cert_format.specs.declared.lines_out.Part.{Part}
 use Rattle.cert_format.specs.declared.lines_out.Part.TheVariants.{Number}
-use Rattle.cert_format.proofs.Fronts.{IsFront, appended_both, part_after}
+use Rattle.cert_format.proofs.Fronts.{IsFront, part_after}
 
 -- the text of some lines
 abbrev pub text_of_lines : {A : Type 0} → (A → Words) → List A → List ℕ
 text_of_lines line items = flat_map line_text (map line items)
-
-pub appended_none : (got : Option (List ℕ)) → Appended got got []
-appended_none None = refl
-appended_none (Some bytes) = ap Some (sym (append-nil bytes))
 
 module _ {A : Type 0} (line : A → Words) (items : List A) (i : ℕ) (d : A) (within : i < length items) where
   lines_more : text_of_lines line (take (i + 1) items) ≡ text_of_lines line (take i items) ++ line_text (line (get_or items i d))
@@ -82,20 +79,20 @@ skill_not mask n h =
 
 -- one skill more was added to a line
 pub skill_pushed : (mask n : ℕ) (old new : List Part) (part : Part) (before : Words) → part ≡ Number n → new ≡ old ++ part ∷ [] → bit_at mask n ≡ 1
-    → map text_of old ≡ before ++ map decimal (skills_below mask n) → map text_of new ≡ before ++ map decimal (skills_below mask (n + 1))
+    → map part_word old ≡ before ++ map decimal (skills_below mask n) → map part_word new ≡ before ++ map decimal (skills_below mask (n + 1))
 skill_pushed mask n old new part before is pushed has so =
-    ap (map text_of) pushed ∙ map-append text_of old (part ∷ []) ∙ ap (λ x. map text_of old ++ text_of x ∷ []) is ∙ ap (λ ws. ws ++ decimal n ∷ []) so
+    ap (map part_word) pushed ∙ map-append part_word old (part ∷ []) ∙ ap (λ x. map part_word old ++ part_word x ∷ []) is ∙ ap (λ ws. ws ++ decimal n ∷ []) so
     ∙ append_assoc before (map decimal (skills_below mask n)) (decimal n ∷ [])
     ∙ ap (λ ws. before ++ ws) (sym (map-append decimal (skills_below mask n) (n ∷ [])) ∙ ap (map decimal) (sym (skill_more mask n has)))
 
 -- one travel time more was added to a line
 pub time_pushed : (i : Instance) (a b minutes : ℕ) (old new : List Part) (part : Part) → IsInstance i → a < length i.places → b < length i.places
-    → minutes ≡ minutes_between i a b → part ≡ Number minutes → new ≡ old ++ part ∷ [] → map text_of old ≡ codes "travel" ∷ map decimal (take b (slice_index_or i.travel a []))
-    → map text_of new ≡ codes "travel" ∷ map decimal (take (b + 1) (slice_index_or i.travel a []))
+    → minutes ≡ minutes_between i a b → part ≡ Number minutes → new ≡ old ++ part ∷ [] → map part_word old ≡ codes "travel" ∷ map decimal (take b (slice_index_or i.travel a []))
+    → map part_word new ≡ codes "travel" ∷ map decimal (take (b + 1) (slice_index_or i.travel a []))
 time_pushed i a b minutes old new part is from to time part_is pushed so =
     let row = slice_index_or i.travel a [] in
     let n : length row ≡ length i.places = All-get_or (λ r. length r ≡ length i.places) i.travel a [] (let r = is.times.rows in omega (arith, from, r)) is.times.columns in
-    ap (map text_of) pushed ∙ map-append text_of old (part ∷ []) ∙ ap (λ x. map text_of old ++ text_of x ∷ []) (part_is ∙ ap Number time) ∙ ap (λ ws. ws ++ decimal (minutes_between i a b) ∷ []) so
+    ap (map part_word) pushed ∙ map-append part_word old (part ∷ []) ∙ ap (λ x. map part_word old ++ part_word x ∷ []) (part_is ∙ ap Number time) ∙ ap (λ ws. ws ++ decimal (minutes_between i a b) ∷ []) so
     ∙ ap (λ ws. codes "travel" ∷ ws) (sym (map-append decimal (take b row) (minutes_between i a b ∷ [])) ∙ ap (map decimal) (sym (take_more row b 0 (omega (arith, n, to)))))
 
 -- ---- the parts of an instance, one after another

@@ -20,11 +20,12 @@ use Rattle.field_table.specs.declared.fields.Kind.TheVariants.{Number}
 use Rattle.cert_format.specs.declared.kinds.LineKind.{LineKind}
 use Rattle.cert_format.specs.declared.kinds.LineKind.TheVariants as kinds
 use Rattle.cert_format.specs.Fields.{IsIn, SpellIn, SpellVisits, IsRowOf}
-use Rattle.cert_format.specs.Lines.{IsRouteOf, IsRouteLine, IsPriceLine, IsExtraLine, IsWorthLine, IsPhiLine}
+use Rattle.dossier_terms.specs.Table.{IsRouteLine}
+use Rattle.dossier_terms.specs.Counted.{visits_length}
+use Rattle.cert_format.specs.Lines.{IsRouteOf, IsPriceLine, IsExtraLine, IsWorthLine, IsPhiLine}
 use Rattle.cert_format.proofs.Accepted.{cast, number_field, row_of}
 use Rattle.cert_format.proofs.Fields.{accepted}
 use Rattle.cert_format.proofs.Wrong.{NoneRead, none_of}
-use Rattle.cert_format.proofs.Visits.{length-visits}
 
 -- ---- ranges
 
@@ -134,7 +135,7 @@ route_team ws zs last pairs a =
     (row.0.1, row.0.2, first_word ws (decimal (cast (get_or zs 0 (pos 0)))) pairs row.1)
 
 pub route_line_of : (teams tasks team : ℕ) (ws : Words) (vs : List Visit) → Begins (codes "route") ws → IsPairs ws → team < teams → get_or ws 1 [] ≡ decimal team
-    → SpellVisits tasks vs (drop 2 ws) → IsRouteOf teams tasks (record { team = team; visits = vs }) × (ws ≡ route_line (record { team = team; visits = vs }))
+    → SpellVisits tasks vs (drop 2 ws) → IsRouteLine teams tasks (record { team = team; visits = vs }) × (ws ≡ route_line (record { team = team; visits = vs }))
 route_line_of teams tasks team ws vs ([], is) pairs known first s = absurd (let all = pairs.1 in let l = ap length is in omega arith)
 route_line_of teams tasks team ws vs (x ∷ rest, is) pairs known first s =
     let here : drop 2 ws ≡ rest = ap (drop 2) is in
@@ -142,13 +143,13 @@ route_line_of teams tasks team ws vs (x ∷ rest, is) pairs known first s =
     let visits : rest ≡ flat_map visit_words vs = sym here ∙ s.spelled in
     let all = pairs.1 in
     let whole = ap length is in
-    let size = ap length visits ∙ length-visits vs in (
+    let size = ap length visits ∙ visits_length vs in (
       record { team = known; some = omega arith; tasks = s.known; starts = s.starts },
       is ∙ ap (λ w. codes "route" ∷ w ∷ rest) word ∙ ap (λ xs. codes "route" ∷ decimal team ∷ xs) visits,
     )
 
 pub team_wrong : (teams tasks : ℕ) (ws : Words) (last : ℤ) → last +ℤ pos 1 ≡ pos teams → teams < 2 ^ 32 → NoneRead (number_field 0 last ∷ []) ws
-    → (kind : LineKind) → IsRouteLine teams tasks ws kind → ⊥
+    → (kind : LineKind) → IsRouteOf teams tasks ws kind → ⊥
 team_wrong teams tasks ws last e few none (kinds.Route team visits) (vs, f, route, is) =
     let known = route.team in
     none_of (number_field 0 last ∷ []) ws (codes "route") (team ∷ []) (flat_map visit_words vs) none (refl, omega (arith, ints), omega (arith, ints), omega arith, tt) is

@@ -13,6 +13,7 @@ use Rattle.crew_terms.specs.Leaf.{IsPrice}
 use Rattle.crew_terms.specs.declared.Visit.{Visit}
 use Rattle.crew_terms.specs.declared.TreeCounts.{TreeCounts}
 use Rattle.dossier_terms.specs.declared.Size.{Size}
+use Rattle.dossier_terms.specs.Counted.{visits_length}
 use Rattle.crew_terms.specs.declared.TheConstants.{SKILLS, LAST_MINUTE}
 use Rattle.cert_format.specs.declared.kinds.Expect.{Expect}
 use Rattle.cert_format.specs.declared.kinds.Expect.TheVariants as expected
@@ -20,11 +21,11 @@ use Rattle.cert_format.specs.declared.kinds.LineKind.{LineKind}
 use Rattle.cert_format.specs.declared.kinds.LineKind.TheVariants as kinds
 use Rattle.cert_format.specs.declared.kinds.LineFault.{LineFault}
 use Rattle.cert_format.specs.declared.kinds.LineFault.TheVariants.{Shape, Number, Name}
-use Rattle.cert_format.specs.Lines.{IsFormLine, IsSizeLine, IsPlaceLine, IsTimesLine, IsTeamOf, IsTaskOf, IsPoolLine, IsRouteLine, IsPlanLine, IsJobLine, IsTreeLine, IsNodeLine, IsPriceLine, IsExtraLine, IsWorthLine, IsPhiLine, IsEndLine, IsLineOf, WindowShape, PairShape, BareShape, OpenShape, ClosedShape, HasShape, HasNames, IsFaultOf, ReadsLine}
+use Rattle.cert_format.specs.Lines.{IsFormLine, IsSizeLine, IsPlaceLine, IsTimesLine, IsTeamOf, IsTaskOf, IsPoolLine, IsRouteOf, IsPlanLine, IsJobLine, IsTreeLine, IsNodeLine, IsPriceLine, IsExtraLine, IsWorthLine, IsPhiLine, IsEndLine, IsLineOf, WindowShape, PairShape, BareShape, OpenShape, ClosedShape, HasShape, HasNames, IsFaultOf, ReadsLine}
 use Rattle.cert_format.specs.Fields.{visit_numbers}
 use Rattle.cert_format.specs.ReadBack.{HasCounts}
 use Rattle.cert_format.proofs.LeafLines.{price_fits, worth_fits}
-use Rattle.cert_format.proofs.Visits.{length-visits, visits_map}
+use Rattle.cert_format.proofs.Visits.{visits_map}
 
 -- ---- numbers have one spelling
 
@@ -138,7 +139,7 @@ visits_wide : (tasks : ℕ) (vs : List Visit) → tasks < 4294967296 → AllByRe
 visits_wide tasks [] few known starts = tt
 visits_wide tasks (v ∷ vs) few known starts = (omega (arith, known.0), (omega (arith, starts.0), visits_wide tasks vs few known.1 starts.1))
 
-route_one : (teams tasks : ℕ) (ws : Words) (a b : LineKind) → teams < 4294967296 → tasks < 4294967296 → IsRouteLine teams tasks ws a → IsRouteLine teams tasks ws b → a ≡ b
+route_one : (teams tasks : ℕ) (ws : Words) (a b : LineKind) → teams < 4294967296 → tasks < 4294967296 → IsRouteOf teams tasks ws a → IsRouteOf teams tasks ws b → a ≡ b
 route_one teams tasks ws (kinds.Route k v) (kinds.Route l u) some few (vs, p, h, e) (us, q, g, f) =
     let spelled : map decimal (k ∷ flat_map visit_numbers vs) ≡ map decimal (l ∷ flat_map visit_numbers us) =
     ap (λ xs. decimal k ∷ xs) (sym (visits_map vs)) ∙ behind (codes "route") ws _ _ e f ∙ ap (λ xs. decimal l ∷ xs) (visits_map us) in
@@ -331,7 +332,7 @@ route_fits : (teams tasks : ℕ) (ws : Words) (kind : LineKind) → Fits (expect
 route_fits teams tasks ws (kinds.Route team visits) ([], e, route, is) = absurd (let some = route.some in omega arith)
 route_fits teams tasks ws (kinds.Route team visits) (v ∷ vs, e, route, is) =
     let all = ap length is in
-    let more = length-visits vs in
+    let more = visits_length vs in
     (((_, is), (length vs, omega arith)), tt)
 route_fits teams tasks ws _ h = absurd h
 

@@ -19,10 +19,6 @@ pub record SpellsVisit (tasks : ℕ) (a b : List ℕ) : Type 0 where
   pub first : a ≡ decimal visit.task
   pub second : b ≡ decimal visit.start
 
-pub length-visits : (vs : List Visit) → length (flat_map visit_words vs) ≡ 2 * length vs
-length-visits [] = refl
-length-visits (v ∷ vs) = let l = length-visits vs in omega arith
-
 -- a pair of words after the first pair
 later : (a b : List ℕ) (ws : Words) (k : ℕ) → get_or (a ∷ b ∷ ws) (2 * suc k) [] ≡ get_or ws (2 * k) []
 later a b ws k = ap (λ n. get_or (a ∷ b ∷ ws) n []) (let e : 2 * suc k ≡ suc (suc (2 * k)) = omega arith in e)

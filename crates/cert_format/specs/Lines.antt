@@ -12,7 +12,7 @@ use Rattle.dossier_terms.specs.Dossier.{IsWorthNumber, IsSigned}
 use Rattle.crew_terms.specs.Limits.{Route}
 use Rattle.crew_terms.specs.declared.TheConstants.{LAST_MINUTE}
 use Rattle.dossier_terms.specs.Rules.{IsShape, IsShapeFrom, Begins}
-use Rattle.dossier_terms.specs.Table.{IsSize, IsTravel, IsTeamLine, IsTaskLine, IsCounts, AreNumbers, HasName, IsPairs, IsRow}
+use Rattle.dossier_terms.specs.Table.{IsSize, IsTravel, IsTeamLine, IsTaskLine, IsRouteLine, IsDoLine, IsCounts, AreNumbers, HasName, IsPairs, IsRow}
 use Rattle.dossier_terms.specs.Lines.{form_line, size_line, place_line, travel_line, team_words, task_words, pool_line, route_line, plan_line, do_line, tree_line, window_line, pair_line, bare_line, open_line, closed_line, price_line, extra_line, worth_line, phi_line, end_line}
 use Rattle.cert_format.specs.Fields.{visit_numbers}
 use Rattle.cert_format.specs.declared.kinds.Expect.{Expect}
@@ -57,31 +57,18 @@ IsPoolLine ws (kinds.Pool kept routes) = (k c : ℕ) × (kept ≡ pos k) × (rou
     × (k ≤ 9223372036854775807) × (c ≤ 9223372036854775807) × (ws ≡ pool_line k c)
 IsPoolLine ws _ = ⊥
 
--- a route as its line spells it, where there are m teams and n tasks: the ranges of its numbers
-pub record IsRouteOf (m n : ℕ) (r : Route) : Type 0 where
-  pub team : r.team < m
-  pub some : 1 ≤ length r.visits
-  pub tasks : AllByRecursion (λ (v : Visit). v.task < n) r.visits
-  pub starts : AllByRecursion (λ (v : Visit). v.start ≤ LAST_MINUTE) r.visits
-
-abbrev pub IsRouteLine : ℕ → ℕ → Words → LineKind → Type 0
-IsRouteLine teams tasks ws (kinds.Route team visits) = (vs : List Visit) × (visits ≡ map pos (flat_map visit_numbers vs))
-    × IsRouteOf teams tasks (record { team = team; visits = vs }) × (ws ≡ route_line (record { team = team; visits = vs }))
-IsRouteLine teams tasks ws _ = ⊥
+abbrev pub IsRouteOf : ℕ → ℕ → Words → LineKind → Type 0
+IsRouteOf teams tasks ws (kinds.Route team visits) = (vs : List Visit) × (visits ≡ map pos (flat_map visit_numbers vs))
+    × IsRouteLine teams tasks (record { team = team; visits = vs }) × (ws ≡ route_line (record { team = team; visits = vs }))
+IsRouteOf teams tasks ws _ = ⊥
 
 abbrev pub IsPlanLine : ℕ → Words → LineKind → Type 0
 IsPlanLine tasks ws (kinds.Plan unassigned bound) = (unassigned ≤ tasks) × (bound ≤ tasks) × (ws ≡ plan_line unassigned bound)
 IsPlanLine tasks ws _ = ⊥
 
--- a job as its line spells it, where there are m teams and n tasks: the ranges of its numbers
-pub record IsJobOf (m n : ℕ) (p : ℕ × Job) : Type 0 where
-  pub task : p.0 < n
-  pub start : p.1.start ≤ LAST_MINUTE
-  pub teams : AllByRecursion (λ k. k < m) p.1.teams
-
 abbrev pub IsJobLine : ℕ → ℕ → Words → LineKind → Type 0
 IsJobLine teams tasks ws (kinds.Job task start ks) = (ns : List ℕ) × (ks ≡ map pos ns)
-    × IsJobOf teams tasks (task, record { start = start; teams = ns }) × (ws ≡ do_line (task, record { start = start; teams = ns }))
+    × IsDoLine teams tasks (task, record { start = start; teams = ns }) × (ws ≡ do_line (task, record { start = start; teams = ns }))
 IsJobLine teams tasks ws _ = ⊥
 
 abbrev pub IsTreeLine : Words → LineKind → Type 0
@@ -125,7 +112,7 @@ IsLineOf (expected.Travel places) ws kind = IsTimesLine places ws kind
 IsLineOf (expected.Team places) ws kind = IsTeamOf places ws kind
 IsLineOf (expected.Task places) ws kind = IsTaskOf places ws kind
 IsLineOf expected.Pool ws kind = IsPoolLine ws kind
-IsLineOf (expected.Route teams tasks) ws kind = IsRouteLine teams tasks ws kind
+IsLineOf (expected.Route teams tasks) ws kind = IsRouteOf teams tasks ws kind
 IsLineOf (expected.Plan tasks) ws kind = IsPlanLine tasks ws kind
 IsLineOf (expected.Job teams tasks) ws kind = IsJobLine teams tasks ws kind
 IsLineOf expected.Tree ws kind = IsTreeLine ws kind

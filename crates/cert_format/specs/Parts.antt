@@ -5,6 +5,6 @@ use Rattle.cert_format.specs.declared.lines_out.Part.{Part}
 use Rattle.cert_format.specs.declared.lines_out.Part.TheVariants.{Word, Number}
 
 -- the word that a part is
-abbrev pub text_of : Part → List ℕ
-text_of (Word w) = w.now
-text_of (Number n) = decimal n
+abbrev pub part_word : Part → List ℕ
+part_word (Word w) = w.now
+part_word (Number n) = decimal n

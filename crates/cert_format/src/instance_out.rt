@@ -7,7 +7,7 @@ ghost use Rattle.crew_terms.specs.Words.{line_text};
 ghost use Rattle.crew_io.specs.Io.{Rose, Appended, AppendedPart};
 ghost use Rattle.dossier_terms.specs.Dossier.{skills_of};
 ghost use Rattle.dossier_terms.specs.Lines.{instance_text, size_line, size_of, place_line, travel_line, team_line, task_line};
-ghost use Rattle.cert_format.specs.Parts.{text_of};
+ghost use Rattle.cert_format.specs.Parts.{part_word};
 
 use crate::lines_out::{Part, put_line};
 use arrayvec::ArrayVec;
@@ -95,7 +95,7 @@ fn put_travels<K: Sink>(out: &mut K, instance: &Instance) -> Result<(), WriteFau
 /// Adds the numbers of the skills of a set, rising.
 fn push_skills(line: &mut Line<'_>, skills: u64)
     requires { array_vec_len line.old + SKILLS ≤ MOST_PARTS }
-    ensures { map text_of line.new.items ≡ map text_of line.old.items ++ map decimal (skills_of skills) }
+    ensures { map part_word line.new.items ≡ map part_word line.old.items ++ map decimal (skills_of skills) }
 {
     for s in 0..SKILLS {
         if skills >> s & 1 == 1 {

@@ -2,7 +2,7 @@
 ghost use Rattle.std.specs.Prelude.{◌≡◌};
 ghost use Rattle.cert_format.specs.Expected.{reason_for};
 
-use crate::numbers::Rest;
+use crate::numbers::LineNumbers;
 use crew_terms::{Name, TreeCounts};
 use dossier_terms::{Reason, Size};
 
@@ -43,14 +43,14 @@ pub enum LineKind<'a> {
         name: Name,
     },
     Travel {
-        times: Rest<'a>,
+        times: LineNumbers<'a>,
     },
     Team {
         name: Name,
         home: u32,
         from: u32,
         until: u32,
-        skills: Rest<'a>,
+        skills: LineNumbers<'a>,
     },
     Task {
         name: Name,
@@ -59,7 +59,7 @@ pub enum LineKind<'a> {
         latest: u32,
         minutes: u32,
         teams: u32,
-        skills: Rest<'a>,
+        skills: LineNumbers<'a>,
     },
     /// How many routes come from the round before, and how many routes there are.
     Pool {
@@ -69,7 +69,7 @@ pub enum LineKind<'a> {
     /// The visits of a team: of each its task, and the minute at which it begins.
     Route {
         team: u32,
-        visits: Rest<'a>,
+        visits: LineNumbers<'a>,
     },
     Plan {
         unassigned: u32,
@@ -79,7 +79,7 @@ pub enum LineKind<'a> {
     Job {
         task: u32,
         start: u32,
-        teams: Rest<'a>,
+        teams: LineNumbers<'a>,
     },
     Tree {
         counts: TreeCounts,
@@ -99,12 +99,12 @@ pub enum LineKind<'a> {
     LeafClosed,
     /// A price of each task.
     Price {
-        prices: Rest<'a>,
+        prices: LineNumbers<'a>,
     },
     /// A price of each required pair of a task, by team.
     Extra {
         task: u32,
-        prices: Rest<'a>,
+        prices: LineNumbers<'a>,
     },
     /// A team's worth.
     Worth {
@@ -113,7 +113,7 @@ pub enum LineKind<'a> {
     /// A potential of a team's task for each minute at which the team may begin it.
     Phi {
         task: u32,
-        values: Rest<'a>,
+        values: LineNumbers<'a>,
     },
     End,
 }

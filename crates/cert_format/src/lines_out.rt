@@ -2,7 +2,7 @@
 ghost use Rattle.std.specs.Prelude.{◌≡◌, ◌≤◌, ◌++◌, [], ◌∷◌, map, OnOk, OnErr, IsErr};
 ghost use Rattle.crew_io.specs.Io.{Rose, Appended, AppendedPart};
 ghost use Rattle.crew_terms.specs.Words.{line_text};
-ghost use Rattle.cert_format.specs.Parts.{text_of};
+ghost use Rattle.cert_format.specs.Parts.{part_word};
 
 use arrayvec::ArrayVec;
 use crew_io::sink::{Sink, WriteFault, put_all};
@@ -27,7 +27,7 @@ pub enum Part<'a> {
 impl Default for Part<'_> {
     ghost use Rattle.std.specs.Prelude.{[]};
 
-    ghost is_default = { λ part. text_of part ≡ [] };
+    ghost is_default = { λ part. part_word part ≡ [] };
 
     /// An empty word.
     fn default() -> Self {
@@ -57,7 +57,7 @@ fn add_byte(line: &mut ShortLine, byte: u8) -> Result<(), Longer>
 
 /// Adds the word that a part is to a short line, where it fits.
 fn add_part(line: &mut ShortLine, part: &Part<'_>) -> Result<(), Longer>
-    ensures { OnOk result (line.new.items ≡ line.old.items ++ text_of part.now) }
+    ensures { OnOk result (line.new.items ≡ line.old.items ++ part_word part.now) }
 {
     match part {
         Part::Word(word) => add(line, word),
@@ -71,7 +71,7 @@ fn add_part(line: &mut ShortLine, part: &Part<'_>) -> Result<(), Longer>
 /// Makes an empty short line the line of these parts with its LF, where it fits.
 fn gather(line: &mut ShortLine, parts: &[Part<'_>]) -> Result<(), Longer>
     requires { line.old.items ≡ [] }
-    ensures { OnOk result (line.new.items ≡ line_text (map text_of parts.now)) }
+    ensures { OnOk result (line.new.items ≡ line_text (map part_word parts.now)) }
 {
     let Some((first, others)) = parts.split_first() else {
         return add_byte(line, b'\n');
@@ -85,8 +85,8 @@ fn gather(line: &mut ShortLine, parts: &[Part<'_>]) -> Result<(), Longer>
 }
 
 fn put_part<K: Sink>(out: &mut K, part: &Part<'_>) -> Result<(), WriteFault>
-    ensures all { OnOk result (Appended (K.got out.old) (K.got out.new) (text_of part.now)) }
-    ensures part { OnErr result (AppendedPart (K.got out.old) (K.got out.new) (text_of part.now)) }
+    ensures all { OnOk result (Appended (K.got out.old) (K.got out.new) (part_word part.now)) }
+    ensures part { OnErr result (AppendedPart (K.got out.old) (K.got out.new) (part_word part.now)) }
     ensures later { K.faults out.old ≤ K.faults out.new }
     ensures cause { IsErr result → Rose (K.faults out.old) (K.faults out.new) }
     ensures told { OnOk result (K.faults out.new ≡ K.faults out.old) }
@@ -103,8 +103,8 @@ fn put_part<K: Sink>(out: &mut K, part: &Part<'_>) -> Result<(), WriteFault>
 
 /// Writes a line of any length, a word at a time.
 fn put_long<K: Sink>(out: &mut K, parts: &[Part<'_>]) -> Result<(), WriteFault>
-    ensures all { OnOk result (Appended (K.got out.old) (K.got out.new) (line_text (map text_of parts.now))) }
-    ensures part { OnErr result (AppendedPart (K.got out.old) (K.got out.new) (line_text (map text_of parts.now))) }
+    ensures all { OnOk result (Appended (K.got out.old) (K.got out.new) (line_text (map part_word parts.now))) }
+    ensures part { OnErr result (AppendedPart (K.got out.old) (K.got out.new) (line_text (map part_word parts.now))) }
     ensures later { K.faults out.old ≤ K.faults out.new }
     ensures cause { IsErr result → Rose (K.faults out.old) (K.faults out.new) }
     ensures told { OnOk result (K.faults out.new ≡ K.faults out.old) }
@@ -122,8 +122,8 @@ fn put_long<K: Sink>(out: &mut K, parts: &[Part<'_>]) -> Result<(), WriteFault>
 /// Writes a line of these parts with its LF; it takes no memory. After a fault, a front of the line was
 /// written.
 pub fn put_line<K: Sink>(out: &mut K, parts: &[Part<'_>]) -> Result<(), WriteFault>
-    ensures all { OnOk result (Appended (K.got out.old) (K.got out.new) (line_text (map text_of parts.now))) }
-    ensures part { OnErr result (AppendedPart (K.got out.old) (K.got out.new) (line_text (map text_of parts.now))) }
+    ensures all { OnOk result (Appended (K.got out.old) (K.got out.new) (line_text (map part_word parts.now))) }
+    ensures part { OnErr result (AppendedPart (K.got out.old) (K.got out.new) (line_text (map part_word parts.now))) }
     ensures later { K.faults out.old ≤ K.faults out.new }
     ensures cause { IsErr result → Rose (K.faults out.old) (K.faults out.new) }
     ensures told { OnOk result (K.faults out.new ≡ K.faults out.old) }

@@ -12,25 +12,25 @@ use std::marker::Model;
 
 /// The numbers at the end of a line, in its order; it borrows the line.
 #[derive(Drop)]
-pub struct Rest<'a> {
+pub struct LineNumbers<'a> {
     words: LineWords<'a>,
     from: usize,
     len: usize,
 }
 
-impl<'a> Model for Rest<'a> {
+impl<'a> Model for LineNumbers<'a> {
     ghost use Rattle.std.specs.Prelude.{List, ℤ};
 
     ghost Value = { List ℤ };
 
-    ghost use Rattle.cert_format.specs.Numbers.{numbers_of, AreNumbers};
+    ghost use Rattle.cert_format.specs.Numbers.{numbers_of, AreLineNumbers};
 
     ghost view = { numbers_of };
 
-    ghost invariant = { AreNumbers };
+    ghost invariant = { AreLineNumbers };
 }
 
-impl<'a> Rest<'a> {
+impl<'a> LineNumbers<'a> {
     /// How many numbers there are.
     pub fn len(&self) -> usize
         ensures { result ≡ length self.now }
@@ -91,7 +91,7 @@ pub(crate) fn read_rest<'a>(
     words: LineWords<'a>,
     from: usize,
     field: Field,
-) -> Result<Rest<'a>, LineFault>
+) -> Result<LineNumbers<'a>, LineFault>
     requires numbers { field.kind ≡ Kind.Number }
     requires within { from ≤ length words }
     ensures { MatchResult result (λ rest. SpellIn field rest (drop from words.entry))
@@ -101,7 +101,7 @@ pub(crate) fn read_rest<'a>(
         return Err(LineFault::Number);
     }
     let len = words.count() - from;
-    Ok(Rest { words, from, len })
+    Ok(LineNumbers { words, from, len })
 }
 
 /// The numbers of the words from a place on, each below `past`.
@@ -109,7 +109,7 @@ pub(crate) fn read_below<'a>(
     words: LineWords<'a>,
     from: usize,
     past: u32,
-) -> Result<Rest<'a>, LineFault>
+) -> Result<LineNumbers<'a>, LineFault>
     requires { from ≤ length words }
     ensures { MatchResult result (λ rest. (ns : List ℕ) × (rest ≡ map pos ns) × SpellBelow past ns (drop from words.entry))
         (λ fault. (fault ≡ LineFault.Number) × ((ns : List ℕ) → SpellBelow past ns (drop from words.entry) → ⊥)) }
@@ -142,7 +142,7 @@ pub(crate) fn read_visits<'a>(
     words: LineWords<'a>,
     from: usize,
     tasks: u32,
-) -> Result<Rest<'a>, LineFault>
+) -> Result<LineNumbers<'a>, LineFault>
     requires pairs { (k : ℕ) × (length words ≡ from + 2 * k) }
     ensures { MatchResult result (λ rest. (vs : List Visit) × (rest ≡ map pos (flat_map visit_numbers vs)) × SpellVisits tasks vs (drop from words.entry))
         (λ fault. (fault ≡ LineFault.Number) × ((vs : List Visit) → SpellVisits tasks vs (drop from words.entry) → ⊥)) }
@@ -151,5 +151,5 @@ pub(crate) fn read_visits<'a>(
         return Err(LineFault::Number);
     }
     let len = words.count() - from;
-    Ok(Rest { words, from, len })
+    Ok(LineNumbers { words, from, len })
 }

@@ -7,24 +7,26 @@ use Rattle.std.proofs.lemmas.List.Concat.{flat_map-append}
 use Rattle.std.proofs.Math.Seq.{take-length}
 use Rattle.crew_terms.specs.Words.{line_text}
 use Rattle.crew_terms.specs.Instance.{Instance}
+use Rattle.crew_terms.specs.declared.TheConstants.{LONGEST_DAY}
 use Rattle.crew_io.specs.Io.{Appended, AppendedPart, HasEnded}
 use Rattle.crew_io.specs.Text.{TookAtMost, ReadsText}
 use Rattle.crew_io.specs.declared.text.Text.TheVariants as text_is
+use Rattle.crew_io.specs.Appends.{take_past, appended_none, appended_both}
 use Rattle.dossier_terms.specs.Lines.{instance_text}
 use Rattle.day_terms.specs.declared.Entry.{Entry}
 use Rattle.day_terms.specs.declared.Entry.TheVariants.{Place, Travel, RouteTime, DefaultTravel, Team, Task, Cancel, Move, Longer, Needs, Sick, Shift, Skill, Unskill, Plan}
 use Rattle.day_terms.specs.declared.Refused.{Refused}
 use Rattle.day_terms.specs.Days.{IsDayOf}
-use Rattle.day_terms.specs.State.{State, start, after_entry, state_after}
-use Rattle.day_terms.specs.Refusal.{Refusal, TooMany, SameName, NoPlace, NoTask, NoTeam, BadWindow, BadShift, BadTeams, MissingTravel as Lacks, refusal_of}
-use Rattle.day_terms.specs.Rounds.{Round, instance_of, round_at, rounds_of}
+use Rattle.day_terms.specs.State.{DayState, start, after_entry, state_after}
+use Rattle.day_terms.specs.Refusal.{AreTaken, Refusal, TooMany, SameName, NoPlace, NoTask, NoTeam, BadWindow, BadShift, BadTeams, MissingTravel as Lacks, refusal_of}
+use Rattle.day_terms.specs.Rounds.{Round, day_instance, round_at, rounds_of}
 use Rattle.flight_changes.specs.Faults.{fault_of}
 use Rattle.flight_changes.specs.declared.faults.ChangeFault.{ChangeFault}
 use Rattle.flight_changes.specs.declared.faults.ChangeFault.TheVariants.{OutOfMemory, MissingTravel}
 use Rattle.crew_cli.specs.Refused.{refused_line}
-use Rattle.crew_cli.specs.Rounds.{DAY, AreTaken, DayStop, ComesTo, AllTaken, BadRecord, BadChange, rounds_text, stop_text, IsRefusedOutput, IsTooLong, IsStopped, IsOutput, OfRounds, OfRefusal, SaysOutputPart, NoByte, SomeBytes, SaysFirstRounds, NoRound, Rounds}
+use Rattle.crew_cli.specs.Rounds.{DayStop, ComesTo, AllTaken, BadRecord, BadChange, rounds_text, stop_text, IsRefusedOutput, IsTooLong, IsStopped, IsOutput, OfRounds, OfRefusal, SaysOutputPart, NoByte, SomeBytes, SaysFirstRounds, NoRound, Rounds}
 use Rattle.crew_cli.specs.Applied.{IsApplied, IsDay, Wrote, is_taken_or_write_fault, is_refused_or_write_fault, is_of_day}
-use Rattle.crew_cli.specs.Run.{OfBytes, Says, IsFine}
+use Rattle.crew_cli.specs.Run.{OfBytes, StatusSays, IsFine}
 use Rattle.crew_cli.specs.declared.run.Command.TheVariants as command
 use Rattle.crew_cli.specs.declared.status.Status.{Status}
 use Rattle.crew_cli.specs.declared.status.Status.TheVariants as status
@@ -32,7 +34,6 @@ use Rattle.crew_cli.specs.declared.apply.Applied.{Applied}
 use Rattle.crew_cli.specs.declared.apply.Applied.TheVariants.{Taken, Refused as IsRefused, WriteFault}
 use Rattle.crew_cli.specs.declared.refused.DayFault.TheVariants.{TooLong, InItself, Change}
 use Rattle.crew_cli.proofs.Days.{goes_on, one_end, round_text, text_more, taken_more, state_more}
-use Rattle.crew_cli.proofs.Said.{appended_none, appended_both}
 
 -- ---- one entry
 
@@ -64,13 +65,13 @@ told_is_no_want BadShift e = cc
 told_is_no_want BadTeams e = cc
 told_is_no_want (Lacks from to) e = cc
 
-pub refused_is_no_want : (a : Applied) (s new : State) (entry : Entry) (fault : ChangeFault) (got later : Option (List ℕ)) → IsApplied s entry a new got later → a ≡ IsRefused fault → Change fault ≢ Change OutOfMemory
+pub refused_is_no_want : (a : Applied) (s new : DayState) (entry : Entry) (fault : ChangeFault) (got later : Option (List ℕ)) → IsApplied s entry a new got later → a ≡ IsRefused fault → Change fault ≢ Change OutOfMemory
 refused_is_no_want a s new entry fault got later applied is e =
     let p = subst (λ x. IsApplied s entry x new got later) is applied in
     let same : fault ≡ OutOfMemory = cc in
     told_is_no_want p.0 (sym p.2 ∙ same)
 
-pub no_round : (s : State) (entry : Entry) → ((nodes : ℕ) → entry ≢ Plan nodes) → round_at s entry ≡ []
+pub no_round : (s : DayState) (entry : Entry) → ((nodes : ℕ) → entry ≢ Plan nodes) → round_at s entry ≡ []
 no_round s (Place name) n = refl
 no_round s (Travel from to minutes) n = refl
 no_round s (RouteTime from to minutes) n = refl
@@ -88,13 +89,13 @@ no_round s (Unskill team skill) n = refl
 no_round s (Plan nodes) n = absurd (n nodes refl)
 
 -- an entry that begins a round
-pub plan_applied : (a : Applied) (s mid : State) (entry : Entry) (nodes : ℕ) (instance : Instance) (got later : Option (List ℕ)) → entry ≡ Plan nodes → refusal_of s entry ≡ None → mid ≡ after_entry s entry
-    → instance ≡ instance_of mid → (a ≡ Taken → Appended got later (instance_text instance nodes)) → (a ≡ WriteFault → AppendedPart got later (instance_text instance nodes))
+pub plan_applied : (a : Applied) (s mid : DayState) (entry : Entry) (nodes : ℕ) (instance : Instance) (got later : Option (List ℕ)) → entry ≡ Plan nodes → refusal_of s entry ≡ None → mid ≡ after_entry s entry
+    → instance ≡ day_instance mid → (a ≡ Taken → Appended got later (instance_text instance nodes)) → (a ≡ WriteFault → AppendedPart got later (instance_text instance nodes))
     → IsTrue (is_taken_or_write_fault a) → IsApplied s entry a mid got later
 plan_applied a s mid entry nodes instance got later is none same i taken part others =
     let m : mid ≡ s = same ∙ ap (after_entry s) is in
     let t : instance_text instance nodes ≡ rounds_text (round_at s entry) =
-    ap (λ x. instance_text x nodes) (i ∙ ap instance_of m) ∙ sym (append-nil (instance_text (instance_of s) nodes)) ∙ ap (λ x. rounds_text (round_at s x)) (sym is) in
+    ap (λ x. instance_text x nodes) (i ∙ ap day_instance m) ∙ sym (append-nil (instance_text (day_instance s) nodes)) ∙ ap (λ x. rounds_text (round_at s x)) (sym is) in
     by a taken part others t
   where
     by : (a : Applied) → (a ≡ Taken → Appended got later (instance_text instance nodes)) → (a ≡ WriteFault → AppendedPart got later (instance_text instance nodes))
@@ -105,13 +106,6 @@ plan_applied a s mid entry nodes instance got later is none same i taken part ot
 
 -- ---- the whole day
 
-take_past : (xs zs : List ℕ) (n : ℕ) → take (length xs + n) (xs ++ zs) ≡ xs ++ take n zs
-take_past [] zs n = ap (λ k. take k zs) (omega arith)
-take_past (x ∷ xs) zs n = ap (λ k. take k (x ∷ (xs ++ zs))) (suc_plus (length xs) n) ∙ ap (λ l. x ∷ l) (take_past xs zs n)
-  where
-    suc_plus : (a b : ℕ) → suc a + b ≡ suc (a + b)
-    suc_plus a b = omega arith
-
 -- what was written so far, and a front of the next piece
 pub piece_front : (old mid new : Option (List ℕ)) (xs ys : List ℕ) → Appended old mid xs → AppendedPart mid new ys → (n : ℕ) × (n ≤ length ys) × Appended old new (xs ++ take n ys)
 piece_front None mid new xs ys p q = (0, omega arith, subst (λ m. AppendedPart m new ys) p q)
@@ -120,7 +114,7 @@ piece_front (Some bytes) mid new xs ys p q =
     (w.0, w.1, w.2 ∙ ap Some (append_assoc bytes xs (take w.0 ys)))
 
 -- the output of a day that comes to this
-pub output_of : (text : List ℕ) (rounds : List Round) (stop : Option DayStop) → length text ≤ DAY → ComesTo text rounds stop → IsOutput text (rounds_text rounds ++ stop_text stop)
+pub output_of : (text : List ℕ) (rounds : List Round) (stop : Option DayStop) → length text ≤ LONGEST_DAY → ComesTo text rounds stop → IsOutput text (rounds_text rounds ++ stop_text stop)
 output_of text rounds None within c = OfRounds (record { within = within; rounds = rounds; comes_to = c; texts = append-nil (rounds_text rounds) })
 output_of text rounds (Some stop) within c = OfRefusal (IsStopped within rounds stop c refl)
 
@@ -138,22 +132,22 @@ take_front [] ys = refl
 take_front (x ∷ xs) ys = ap (λ l. x ∷ l) (take_front xs ys)
 
 -- memory was wanting behind entries that are taken
-pub says_first : (text : List ℕ) (front back : List Entry) (last : Option Refused) (got later : Option (List ℕ)) → length text ≤ DAY → IsDayOf text (front ++ back) last → AreTaken start front
+pub says_first : (text : List ℕ) (front back : List Entry) (last : Option Refused) (got later : Option (List ℕ)) → length text ≤ LONGEST_DAY → IsDayOf text (front ++ back) last → AreTaken start front
     → Appended got later (rounds_text (rounds_of front)) → Wrote got later (SaysFirstRounds text)
 says_first text front back last got later within day taken wrote =
     let g = goes_on text front back last day taken in
     (rounds_text (rounds_of front), wrote, Rounds within (rounds_of front ++ g.rest) g.stop g.comes_to (length (rounds_of front)) (ap rounds_text (sym (take_front (rounds_of front) g.rest))))
 
 -- no record was refused
-pub says_rounds : (text : List ℕ) (entries : List Entry) (got later : Option (List ℕ)) → length text ≤ DAY → IsDayOf text entries None → AreTaken start entries
-    → Appended got later (rounds_text (rounds_of entries)) → Wrote got later (Says command.Apply status.Done None text)
+pub says_rounds : (text : List ℕ) (entries : List Entry) (got later : Option (List ℕ)) → length text ≤ LONGEST_DAY → IsDayOf text entries None → AreTaken start entries
+    → Appended got later (rounds_text (rounds_of entries)) → Wrote got later (StatusSays command.Apply status.Done None text)
 says_rounds text entries got later within day taken wrote =
     (rounds_text (rounds_of entries), wrote, record { within = within; rounds = rounds_of entries; comes_to = AllTaken entries day taken refl refl; texts = refl })
 
 -- a record is refused
-pub says_stop : (text : List ℕ) (rounds : List Round) (stop : DayStop) (got mid later : Option (List ℕ)) (answer : Status) → length text ≤ DAY → ComesTo text rounds (Some stop)
+pub says_stop : (text : List ℕ) (rounds : List Round) (stop : DayStop) (got mid later : Option (List ℕ)) (answer : Status) → length text ≤ LONGEST_DAY → ComesTo text rounds (Some stop)
     → Appended got mid (rounds_text rounds) → (answer ≡ status.Refused → Appended mid later (refused_line stop.number stop.cause)) → AppendedPart mid later (refused_line stop.number stop.cause)
-    → IsTrue (is_refused_or_write_fault answer) → Wrote got later (Says command.Apply answer None text)
+    → IsTrue (is_refused_or_write_fault answer) → Wrote got later (StatusSays command.Apply answer None text)
 says_stop text rounds stop got mid later status.Done within c wrote all part others = absurd (cc)
 says_stop text rounds stop got mid later status.No within c wrote all part others = absurd (cc)
 says_stop text rounds stop got mid later status.Words within c wrote all part others = absurd (cc)
@@ -173,9 +167,9 @@ says_stop text rounds stop got mid later status.WriteFault within c wrote all pa
     )
 
 -- a front of the next round was written
-pub says_round_front : (text : List ℕ) (front back : List Entry) (entry : Entry) (last : Option Refused) (got mid later : Option (List ℕ)) → length text ≤ DAY → IsDayOf text (front ++ entry ∷ back) last
+pub says_round_front : (text : List ℕ) (front back : List Entry) (entry : Entry) (last : Option Refused) (got mid later : Option (List ℕ)) → length text ≤ LONGEST_DAY → IsDayOf text (front ++ entry ∷ back) last
     → AreTaken start front → refusal_of (state_after front) entry ≡ None → Appended got mid (rounds_text (rounds_of front)) → AppendedPart mid later (rounds_text (round_at (state_after front) entry))
-    → Wrote got later (Says command.Apply status.WriteFault None text)
+    → Wrote got later (StatusSays command.Apply status.WriteFault None text)
 says_round_front text front back entry last got mid later within day taken accepted wrote part =
     let more = front ++ entry ∷ [] in
     let xs = rounds_text (rounds_of front) in
@@ -200,10 +194,10 @@ pub day_at : (text : List ℕ) (entries : List Entry) (n : ℕ) (d : Entry) (las
 day_at text entries n d last below day = subst (λ es. IsDayOf text es last) (entries_at entries n d below) day
 
 -- the entry is refused
-pub at_refused : (text : List ℕ) (entries : List Entry) (n : ℕ) (d : Entry) (last : Option Refused) (s new : State) (a : Applied) (fault : ChangeFault) (got mid held later : Option (List ℕ)) (answer : Status)
+pub at_refused : (text : List ℕ) (entries : List Entry) (n : ℕ) (d : Entry) (last : Option Refused) (s new : DayState) (a : Applied) (fault : ChangeFault) (got mid held later : Option (List ℕ)) (answer : Status)
     → IsDay text entries last → n < length entries → s ≡ state_after (take n entries) → AreTaken start (take n entries) → Appended got mid (rounds_text (rounds_of (take n entries)))
     → IsApplied s (get_or entries n d) a new mid held → a ≡ IsRefused fault → (answer ≡ status.Refused → Appended held later (refused_line (n + 1) (Change fault)))
-    → AppendedPart held later (refused_line (n + 1) (Change fault)) → IsTrue (is_refused_or_write_fault answer) → Wrote got later (Says command.Apply answer None text)
+    → AppendedPart held later (refused_line (n + 1) (Change fault)) → IsTrue (is_refused_or_write_fault answer) → Wrote got later (StatusSays command.Apply answer None text)
 at_refused text entries n d last s new a fault got mid held later answer day below state taken wrote applied is all part others =
     let front = take n entries in
     let p = subst (λ x. IsApplied s (get_or entries n d) x new mid held) is applied in
@@ -217,9 +211,9 @@ at_refused text entries n d last s new a fault got mid held later answer day bel
     wrote (λ e. subst (λ x. Appended x later (refused_line (n + 1) (Change fault))) p.3 (all e)) (subst (λ x. AppendedPart x later (refused_line (n + 1) (Change fault))) p.3 part) others
 
 -- a write of its round failed
-pub at_front : (text : List ℕ) (entries : List Entry) (n : ℕ) (d : Entry) (last : Option Refused) (s new : State) (a : Applied) (got mid later : Option (List ℕ))
+pub at_front : (text : List ℕ) (entries : List Entry) (n : ℕ) (d : Entry) (last : Option Refused) (s new : DayState) (a : Applied) (got mid later : Option (List ℕ))
     → IsDay text entries last → n < length entries → s ≡ state_after (take n entries) → AreTaken start (take n entries) → Appended got mid (rounds_text (rounds_of (take n entries)))
-    → IsApplied s (get_or entries n d) a new mid later → a ≡ WriteFault → Wrote got later (Says command.Apply status.WriteFault None text)
+    → IsApplied s (get_or entries n d) a new mid later → a ≡ WriteFault → Wrote got later (StatusSays command.Apply status.WriteFault None text)
 at_front text entries n d last s new a got mid later day below state taken wrote applied is =
     let p = subst (λ x. IsApplied s (get_or entries n d) x new mid later) is applied in
     says_round_front text (take n entries) (drop (n + 1) entries) (get_or entries n d) last got mid later day.within (day_at text entries n d last below day.day) taken
@@ -233,12 +227,12 @@ at_memory text entries n last got mid later day taken wrote same =
     (subst (λ x. Appended got x (rounds_text (rounds_of (take n entries)))) (sym same) wrote)
 
 -- what stands behind an entry that is taken
-pub record TakenTo (entries : List Entry) (n : ℕ) (s : State) (got later : Option (List ℕ)) : Type 0 where
+pub record TakenTo (entries : List Entry) (n : ℕ) (s : DayState) (got later : Option (List ℕ)) : Type 0 where
   pub state : s ≡ state_after (take n entries)
   pub taken : AreTaken start (take n entries)
   pub so_far : Appended got later (rounds_text (rounds_of (take n entries)))
 
-pub at_taken : (entries : List Entry) (n : ℕ) (d : Entry) (s new : State) (a : Applied) (got mid later : Option (List ℕ)) → n < length entries → s ≡ state_after (take n entries)
+pub at_taken : (entries : List Entry) (n : ℕ) (d : Entry) (s new : DayState) (a : Applied) (got mid later : Option (List ℕ)) → n < length entries → s ≡ state_after (take n entries)
     → AreTaken start (take n entries) → Appended got mid (rounds_text (rounds_of (take n entries))) → IsApplied s (get_or entries n d) a new mid later → a ≡ Taken → TakenTo entries (n + 1) new got later
 at_taken entries n d s new a got mid later below state taken wrote applied is =
     let front = take n entries in
@@ -261,14 +255,14 @@ taken_is_no_fault a is e = cc
 -- ---- behind its last entry
 
 pub at_end : (text : List ℕ) (entries : List Entry) (n : ℕ) (last : Option Refused) (got later : Option (List ℕ)) → IsDay text entries last → length entries ≤ n → AreTaken start (take n entries)
-    → Appended got later (rounds_text (rounds_of (take n entries))) → last ≡ None → Wrote got later (Says command.Apply status.Done None text)
+    → Appended got later (rounds_text (rounds_of (take n entries))) → last ≡ None → Wrote got later (StatusSays command.Apply status.Done None text)
 at_end text entries n last got later day all taken wrote none =
     let e = take_all n entries all in
     says_rounds text entries got later day.within (subst (IsDayOf text entries) none day.day) (subst (AreTaken start) e taken) (subst (λ es. Appended got later (rounds_text (rounds_of es))) e wrote)
 
 pub at_stop : (text : List ℕ) (entries : List Entry) (n : ℕ) (last : Option Refused) (stop : Refused) (got mid later : Option (List ℕ)) (answer : Status) → IsDay text entries last → length entries ≤ n
     → AreTaken start (take n entries) → Appended got mid (rounds_text (rounds_of (take n entries))) → last ≡ Some stop → (answer ≡ status.Refused → Appended mid later (refused_line stop.number (InItself stop.cause)))
-    → AppendedPart mid later (refused_line stop.number (InItself stop.cause)) → IsTrue (is_refused_or_write_fault answer) → Wrote got later (Says command.Apply answer None text)
+    → AppendedPart mid later (refused_line stop.number (InItself stop.cause)) → IsTrue (is_refused_or_write_fault answer) → Wrote got later (StatusSays command.Apply answer None text)
 at_stop text entries n last stop got mid later answer day all taken wrote some whole part others =
     let e = take_all n entries all in
     says_stop text (rounds_of entries) (record { number = stop.number; cause = InItself stop.cause }) got mid later answer day.within
@@ -282,7 +276,7 @@ of_bytes_weaker None got later F G f b = tt
 of_bytes_weaker (Some input) got later F G f b = (b.0, b.1, f input b.0 b.2)
 
 -- whatever the status, what was written is a front of the output
-pub part_of : (answer : Status) (unseen : Option (List ℕ)) (input written : List ℕ) → Says command.Apply answer unseen input written → SaysOutputPart input written
+pub part_of : (answer : Status) (unseen : Option (List ℕ)) (input written : List ℕ) → StatusSays command.Apply answer unseen input written → SaysOutputPart input written
 part_of status.Done unseen input written says = SomeBytes (record { output = written; whole = OfRounds says; n = length written; front = sym (take-length written) })
 part_of status.No unseen input written says = absurd says
 part_of status.Words unseen input written says = absurd says
@@ -303,7 +297,7 @@ part_of status.Memory unseen input written (Rounds within rounds stop c n texts)
       front = texts ∙ sym (ap (take (length (rounds_text first))) is ∙ take_front (rounds_text first) rest);
     })
 
-says_any : (answer : Status) (unseen : Option (List ℕ)) (input written : List ℕ) → IsTrue (is_of_day answer) → Says command.Apply answer None input written → Says command.Apply answer unseen input written
+says_any : (answer : Status) (unseen : Option (List ℕ)) (input written : List ℕ) → IsTrue (is_of_day answer) → StatusSays command.Apply answer None input written → StatusSays command.Apply answer unseen input written
 says_any status.Done unseen input written of_day says = says
 says_any status.No unseen input written of_day says = absurd (cc)
 says_any status.Words unseen input written of_day says = absurd (cc)
@@ -313,21 +307,21 @@ says_any status.WriteFault unseen input written of_day says = says
 says_any status.Memory unseen input written of_day says = absurd (cc)
 
 -- the whole text was read
-pub whole_says : (left later got new : Option (List ℕ)) (bytes : List ℕ) (answer : Status) → ReadsText DAY left (text_is.Whole bytes) later → IsTrue (is_of_day answer)
-    → Wrote got new (Says command.Apply answer None bytes) → OfBytes left got new (Says command.Apply answer later)
+pub whole_says : (left later got new : Option (List ℕ)) (bytes : List ℕ) (answer : Status) → ReadsText LONGEST_DAY left (text_is.Whole bytes) later → IsTrue (is_of_day answer)
+    → Wrote got new (StatusSays command.Apply answer None bytes) → OfBytes left got new (StatusSays command.Apply answer later)
 whole_says None later got new bytes answer read of_day wrote = tt
-whole_says (Some input) later got new bytes answer read of_day wrote = (wrote.0, wrote.1, says_any answer later input wrote.0 of_day (subst (λ x. Says command.Apply answer None x wrote.0) read.0 wrote.2))
+whole_says (Some input) later got new bytes answer read of_day wrote = (wrote.0, wrote.1, says_any answer later input wrote.0 of_day (subst (λ x. StatusSays command.Apply answer None x wrote.0) read.0 wrote.2))
 
-pub whole_memory : (left later got new : Option (List ℕ)) (bytes : List ℕ) → ReadsText DAY left (text_is.Whole bytes) later → Wrote got new (SaysFirstRounds bytes) → OfBytes left got new SaysFirstRounds
+pub whole_memory : (left later got new : Option (List ℕ)) (bytes : List ℕ) → ReadsText LONGEST_DAY left (text_is.Whole bytes) later → Wrote got new (SaysFirstRounds bytes) → OfBytes left got new SaysFirstRounds
 whole_memory None later got new bytes read wrote = tt
 whole_memory (Some input) later got new bytes read wrote = (wrote.0, wrote.1, subst (λ x. SaysFirstRounds x wrote.0) read.0 wrote.2)
 
-pub whole_not_fine : (left later : Option (List ℕ)) (bytes : List ℕ) → ReadsText DAY left (text_is.Whole bytes) later → (IsFine command.Apply bytes → ⊥) → IfSome left (λ input. IsFine command.Apply input → ⊥)
+pub whole_not_fine : (left later : Option (List ℕ)) (bytes : List ℕ) → ReadsText LONGEST_DAY left (text_is.Whole bytes) later → (IsFine command.Apply bytes → ⊥) → IfSome left (λ input. IsFine command.Apply input → ⊥)
 whole_not_fine None later bytes read not = tt
 whole_not_fine (Some input) later bytes read not = subst (λ x. IsFine command.Apply x → ⊥) read.0 not
 
 -- and nothing is left
-pub whole_ended : (left later : Option (List ℕ)) (bytes : List ℕ) → ReadsText DAY left (text_is.Whole bytes) later → HasEnded later
+pub whole_ended : (left later : Option (List ℕ)) (bytes : List ℕ) → ReadsText LONGEST_DAY left (text_is.Whole bytes) later → HasEnded later
 whole_ended None later bytes read = subst HasEnded (sym read) tt
 whole_ended (Some input) later bytes read = subst HasEnded (sym read.1) refl
 
@@ -340,8 +334,8 @@ none_memory None got = tt
 none_memory (Some input) got = ([], appended_none got, NoRound refl)
 
 -- more bytes come than a day may have
-pub long_says : (left later got new : Option (List ℕ)) (answer : Status) → ReadsText DAY left text_is.TooLong later → (answer ≡ status.Refused → Appended got new (refused_line 0 TooLong))
-    → AppendedPart got new (refused_line 0 TooLong) → IsTrue (is_refused_or_write_fault answer) → OfBytes left got new (Says command.Apply answer later)
+pub long_says : (left later got new : Option (List ℕ)) (answer : Status) → ReadsText LONGEST_DAY left text_is.TooLong later → (answer ≡ status.Refused → Appended got new (refused_line 0 TooLong))
+    → AppendedPart got new (refused_line 0 TooLong) → IsTrue (is_refused_or_write_fault answer) → OfBytes left got new (StatusSays command.Apply answer later)
 long_says None later got new answer read all part others = tt
 long_says (Some input) later got new status.Done read all part others = absurd (cc)
 long_says (Some input) later got new status.No read all part others = absurd (cc)
@@ -354,12 +348,12 @@ long_says (Some input) later got new status.WriteFault read all part others =
     let w = piece_front got got new [] line (appended_none got) part in
     (take w.0 line, w.2, says_front input line [] line [] w.0 (OfRefusal (IsTooLong read.0 refl)) (sym (append-nil line)) w.1)
 
-pub long_not_fine : (left later : Option (List ℕ)) → ReadsText DAY left text_is.TooLong later → IfSome left (λ input. IsFine command.Apply input → ⊥)
+pub long_not_fine : (left later : Option (List ℕ)) → ReadsText LONGEST_DAY left text_is.TooLong later → IfSome left (λ input. IsFine command.Apply input → ⊥)
 long_not_fine None later read = tt
 long_not_fine (Some input) later read = λ fine. let a = read.0 in let b = fine.0 in absurd (omega arith)
 
 -- a read has failed
-pub fault_says : (left later got : Option (List ℕ)) → TookAtMost DAY left later → OfBytes left got got (Says command.Apply status.ReadFault later)
+pub fault_says : (left later got : Option (List ℕ)) → TookAtMost LONGEST_DAY left later → OfBytes left got got (StatusSays command.Apply status.ReadFault later)
 fault_says None later got took = tt
 fault_says (Some input) later got took = (
   [],

@@ -7,52 +7,52 @@ use Rattle.dossier_terms.specs.Lines.{instance_text}
 use Rattle.day_terms.specs.declared.Entry.{Entry}
 use Rattle.day_terms.specs.declared.Refused.{Refused}
 use Rattle.day_terms.specs.Days.{IsDayOf}
-use Rattle.day_terms.specs.State.{State, start, after_entry, state_after}
-use Rattle.day_terms.specs.Refusal.{Refusal, refusal_of}
+use Rattle.day_terms.specs.State.{DayState, start, after_entry, state_after}
+use Rattle.day_terms.specs.Refusal.{AreTaken, Refusal, refusal_of}
 use Rattle.day_terms.specs.Rounds.{Round, round_at, rounds_from, rounds_of}
 use Rattle.flight_changes.specs.Faults.{fault_of}
 use Rattle.crew_cli.specs.declared.refused.DayFault.TheVariants.{InItself, Change}
-use Rattle.crew_cli.specs.Rounds.{AreTaken, DayStop, ComesTo, AllTaken, BadRecord, BadChange, rounds_text}
+use Rattle.crew_cli.specs.Rounds.{DayStop, ComesTo, AllTaken, BadRecord, BadChange, rounds_text}
 
 -- the text of a round
 abbrev pub round_text : Round → List ℕ
 round_text r = instance_text r.instance r.nodes
 
 -- the state after entries, from a state on
-abbrev pub after_all : State → List Entry → State
+abbrev pub after_all : DayState → List Entry → DayState
 after_all s entries = fold after_entry s entries
 
 pub state_more : (entries : List Entry) (entry : Entry) → state_after (entries ++ entry ∷ []) ≡ after_entry (state_after entries) entry
 state_more entries entry = fold-append after_entry start entries (entry ∷ [])
 
-taken_from : (s : State) (entries : List Entry) (entry : Entry) → AreTaken s entries → refusal_of (after_all s entries) entry ≡ None → AreTaken s (entries ++ entry ∷ [])
+taken_from : (s : DayState) (entries : List Entry) (entry : Entry) → AreTaken s entries → refusal_of (after_all s entries) entry ≡ None → AreTaken s (entries ++ entry ∷ [])
 taken_from s [] entry taken e = (e, tt)
 taken_from s (x ∷ xs) entry taken e = (taken.0, taken_from (after_entry s x) xs entry taken.1 e)
 
 pub taken_more : (entries : List Entry) (entry : Entry) → AreTaken start entries → refusal_of (state_after entries) entry ≡ None → AreTaken start (entries ++ entry ∷ [])
 taken_more entries entry taken e = taken_from start entries entry taken e
 
-taken_within : (s : State) (front back : List Entry) (entry : Entry) → AreTaken s (front ++ entry ∷ back) → refusal_of (after_all s front) entry ≡ None
+taken_within : (s : DayState) (front back : List Entry) (entry : Entry) → AreTaken s (front ++ entry ∷ back) → refusal_of (after_all s front) entry ≡ None
 taken_within s [] back entry taken = taken.0
 taken_within s (x ∷ xs) back entry taken = taken_within (after_entry s x) xs back entry taken.1
 
 -- each of the entries is taken by the state that those before it come to, from a state on
-abbrev IsEachTaken : State → List Entry → Type 0
+abbrev IsEachTaken : DayState → List Entry → Type 0
 IsEachTaken s entries = (n : ℕ) (entry : Entry) → slice_get entries n ≡ Some entry → refusal_of (after_all s (take n entries)) entry ≡ None
 
-each_taken : (s : State) (entries : List Entry) → AreTaken s entries → IsEachTaken s entries
+each_taken : (s : DayState) (entries : List Entry) → AreTaken s entries → IsEachTaken s entries
 each_taken s [] taken n entry e = absurd (cc)
 each_taken s (x ∷ xs) taken zero entry e = let same : x ≡ entry = cc in subst (λ y. refusal_of s y ≡ None) same taken.0
 each_taken s (x ∷ xs) taken (suc n) entry e = each_taken (after_entry s x) xs taken.1 n entry e
 
-all_taken : (s : State) (entries : List Entry) → IsEachTaken s entries → AreTaken s entries
+all_taken : (s : DayState) (entries : List Entry) → IsEachTaken s entries → AreTaken s entries
 all_taken s [] each = tt
 all_taken s (x ∷ xs) each = (each 0 x refl, all_taken (after_entry s x) xs (λ n entry e. each (suc n) entry e))
 
 pub taken_in_turn : (entries : List Entry) → AreTaken start entries ↔ IsEachTaken start entries
 taken_in_turn entries = (each_taken start entries, all_taken start entries)
 
-rounds_more_from : (s : State) (entries : List Entry) (entry : Entry) → rounds_from s (entries ++ entry ∷ []) ≡ rounds_from s entries ++ round_at (after_all s entries) entry
+rounds_more_from : (s : DayState) (entries : List Entry) (entry : Entry) → rounds_from s (entries ++ entry ∷ []) ≡ rounds_from s entries ++ round_at (after_all s entries) entry
 rounds_more_from s [] entry = append-nil (round_at s entry)
 rounds_more_from s (x ∷ xs) entry =
     ap (λ r. round_at s x ++ r) (rounds_more_from (after_entry s x) xs entry)
@@ -105,7 +105,7 @@ abbrev IsOneReading : Type 0
 IsOneReading = (text : List ℕ) (entries others : List Entry) (stop other : Option Refused) → IsDayOf text entries stop → IsDayOf text others other → (entries ≡ others) × (stop ≡ other)
 
 -- the entries before the first that is refused, and its refusal, are the same
-same_stop : (s : State) (xs ys back behind : List Entry) (x y : Entry) (r q : Refusal) → xs ++ x ∷ back ≡ ys ++ y ∷ behind → AreTaken s xs → AreTaken s ys
+same_stop : (s : DayState) (xs ys back behind : List Entry) (x y : Entry) (r q : Refusal) → xs ++ x ∷ back ≡ ys ++ y ∷ behind → AreTaken s xs → AreTaken s ys
     → refusal_of (after_all s xs) x ≡ Some r → refusal_of (after_all s ys) y ≡ Some q → (xs ≡ ys) × (r ≡ q)
 same_stop s [] [] back behind x y r q e t u f g =
     let same : x ≡ y = cc in

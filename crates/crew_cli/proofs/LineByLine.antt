@@ -5,6 +5,7 @@ use Rattle.std.proofs.lemmas.List.{map-append, length-map}
 use Rattle.std.proofs.lemmas.List.Concat.{flat_map-append}
 use Rattle.std.proofs.lemmas.List.Elements.{All-nil, All-push}
 use Rattle.crew_terms.specs.Words.{Words, IsLine, words_of, with_feed}
+use Rattle.crew_terms.specs.declared.TheConstants.{LONGEST_INPUT}
 use Rattle.crew_io.specs.Io.{HasEnded, Rose}
 use Rattle.crew_io.specs.Lines.{Reader, Advances, AnswersTold, Answers as Finds, IsPartial, rest_of, allowance}
 use Rattle.crew_io.specs.declared.lines.Progress.{Progress}
@@ -12,7 +13,7 @@ use Rattle.crew_io.specs.declared.lines.Progress.TheVariants as progress
 use Rattle.dossier_terms.specs.declared.Reason.{Reason}
 use Rattle.dossier_terms.specs.Dossier.{Dossier, IsGood}
 use Rattle.dossier_terms.specs.Lines.{lines_of, text_of}
-use Rattle.dossier_terms.specs.Reading.{Reading, Form, Said as Answer, More as Goes, Whole as Ends, No as Refuses}
+use Rattle.dossier_terms.specs.Reading.{Reading, Form, Answer, More as Goes, Whole as Ends, No as Refuses}
 use Rattle.dossier_terms.specs.Table.{Says, Reaches, Ended}
 use Rattle.dossier_terms.specs.Accepted.{IsAccepted}
 use Rattle.cert_checker.specs.Checked.{Checked, IsDueAt, IsEnded, IsJudged, IsOpen as IsDue, IsReached, IsTrueYes, IsWholeAt, StandsAfter, refused_at, said_of, stop_reason_of, verdict_of}
@@ -23,7 +24,7 @@ use Rattle.cert_checker.specs.declared.checker.Said.{Said}
 use Rattle.cert_checker.specs.declared.checker.Said.TheVariants.{More, Whole, No}
 use Rattle.cert_checker.specs.declared.checker.Stop.{Stop}
 use Rattle.cert_checker.specs.declared.checker.Stop.TheVariants as stop
-use Rattle.crew_cli.specs.Input.{HasRead, IsBetween, IsGoing, IsAtFirst, Fresh, Behind as AtFirst, IsOpen, IsRefusal, BadLine, NoLine, Stops, LineTooLong, InputTooLong, IsEnd, IsNext, IsOutcome, IsOutcomeAtStop, Over, Short, Fault, OpensNext, told_of, text_of_lines, text_before, lines_before, room_after}
+use Rattle.crew_cli.specs.Input.{HasRead, IsBetween, IsGoing, IsAtFirst, Fresh, Behind as AtFirst, CanGoOn, IsRefusal, BadLine, NoLine, Stops, LineTooLong, InputTooLong, IsEnd, IsNextDossier, IsOutcome, IsOutcomeAtStop, Over, Short, Fault, OpensNext, told_of, text_of_lines, text_before, lines_before, room_after}
 use Rattle.crew_cli.specs.declared.input.Outcome.{Outcome}
 use Rattle.crew_cli.specs.declared.input.Outcome.TheVariants as outcomes
 use Rattle.crew_cli.proofs.Refusals.{leads_on, ends}
@@ -58,7 +59,7 @@ one_more lines line = flat_map-append with_feed lines (line ∷ []) ∙ ap (λ x
 before_more : (done : List Dossier) (lines : List (List ℕ)) (line : List ℕ) → text_before done (lines ++ line ∷ []) ≡ text_before done lines ++ with_feed line
 before_more done lines line = ap (λ x. flat_map text_of done ++ x) (one_more lines line) ∙ sym (append_assoc (flat_map text_of done) (text_of_lines lines) (with_feed line))
 
-pub starts : (reader : Reader) (left : Option (List ℕ)) (checker : Checked) → IsOpen reader checker → IsSoFar reader left checker reader left checker
+pub starts : (reader : Reader) (left : Option (List ℕ)) (checker : Checked) → CanGoOn reader checker → IsSoFar reader left checker reader left checker
 starts reader left checker open_ = record {
   going = open_.going;
   begun = omega arith;
@@ -104,7 +105,7 @@ pub is_due : (first : Reader) (left0 : Option (List ℕ)) (start : Checked) (old
 is_due first left0 start old left checker s = due_of start.lines checker s.due s.stands
 
 -- what an answer finds of the rest
-found : (input : List ℕ) (done : List Dossier) (old new : Reader) (left later : Option (List ℕ)) (answer : Progress) (due : Reading) (count : ℕ) → old.limit ≡ 2 ^ 62
+found : (input : List ℕ) (done : List Dossier) (old new : Reader) (left later : Option (List ℕ)) (answer : Progress) (due : Reading) (count : ℕ) → old.limit ≡ LONGEST_INPUT
     → (r : ReadTo input done old left due count) → Advances old left answer new later
     → (after : List ℕ) × (rest_of new later ≡ Some after) × Finds (room_after done r.lines) r.rest answer new.line after
 found input done old new left later answer due count limit r a =
@@ -264,7 +265,7 @@ module _ (first : Reader) (left0 : Option (List ℕ)) (start : Checked) (old new
       ∙ ap (text_before done) e ∙ append-nil (flat_map text_of done) in
       let w = s.going.within in
       let h = b.handed in
-      let small : length input ≤ 2 ^ 62 = (let i = ap length text in let g = r.handed in let k = ap (λ x. length (text_before done x)) e in let j = ap length (append-nil (flat_map text_of done)) in omega arith) in
+      let small : length input ≤ LONGEST_INPUT = (let i = ap length text in let g = r.handed in let k = ap (λ x. length (text_before done x)) e in let j = ap length (append-nil (flat_map text_of done)) in omega arith) in
       record { size = small; some = λ x. absurd (let k = ap (λ y. length (flat_map lines_of y)) x in omega arith); good = r.read.good; text = text }
 
   not_over : (r : ReadTo input done old left s.due checker.lines) → IsEnd done r.lines r.rest → IsEnded checker.at
@@ -329,7 +330,7 @@ stops first left0 start old new left later checker after answer outcome law s a 
 pub ends_whole : (first : Reader) (left0 : Option (List ℕ)) (start : Checked) (old new : Reader) (left later : Option (List ℕ)) (checker next : Checked) (said : Said) (verdict : Verdict)
     → ((lines : List (List ℕ)) (d : Dossier) → Ended Form (map words_of lines) d → IsTrueYes d × (text_of d ≡ text_of_lines lines) × (lines_of d ≡ map words_of lines))
     → (s : IsSoFar first left0 start old left checker) → Advances old left progress.Line new later → IsJudged checker.lines s.due (words_of new.line) said next → said ≡ Whole verdict
-    → (input : List ℕ) (done : List Dossier) → IsBetween input done first left0 start.lines → IsNext input done verdict new later next.lines
+    → (input : List ℕ) (done : List Dossier) → IsBetween input done first left0 start.lines → IsNextDossier input done verdict new later next.lines
 ends_whole first left0 start old new left later checker next said verdict law s a j is input done b =
     let g = whole checker.lines said next.at s.due (words_of new.line) verdict j.answer j.is j.says j.stands is in
     let d = g.0 in
@@ -370,7 +371,7 @@ ends_whole first left0 start old new left later checker next said verdict law s 
 -- after a dossier the reader and the checker can go on, and more was handed out
 pub opens_next : (first : Reader) (left0 : Option (List ℕ)) (start : Checked) (old new : Reader) (left later : Option (List ℕ)) (checker next : Checked) (said : Said) (verdict : Verdict)
     → (s : IsSoFar first left0 start old left checker) → Advances old left progress.Line new later → IsJudged checker.lines s.due (words_of new.line) said next → said ≡ Whole verdict
-    → IsOpen new next × (first.handed < new.handed)
+    → CanGoOn new next × (first.handed < new.handed)
 opens_next first left0 start old new left later checker next said verdict s a j is =
     let g = whole checker.lines said next.at s.due (words_of new.line) verdict j.answer j.is j.says j.stands is in
     let count = j.count in (

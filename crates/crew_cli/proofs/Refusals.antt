@@ -11,7 +11,7 @@ use Rattle.crew_io.specs.Lines.{NoFeed}
 use Rattle.dossier_terms.specs.declared.Reason.{Reason}
 use Rattle.dossier_terms.specs.Dossier.{Dossier, IsGood}
 use Rattle.dossier_terms.specs.Lines.{lines_of, text_of}
-use Rattle.dossier_terms.specs.Reading.{Reading, Said, More, Whole, No, Form}
+use Rattle.dossier_terms.specs.Reading.{Reading, Answer, More, Whole, No, Form}
 use Rattle.dossier_terms.specs.Table.{Says, Reaches, Ended}
 use Rattle.dossier_terms.specs.Accepted.{IsAccepted}
 use Rattle.text_laws.specs.Texts.{IsFront, AreLine, HasMore}
@@ -146,7 +146,7 @@ lines_read done lines = map line_of (flat_map lines_of done) ++ lines
 
 -- the laws of the table and of texts
 module _
-    (one : (lines : List Words) (s : Reading) (ws : Words) (a b : Said) → Reaches Form lines s → Says s ws a → Says s ws b → a ≡ b)
+    (one : (lines : List Words) (s : Reading) (ws : Words) (a b : Answer) → Reaches Form lines s → Says s ws a → Says s ws b → a ≡ b)
     (is_read : (d : Dossier) → IsGood d → Ended Form (lines_of d) d)
     (front : (ds : List Dossier) (lines : List (List ℕ)) (rest : List ℕ) → All IsGood ds → All IsLine lines
     → flat_map text_of ds ≡ flat_map with_feed lines ++ rest → IsFront (flat_map lines_of ds) lines rest)
@@ -286,7 +286,7 @@ module _
 
   -- an answer that takes a line
   record IsTaken (due : Reading) (words : Words) : Type 0 where
-    said : Said
+    said : Answer
     answer : Says due words said
     taken : (reason : Reason) → said ≢ No reason
 

@@ -4,8 +4,10 @@ use Rattle.std.specs.Prelude.{All, IfSome, OnErr}
 use Rattle.std.specs.List.{flat_map}
 use Rattle.std.proofs.lemmas.List.Concat.{flat_map-append}
 use Rattle.std.proofs.lemmas.List.Elements.{All-nil, All-push}
+use Rattle.crew_terms.specs.declared.TheConstants.{LONGEST_INPUT}
 use Rattle.crew_io.specs.Io.{Appended, AppendedPart}
 use Rattle.crew_io.specs.Lines.{Reader, fresh_reader, rest_of}
+use Rattle.crew_io.specs.Appends.{appended_none, appended_both}
 use Rattle.dossier_terms.specs.declared.Reason.{Reason}
 use Rattle.dossier_terms.specs.Dossier.{Dossier}
 use Rattle.dossier_terms.specs.Reading.{Form}
@@ -13,7 +15,7 @@ use Rattle.dossier_terms.specs.Texts.{yes_line, no_line}
 use Rattle.dossier_terms.specs.Accepted.{IsAccepted}
 use Rattle.cert_checker.specs.Checked.{Checked, IsTrueYes, fresh_checker}
 use Rattle.cert_checker.specs.declared.checker.Verdict.{Verdict}
-use Rattle.crew_cli.specs.Input.{Fresh, IsBetween, IsNext, IsOpen, IsRefusal, IsInterrupted, HasRead}
+use Rattle.crew_cli.specs.Input.{Fresh, IsBetween, IsNextDossier, CanGoOn, IsRefusal, IsInterrupted, HasRead}
 use Rattle.crew_cli.specs.declared.input.Outcome.{Outcome}
 use Rattle.crew_cli.specs.declared.input.Outcome.TheVariants.{Yes, ReadFault}
 use Rattle.crew_cli.specs.Verdicts.{verdict_line}
@@ -30,19 +32,11 @@ pub record HasSaid (input : List ℕ) (before : Option (List ℕ)) (reader : Rea
 abbrev pub HasSaidOf : Option (List ℕ) → Option (List ℕ) → Reader → Option (List ℕ) → Option (List ℕ) → ℕ → Type 0
 HasSaidOf left0 got0 reader left got count = IfSome left0 (λ input. HasSaid input got0 reader left got count)
 
-pub opens : (reader : Reader) (checker : Checked) → reader ≡ fresh_reader (2 ^ 62) → checker ≡ fresh_checker → IsOpen reader checker
-opens reader checker e f = subst (λ r. IsOpen r checker) (sym e) (subst (IsOpen (fresh_reader (2 ^ 62))) (sym f) (record {
+pub opens : (reader : Reader) (checker : Checked) → reader ≡ fresh_reader LONGEST_INPUT → checker ≡ fresh_checker → CanGoOn reader checker
+opens reader checker e f = subst (λ r. CanGoOn r checker) (sym e) (subst (CanGoOn (fresh_reader LONGEST_INPUT)) (sym f) (record {
   going = record { going = refl; limit = refl; within = omega arith; few = omega arith };
   first = Fresh refl;
 }))
-
-pub appended_none : (got : Option (List ℕ)) → Appended got got []
-appended_none None = refl
-appended_none (Some bytes) = ap Some (sym (append-nil bytes))
-
-pub appended_both : (old mid new : Option (List ℕ)) (xs ys : List ℕ) → Appended old mid xs → Appended mid new ys → Appended old new (xs ++ ys)
-appended_both None mid new xs ys p q = subst (λ m. Appended m new ys) p q
-appended_both (Some bytes) mid new xs ys p q = subst (λ m. Appended m new ys) p q ∙ ap Some (append_assoc bytes xs ys)
 
 appended_front : (old mid new : Option (List ℕ)) (xs ys : List ℕ) → Appended old mid xs → AppendedPart mid new ys → (n : ℕ) × Appended old new (xs ++ take n ys)
 appended_front None mid new xs ys p q = (0, subst (λ m. AppendedPart m new ys) p q)
@@ -54,7 +48,7 @@ appended_front (Some bytes) mid new xs ys p q =
 none_read : (input : List ℕ) → HasRead input [] [] input Form
 none_read input = record { text = refl; within = omega arith; good = All-nil _; each = All-nil _; leads = refl }
 
-pub begins : (left got : Option (List ℕ)) (reader : Reader) (checker : Checked) → reader ≡ fresh_reader (2 ^ 62) → checker ≡ fresh_checker → HasSaidOf left got reader left got checker.lines
+pub begins : (left got : Option (List ℕ)) (reader : Reader) (checker : Checked) → reader ≡ fresh_reader LONGEST_INPUT → checker ≡ fresh_checker → HasSaidOf left got reader left got checker.lines
 begins None got reader checker e f = tt
 begins (Some input) got reader checker e f = subst (λ c. HasSaid input got reader (Some input) got c.lines) (sym f) (subst (λ r. HasSaid input got r (Some input) got 0) (sym e) (record {
   done = [];
@@ -65,7 +59,7 @@ begins (Some input) got reader checker e f = subst (λ c. HasSaid input got read
 
 -- one dossier more, and its yes line
 pub says_one_more : (left0 got0 : Option (List ℕ)) (old new : Reader) (left later got added : Option (List ℕ)) (count more : ℕ) (verdict : Verdict)
-    → ((input : List ℕ) (done : List Dossier) → IsBetween input done old left count → IsNext input done verdict new later more)
+    → ((input : List ℕ) (done : List Dossier) → IsBetween input done old left count → IsNextDossier input done verdict new later more)
     → Appended got added (verdict_line verdict) → HasSaidOf left0 got0 old left got count → HasSaidOf left0 got0 new later added more
 says_one_more None got0 old new left later got added count more verdict next wrote so = tt
 says_one_more (Some input) got0 old new left later got added count more verdict next wrote so =
@@ -193,7 +187,7 @@ says_read_fault (Some input) got0 old new left later got count stopped so =
 
 -- the front of one more yes line was written
 pub front_yes : (left0 got0 : Option (List ℕ)) (old new : Reader) (left later got added : Option (List ℕ)) (count more : ℕ) (verdict : Verdict)
-    → ((input : List ℕ) (done : List Dossier) → IsBetween input done old left count → IsNext input done verdict new later more)
+    → ((input : List ℕ) (done : List Dossier) → IsBetween input done old left count → IsNextDossier input done verdict new later more)
     → AppendedPart got added (verdict_line verdict) → HasSaidOf left0 got0 old left got count → OfBytes left0 got0 added SaysFront
 front_yes None got0 old new left later got added count more verdict next wrote so = tt
 front_yes (Some input) got0 old new left later got added count more verdict next wrote so =

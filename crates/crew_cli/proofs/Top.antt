@@ -4,7 +4,7 @@ use Rattle.std.specs.Prelude.{IfSome}
 use Rattle.day_terms.specs.declared.Entry.{Entry}
 use Rattle.day_terms.specs.declared.Refused.{Refused}
 use Rattle.day_terms.specs.Days.{IsDayOf}
-use Rattle.crew_cli.specs.Run.{OfBytes, Says, IsFine, SaysYes, SaysNo, SaysFront, SaysReadFault}
+use Rattle.crew_cli.specs.Run.{OfBytes, StatusSays, IsFine, SaysYes, SaysNo, SaysFront, SaysReadFault}
 use Rattle.crew_cli.specs.declared.run.Command.{Command}
 use Rattle.crew_cli.specs.declared.run.Command.TheVariants.{Check, Apply}
 use Rattle.crew_cli.specs.declared.status.Status.{Status}
@@ -14,7 +14,7 @@ use Rattle.crew_cli.proofs.Applies.{of_bytes_weaker, part_of, refused_not_fine}
 -- a check that has its memory
 pub check_says : (answer : Status) (left unseen got later : Option (List ℕ)) → (answer ≡ status.Done → OfBytes left got later SaysYes) → (answer ≡ status.No → OfBytes left got later SaysNo)
     → (answer ≡ status.ReadFault → OfBytes left got later (SaysReadFault unseen)) → OfBytes left got later SaysFront
-    → (answer ≢ status.Words) × (answer ≢ status.Refused) × (answer ≢ status.Memory) → OfBytes left got later (Says Check answer unseen)
+    → (answer ≢ status.Words) × (answer ≢ status.Refused) × (answer ≢ status.Memory) → OfBytes left got later (StatusSays Check answer unseen)
 check_says status.Done left unseen got later done denied fault front others = done refl
 check_says status.No left unseen got later done denied fault front others = denied refl
 check_says status.Words left unseen got later done denied fault front others = absurd (others.0 refl)
@@ -40,13 +40,13 @@ check_complete answer (Some input) got later Read Write denied read write others
     by status.WriteFault denied read write others fine nr nw = absurd (nw (write refl))
     by status.Memory denied read write others fine nr nw = inr refl
 
-pub apply_part : (answer : Status) (left unseen got later : Option (List ℕ)) → OfBytes left got later (Says Apply answer unseen) → OfBytes left got later (Says Apply status.WriteFault unseen)
-apply_part answer left unseen got later says = of_bytes_weaker left got later (Says Apply answer unseen) (Says Apply status.WriteFault unseen) (part_of answer unseen) says
+pub apply_part : (answer : Status) (left unseen got later : Option (List ℕ)) → OfBytes left got later (StatusSays Apply answer unseen) → OfBytes left got later (StatusSays Apply status.WriteFault unseen)
+apply_part answer left unseen got later says = of_bytes_weaker left got later (StatusSays Apply answer unseen) (StatusSays Apply status.WriteFault unseen) (part_of answer unseen) says
 
 -- an input that is fine is not refused
 pub fine_is_done : (command : Command) (answer : Status) (unseen : Option (List ℕ)) (input written : List ℕ) (Full : Type 0)
     → ((text : List ℕ) (entries others : List Entry) (stop last : Option Refused) → IsDayOf text entries stop → IsDayOf text others last → (entries ≡ others) × (stop ≡ last))
-    → Says command answer unseen input written → IsFine command input → answer ≢ status.ReadFault → (answer ≡ status.WriteFault → Full)
+    → StatusSays command answer unseen input written → IsFine command input → answer ≢ status.ReadFault → (answer ≡ status.WriteFault → Full)
     → (answer ≡ status.Done) ⊎ (answer ≡ status.Memory) ⊎ ((answer ≡ status.WriteFault) × Full)
 fine_is_done Check status.Done unseen input written Full law says fine read write = inl refl
 fine_is_done Check status.No unseen input written Full law says fine read write = absurd (says.not_accepted fine.0 fine.1)

@@ -1,14 +1,15 @@
 -- what one entry of a day comes to
 use Rattle.std.specs.Prelude.{◌≡◌, ◌≤◌, ℕ, List, Bool, true, false, length, Option, None, Some}
+use Rattle.crew_terms.specs.declared.TheConstants.{LONGEST_DAY}
 use Rattle.crew_io.specs.Io.{Appended, AppendedPart}
 use Rattle.day_terms.specs.declared.Entry.{Entry}
 use Rattle.day_terms.specs.declared.Refused.{Refused}
 use Rattle.day_terms.specs.Days.{IsDayOf}
-use Rattle.day_terms.specs.State.{State, after_entry}
+use Rattle.day_terms.specs.State.{DayState, after_entry}
 use Rattle.day_terms.specs.Refusal.{Refusal, refusal_of}
 use Rattle.day_terms.specs.Rounds.{round_at}
 use Rattle.flight_changes.specs.Faults.{fault_of}
-use Rattle.crew_cli.specs.Rounds.{DAY, rounds_text}
+use Rattle.crew_cli.specs.Rounds.{rounds_text}
 use Rattle.crew_cli.specs.declared.apply.Applied.{Applied}
 use Rattle.crew_cli.specs.declared.apply.Applied.TheVariants.{Taken, Refused as IsRefused, WriteFault}
 use Rattle.crew_cli.specs.declared.status.Status.{Status}
@@ -16,14 +17,14 @@ use Rattle.crew_cli.specs.declared.status.Status.TheVariants as status
 
 -- the entry is taken, and the instance of the round that it begins was written, if it begins one; or it is refused,
 -- and nothing was written; or it is taken, and a front of that instance was written
-abbrev pub IsApplied : State → Entry → Applied → State → Option (List ℕ) → Option (List ℕ) → Type 0
+abbrev pub IsApplied : DayState → Entry → Applied → DayState → Option (List ℕ) → Option (List ℕ) → Type 0
 IsApplied s entry Taken new got later = (refusal_of s entry ≡ None) × (new ≡ after_entry s entry) × Appended got later (rounds_text (round_at s entry))
 IsApplied s entry (IsRefused fault) new got later = (refusal : Refusal) × (refusal_of s entry ≡ Some refusal) × (fault ≡ fault_of refusal) × (later ≡ got)
 IsApplied s entry WriteFault new got later = (refusal_of s entry ≡ None) × AppendedPart got later (rounds_text (round_at s entry))
 
 -- these entries and this refusal are those of a day's text, which is no longer than it may be
 pub record IsDay (text : List ℕ) (entries : List Entry) (stop : Option Refused) : Type 0 where
-  pub within : length text ≤ DAY
+  pub within : length text ≤ LONGEST_DAY
   pub day : IsDayOf text entries stop
 
 -- what was written, and its fact

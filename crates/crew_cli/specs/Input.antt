@@ -2,6 +2,7 @@
 use Rattle.std.specs.Prelude.{◌≡◌, ◌≢◌, ◌≤◌, ◌<◌, ◌+◌, ◌-◌, ◌^◌, ◌++◌, ℕ, suc, List, [], ◌∷◌, Option, None, Some, length, map, All}
 use Rattle.std.specs.List.{flat_map}
 use Rattle.crew_terms.specs.Words.{IsLine, words_of, with_feed}
+use Rattle.crew_terms.specs.declared.TheConstants.{LONGEST_INPUT}
 use Rattle.crew_io.specs.Lines.{Reader, IsPartial, BeginsTooLong, IsTooMuch, rest_of}
 use Rattle.crew_io.specs.declared.lines.Progress.{Progress}
 use Rattle.crew_io.specs.declared.lines.Progress.TheVariants as progress
@@ -36,14 +37,14 @@ lines_before done lines = length (flat_map lines_of done) + length lines
 -- that an input may have; the rest is left
 pub record HasRead (input : List ℕ) (done : List Dossier) (lines : List (List ℕ)) (rest : List ℕ) (due : Reading) : Type 0 where
   pub text : input ≡ text_before done lines ++ rest
-  pub within : length (text_before done lines) ≤ 2 ^ 62
+  pub within : length (text_before done lines) ≤ LONGEST_INPUT
   pub good : All IsGood done
   pub each : All IsLine lines
   pub leads : Reaches Form (map words_of lines) due
 
 -- how many bytes may come after these lines
 abbrev pub room_after : List Dossier → List (List ℕ) → ℕ
-room_after done lines = 2 ^ 62 - length (text_before done lines)
+room_after done lines = LONGEST_INPUT - length (text_before done lines)
 
 -- no line comes whole: the input stops, or the line or the input is too long
 pub data IsStop (room : ℕ) (rest : List ℕ) (reason : Reason) : Type 0 where
@@ -71,8 +72,8 @@ pub data IsRefusal (input : List ℕ) (done : List Dossier) (number : ℕ) (reas
 -- what holds of a reader that has handed out so many lines
 pub record IsGoing (reader : Reader) (count : ℕ) : Type 0 where
   pub going : reader.stopped ≡ None
-  pub limit : reader.limit ≡ 2 ^ 62
-  pub within : reader.handed ≤ 2 ^ 62
+  pub limit : reader.limit ≡ LONGEST_INPUT
+  pub within : reader.handed ≤ LONGEST_INPUT
   pub few : count ≤ reader.handed
 
 -- a checker has read nothing yet, or its last line ended a dossier
@@ -81,7 +82,7 @@ pub data IsAtFirst (checker : Checked) : Type 0 where
   Behind : (some : 0 < checker.lines) (ended : IsEnded checker.at) → IsAtFirst checker
 
 -- the reader can go on, and the checker has judged the lines that it handed out, to the end of a dossier
-pub record IsOpen (reader : Reader) (checker : Checked) : Type 0 where
+pub record CanGoOn (reader : Reader) (checker : Checked) : Type 0 where
   pub going : IsGoing reader checker.lines
   pub first : IsAtFirst checker
 
@@ -118,7 +119,7 @@ pub data IsOutcomeAtStop (old : Checked) (answer : Progress) (new : Checked) (ou
   Fault : (told : told_of answer ≡ None) (same : new ≡ old) (is : outcome ≡ ReadFault) → IsOutcomeAtStop old answer new outcome
 
 -- the next dossier is whole, of which this is said, and it is so
-pub record IsNext (input : List ℕ) (done : List Dossier) (verdict : Verdict) (reader : Reader) (left : Option (List ℕ)) (count : ℕ) : Type 0 where
+pub record IsNextDossier (input : List ℕ) (done : List Dossier) (verdict : Verdict) (reader : Reader) (left : Option (List ℕ)) (count : ℕ) : Type 0 where
   pub dossier : Dossier
   pub says : verdict ≡ verdict_of dossier
   pub true_yes : IsTrueYes dossier
@@ -126,7 +127,7 @@ pub record IsNext (input : List ℕ) (done : List Dossier) (verdict : Verdict) (
 
 -- what a reading behind these dossiers found
 abbrev pub IsOutcome : List ℕ → List Dossier → Reader → Option (List ℕ) → Checked → Outcome → Type 0
-IsOutcome input done reader left checker (Yes verdict) = IsNext input done verdict reader left checker.lines
+IsOutcome input done reader left checker (Yes verdict) = IsNextDossier input done verdict reader left checker.lines
 IsOutcome input done reader left checker End = IsAccepted input done
 IsOutcome input done reader left checker (No line reason) = IsRefusal input done line reason
 IsOutcome input done reader left checker ReadFault = IsInterrupted input done reader left
@@ -134,7 +135,7 @@ IsOutcome input done reader left checker ReadFault = IsInterrupted input done re
 -- after a dossier the reader and the checker can go on, and more was handed out; at the end the checker's last dossier
 -- is still whole, a line that is refused stays so, and behind a read that failed a line is due still
 abbrev pub OpensNext : Reader → Reader → Checked → Outcome → Type 0
-OpensNext old new checker (Yes verdict) = IsOpen new checker × (old.handed < new.handed)
+OpensNext old new checker (Yes verdict) = CanGoOn new checker × (old.handed < new.handed)
 OpensNext old new checker End = IsEnded checker.at
 OpensNext old new checker (No line reason) = checker.at ≡ Refused line reason
 OpensNext old new checker ReadFault = IsDue checker.at

@@ -1,26 +1,18 @@
 -- what a day comes to, and what is written of it
 use Rattle.std.specs.Prelude.{◌≡◌, ◌≤◌, ◌<◌, ◌+◌, ◌++◌, ℕ, List, [], ◌∷◌, length, take, Option, None, Some}
 use Rattle.std.specs.List.{flat_map}
+use Rattle.crew_terms.specs.declared.TheConstants.{LONGEST_DAY}
 use Rattle.dossier_terms.specs.Lines.{instance_text}
 use Rattle.day_terms.specs.declared.Entry.{Entry}
 use Rattle.day_terms.specs.declared.Refused.{Refused}
 use Rattle.day_terms.specs.Days.{IsDayOf}
-use Rattle.day_terms.specs.State.{State, start, after_entry, state_after}
-use Rattle.day_terms.specs.Refusal.{Refusal, refusal_of}
+use Rattle.day_terms.specs.State.{start, state_after}
+use Rattle.day_terms.specs.Refusal.{AreTaken, Refusal, refusal_of}
 use Rattle.day_terms.specs.Rounds.{Round, rounds_of}
 use Rattle.flight_changes.specs.Faults.{fault_of}
 use Rattle.crew_cli.specs.Refused.{refused_line}
 use Rattle.crew_cli.specs.declared.refused.DayFault.{DayFault}
 use Rattle.crew_cli.specs.declared.refused.DayFault.TheVariants.{TooLong, InItself, Change}
-
--- the most bytes that a day's text may have
-abbrev pub DAY : ℕ
-DAY = 8388608
-
--- each of these entries is taken by the state that those before it come to
-abbrev pub AreTaken : State → List Entry → Type 0
-AreTaken s [] = Unit {0}
-AreTaken s (entry ∷ entries) = (refusal_of s entry ≡ None) × AreTaken (after_entry s entry) entries
 
 -- the record of a day that is refused: its number, from 1, and why
 pub record DayStop : Type 0 where
@@ -49,7 +41,7 @@ stop_text (Some stop) = refused_line stop.number stop.cause
 
 -- the day is no longer than it may be, none of its records is refused, and the instances of its rounds were written
 pub record SaysRounds (input written : List ℕ) : Type 0 where
-  pub within : length input ≤ DAY
+  pub within : length input ≤ LONGEST_DAY
   pub rounds : List Round
   pub comes_to : ComesTo input rounds None
   pub texts : written ≡ rounds_text rounds
@@ -57,8 +49,8 @@ pub record SaysRounds (input written : List ℕ) : Type 0 where
 -- the output of a day that is refused: its one line where it is too long, else the instances of the rounds before the
 -- refused record, and its line
 pub data IsRefusedOutput (input output : List ℕ) : Type 0 where
-  IsTooLong : (more : DAY < length input) (is : output ≡ refused_line 0 TooLong) → IsRefusedOutput input output
-  IsStopped : (within : length input ≤ DAY) (rounds : List Round) (stop : DayStop) (comes_to : ComesTo input rounds (Some stop))
+  IsTooLong : (more : LONGEST_DAY < length input) (is : output ≡ refused_line 0 TooLong) → IsRefusedOutput input output
+  IsStopped : (within : length input ≤ LONGEST_DAY) (rounds : List Round) (stop : DayStop) (comes_to : ComesTo input rounds (Some stop))
       (is : output ≡ rounds_text rounds ++ refused_line stop.number stop.cause) → IsRefusedOutput input output
 
 -- what `apply` writes of a day in all
@@ -81,14 +73,14 @@ pub data SaysOutputPart (input written : List ℕ) : Type 0 where
 -- the instances of the first rounds were written and nothing else, if any
 pub data SaysFirstRounds (input written : List ℕ) : Type 0 where
   NoRound : (none : written ≡ []) → SaysFirstRounds input written
-  Rounds : (within : length input ≤ DAY) (rounds : List Round) (stop : Option DayStop) (comes_to : ComesTo input rounds stop)
+  Rounds : (within : length input ≤ LONGEST_DAY) (rounds : List Round) (stop : Option DayStop) (comes_to : ComesTo input rounds stop)
       (n : ℕ) (texts : written ≡ rounds_text (take n rounds)) → SaysFirstRounds input written
 
 -- nothing was written; the input is what was read, no longer than a day may be, and what was not seen
 pub record SaysNothingRead (unseen : Option (List ℕ)) (input written : List ℕ) : Type 0 where
   pub none : written ≡ []
   pub read : List ℕ
-  pub within : length read ≤ DAY
+  pub within : length read ≤ LONGEST_DAY
   pub rest : List ℕ
   pub left : unseen ≡ Some rest
   pub parts : input ≡ read ++ rest

@@ -1,6 +1,7 @@
 -- what the program writes for what it reads
 use Rattle.std.specs.Prelude.{◌≡◌, ◌≤◌, ◌++◌, ℕ, Bool, true, false, List, [], ◌∷◌, length, take, Option, None, Some, IfSome, All, codes}
 use Rattle.std.specs.List.{flat_map}
+use Rattle.crew_terms.specs.declared.TheConstants.{LONGEST_DAY}
 use Rattle.crew_io.specs.Io.{Appended}
 use Rattle.crew_io.specs.Lines.{IsPartial}
 use Rattle.dossier_terms.specs.declared.Reason.{Reason}
@@ -11,7 +12,7 @@ use Rattle.dossier_terms.specs.Accepted.{IsAccepted}
 use Rattle.day_terms.specs.Rounds.{Round}
 use Rattle.cert_checker.specs.Checked.{IsTrueYes}
 use Rattle.crew_cli.specs.Input.{IsRefusal, HasRead, room_after}
-use Rattle.crew_cli.specs.Rounds.{DAY, ComesTo, SaysRounds, IsRefusedOutput, SaysOutputPart, SaysFirstRounds, SaysNothingRead}
+use Rattle.crew_cli.specs.Rounds.{ComesTo, SaysRounds, IsRefusedOutput, SaysOutputPart, SaysFirstRounds, SaysNothingRead}
 use Rattle.crew_cli.specs.declared.run.Command.{Command}
 use Rattle.crew_cli.specs.declared.run.Command.TheVariants.{Check, Apply}
 use Rattle.crew_cli.specs.declared.status.Status.{Status}
@@ -91,18 +92,18 @@ AskFor command words = words ≡ word_of command ∷ []
 
 -- what a status of a command says of the input, of what its source has left, and of what was written; no other status
 -- comes
-abbrev pub Says : Command → Status → Option (List ℕ) → List ℕ → List ℕ → Type 0
-Says Check Done unseen input written = SaysYes input written
-Says Check No unseen input written = SaysNo input written
-Says Check ReadFault unseen input written = SaysReadFault unseen input written
-Says Check WriteFault unseen input written = SaysFront input written
-Says Check Memory unseen input written = SaysYesLines input written
-Says Apply Done unseen input written = SaysRounds input written
-Says Apply Refused unseen input written = IsRefusedOutput input written
-Says Apply ReadFault unseen input written = SaysNothingRead unseen input written
-Says Apply WriteFault unseen input written = SaysOutputPart input written
-Says Apply Memory unseen input written = SaysFirstRounds input written
-Says _ _ unseen input written = ⊥
+abbrev pub StatusSays : Command → Status → Option (List ℕ) → List ℕ → List ℕ → Type 0
+StatusSays Check Done unseen input written = SaysYes input written
+StatusSays Check No unseen input written = SaysNo input written
+StatusSays Check ReadFault unseen input written = SaysReadFault unseen input written
+StatusSays Check WriteFault unseen input written = SaysFront input written
+StatusSays Check Memory unseen input written = SaysYesLines input written
+StatusSays Apply Done unseen input written = SaysRounds input written
+StatusSays Apply Refused unseen input written = IsRefusedOutput input written
+StatusSays Apply ReadFault unseen input written = SaysNothingRead unseen input written
+StatusSays Apply WriteFault unseen input written = SaysOutputPart input written
+StatusSays Apply Memory unseen input written = SaysFirstRounds input written
+StatusSays _ _ unseen input written = ⊥
 
 -- the statuses that a command can end with
 abbrev pub ends_with : Command → Status → Bool
@@ -121,7 +122,7 @@ ends_with _ _ = false
 -- what a command takes to its end: bytes that are accepted as dossiers, or a day of which no record is refused
 abbrev pub IsFine : Command → List ℕ → Type 0
 IsFine Check input = (dossiers : List Dossier) × IsAccepted input dossiers
-IsFine Apply input = (length input ≤ DAY) × ((rounds : List Round) × ComesTo input rounds None)
+IsFine Apply input = (length input ≤ LONGEST_DAY) × ((rounds : List Round) × ComesTo input rounds None)
 
 -- the answers to a line that is refused
 abbrev pub is_no_or_write_fault : Status → Bool

@@ -1,12 +1,13 @@
 // The instance of each round of a day.
 ghost use Rattle.std.specs.Prelude.{◌≡◌, ◌≢◌, ◌≤◌, ◌↔◌, length, List, ℕ, None, Ok, IfOk, IfSome, OnErr, IsTrue, All};
+ghost use Rattle.crew_terms.specs.declared.TheConstants.{LONGEST_DAY};
 ghost use Rattle.crew_io.specs.Io.{Appended, AppendedPart, HasEnded, Rose};
 ghost use Rattle.dossier_terms.specs.Lines.{instance_text};
 ghost use Rattle.day_terms.specs.Ranges.{IsInRange};
 ghost use Rattle.crew_cli.specs.Applied.{IsApplied, IsDay, Wrote, is_taken_or_write_fault, is_refused_or_write_fault, is_of_day};
 ghost use Rattle.crew_cli.specs.Refused.{refused_line};
-ghost use Rattle.crew_cli.specs.Rounds.{DAY, SaysFirstRounds};
-ghost use Rattle.crew_cli.specs.Run.{OfBytes, Says, IsFine};
+ghost use Rattle.crew_cli.specs.Rounds.{SaysFirstRounds};
+ghost use Rattle.crew_cli.specs.Run.{OfBytes, StatusSays, IsFine};
 ghost use Rattle.crew_cli.specs.declared.run.Command.TheVariants as command;
 
 use crate::refused::{DayFault, put_refused};
@@ -16,13 +17,11 @@ use crew_instance::Instance;
 use crew_io::sink::{Sink, WriteFault};
 use crew_io::source::Source;
 use crew_io::text::{Text, read_text};
+use crew_terms::LONGEST_DAY;
 use day_records::{Day, one_reading, read_day};
 use day_terms::Entry;
 use flight_changes::{ChangeFault, Desk};
 use std::alloc::{AllocError, Global};
-
-/// The most bytes that a day's text may have.
-const DAY: usize = 8_388_608;
 
 /// What an entry comes to.
 enum Applied {
@@ -103,7 +102,7 @@ fn apply_entry<K: Sink>(desk: &mut Desk, entry: &Entry, out: &mut K) -> Result<A
 fn apply_day<K: Sink>(alloc: Global, day: &Day, out: &mut K) -> Result<Status, AllocError>
     requires { All IsInRange day.now.entries }
     ensures says { (text : List ℕ) → IsDay text day.now.entries day.now.stop
-        → IfOk result (λ status. Wrote (K.got out.old) (K.got out.new) (Says command.Apply status None text)) }
+        → IfOk result (λ status. Wrote (K.got out.old) (K.got out.new) (StatusSays command.Apply status None text)) }
     ensures memory { (text : List ℕ) → IsDay text day.now.entries day.now.stop
         → OnErr result (Wrote (K.got out.old) (K.got out.new) (SaysFirstRounds text)) }
     ensures others { IfOk result (λ status. IsTrue (is_of_day status)) }
@@ -133,8 +132,8 @@ fn apply_day<K: Sink>(alloc: Global, day: &Day, out: &mut K) -> Result<Status, A
 
 /// Writes the instance of each round of a day's text, up to the first record that is refused, and the line of that one.
 fn apply_text<K: Sink>(alloc: Global, text: &[u8], out: &mut K) -> Result<Status, AllocError>
-    requires { length text.now ≤ DAY }
-    ensures says { IfOk result (λ status. Wrote (K.got out.old) (K.got out.new) (Says command.Apply status None text.now)) }
+    requires { length text.now ≤ LONGEST_DAY }
+    ensures says { IfOk result (λ status. Wrote (K.got out.old) (K.got out.new) (StatusSays command.Apply status None text.now)) }
     ensures memory { OnErr result (Wrote (K.got out.old) (K.got out.new) (SaysFirstRounds text.now)) }
     ensures refused { IfOk result (λ status. status ≡ Status.Refused → IsFine command.Apply text.now → ⊥) }
     ensures others { IfOk result (λ status. IsTrue (is_of_day status)) }
@@ -156,7 +155,7 @@ pub(crate) fn apply<S: Source, K: Sink>(
     src: &mut S,
     out: &mut K,
 ) -> Result<Status, AllocError>
-    ensures says { IfOk result (λ status. OfBytes (S.left src.old) (K.got out.old) (K.got out.new) (Says command.Apply status (S.left src.new))) }
+    ensures says { IfOk result (λ status. OfBytes (S.left src.old) (K.got out.old) (K.got out.new) (StatusSays command.Apply status (S.left src.new))) }
     ensures memory { OnErr result (OfBytes (S.left src.old) (K.got out.old) (K.got out.new) SaysFirstRounds) }
     ensures refused { IfOk result (λ status. status ≡ Status.Refused → IfSome (S.left src.old) (λ input. IsFine command.Apply input → ⊥)) }
     ensures ended { IfOk result (λ status. status ≡ Status.Done → HasEnded (S.left src.new)) }
@@ -170,7 +169,7 @@ pub(crate) fn apply<S: Source, K: Sink>(
     ensures steady_source { S.steady src.old → IfOk result (λ status. status ≢ Status.ReadFault) }
     ensures steady_sink { K.steady out.old → K.steady out.new × IfOk result (λ status. status ≡ Status.WriteFault → K.full out.new) }
 {
-    match read_text(alloc, src, DAY)? {
+    match read_text(alloc, src, LONGEST_DAY)? {
         Text::Whole(text) => {
             let status = apply_text(alloc, text.as_slice(), out)?;
             Ok(status)

@@ -1,12 +1,13 @@
 // A check of dossiers, one after another.
 ghost use Rattle.std.specs.Prelude.{◌≡◌, ◌≢◌, ◌≤◌, ◌^◌, Ok, IfOk, OnErr, IsTrue};
+ghost use Rattle.crew_terms.specs.declared.TheConstants.{LONGEST_INPUT};
 ghost use Rattle.crew_io.specs.Io.{Appended, AppendedPart, HasEnded, Rose};
 ghost use Rattle.crew_io.specs.Lines.{fresh_reader};
 ghost use Rattle.dossier_terms.specs.Texts.{no_line};
 ghost use Rattle.cert_checker.specs.Checked.{fresh_checker};
 ghost use Rattle.crew_cli.specs.Run.{OfBytes, SaysYes, SaysNo, SaysFront, SaysReadFault, SaysYesLines, is_no_or_write_fault};
 
-use crate::input::{INPUT, Outcome, next_dossier};
+use crate::input::{Outcome, next_dossier};
 use crate::laws::refused_is_not_accepted;
 use crate::status::Status;
 use crate::texts::{put_no, put_yes};
@@ -14,6 +15,7 @@ use cert_checker::Checker;
 use crew_io::lines::LineReader;
 use crew_io::sink::{Sink, WriteFault};
 use crew_io::source::Source;
+use crew_terms::LONGEST_INPUT;
 use dossier_terms::Reason;
 use std::alloc::{AllocError, Global};
 
@@ -41,7 +43,7 @@ pub(crate) fn check<S: Source, K: Sink>(
     ensures steady_source { S.steady src.old → IfOk result (λ status. status ≢ Status.ReadFault) }
     ensures steady_sink { K.steady out.old → K.steady out.new × IfOk result (λ status. status ≡ Status.WriteFault → K.full out.new) }
 {
-    let mut reader = LineReader::open(alloc, INPUT)?;
+    let mut reader = LineReader::open(alloc, LONGEST_INPUT)?;
     let mut checker = Checker::open(alloc)?;
     let status = check_all(&mut reader, &mut checker, src, out);
     // By name, so that its many parts are let go of in one call.
@@ -56,7 +58,7 @@ fn check_all<S: Source, K: Sink>(
     src: &mut S,
     out: &mut K,
 ) -> Result<Status, AllocError>
-    requires reader { reader.old ≡ fresh_reader (2 ^ 62) }
+    requires reader { reader.old ≡ fresh_reader LONGEST_INPUT }
     requires checker { checker.old ≡ fresh_checker }
     ensures done { IfOk result (λ status. status ≡ Status.Done → OfBytes (S.left src.old) (K.got out.old) (K.got out.new) SaysYes) }
     ensures no { IfOk result (λ status. status ≡ Status.No → OfBytes (S.left src.old) (K.got out.old) (K.got out.new) SaysNo) }

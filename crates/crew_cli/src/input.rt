@@ -4,7 +4,7 @@ ghost use Rattle.crew_io.specs.Io.{HasEnded, Rose};
 ghost use Rattle.dossier_terms.specs.Dossier.{Dossier};
 ghost use Rattle.cert_checker.specs.Checked.{IsOpen as IsDue};
 ghost use Rattle.cert_checker.specs.declared.checker.State.TheVariants as state;
-ghost use Rattle.crew_cli.specs.Input.{IsBetween, IsOpen, IsOutcome, IsOutcomeAtStop, OpensNext, told_of};
+ghost use Rattle.crew_cli.specs.Input.{IsBetween, CanGoOn, IsOutcome, IsOutcomeAtStop, OpensNext, told_of};
 
 use crate::laws::{first_line_is_first, whole_is_true};
 use cert_checker::{Checker, Said, Stop, Verdict};
@@ -12,9 +12,6 @@ use crew_io::lines::{LineReader, Progress};
 use crew_io::source::Source;
 use dossier_terms::Reason;
 use std::alloc::AllocError;
-
-/// The most bytes that an input may have.
-pub const INPUT: u64 = 1 << 62;
 
 /// What comes next in an input.
 #[derive(Clone, Copy, Debug, PartialEq, Eq)]
@@ -62,7 +59,7 @@ pub fn next_dossier<S: Source>(
     checker: &mut Checker,
     src: &mut S,
 ) -> Result<Outcome, AllocError>
-    requires { IsOpen reader.old checker.old }
+    requires { CanGoOn reader.old checker.old }
     ensures outcome { IfOk result (λ outcome. (input : List ℕ) (done : List Dossier) → IsBetween input done reader.old (S.left src.old) checker.old.lines
         → IsOutcome input done reader.new (S.left src.new) checker.new outcome) }
     ensures next { IfOk result (OpensNext reader.old reader.new checker.new) }

@@ -1,7 +1,7 @@
 // The top call.
 ghost use Rattle.std.specs.Prelude.{◌≡◌, ◌≢◌, ◌≤◌, ◌↔◌, ◌⊎◌, [], ◌∷◌, map, string_bytes, IfSome, IsTrue, MatchOption};
 ghost use Rattle.crew_io.specs.Io.{HasEnded, Rose};
-ghost use Rattle.crew_cli.specs.Run.{OfBytes, AskFor, Says, IsFine, ends_with};
+ghost use Rattle.crew_cli.specs.Run.{OfBytes, AskFor, StatusSays, IsFine, ends_with};
 
 use crate::apply::apply;
 use crate::check::check;
@@ -43,8 +43,8 @@ impl Command {
 
 /// Does what a command asks for, but for the flush.
 fn answer<S: Source, K: Sink>(alloc: Global, command: Command, src: &mut S, out: &mut K) -> Status
-    ensures says { OfBytes (S.left src.old) (K.got out.old) (K.got out.new) (Says command result (S.left src.new)) }
-    ensures part { OfBytes (S.left src.old) (K.got out.old) (K.got out.new) (Says command Status.WriteFault (S.left src.new)) }
+    ensures says { OfBytes (S.left src.old) (K.got out.old) (K.got out.new) (StatusSays command result (S.left src.new)) }
+    ensures part { OfBytes (S.left src.old) (K.got out.old) (K.got out.new) (StatusSays command Status.WriteFault (S.left src.new)) }
     ensures ends { IsTrue (ends_with command result) }
     ensures ended { result ≡ Status.Done → HasEnded (S.left src.new) }
     ensures read_fault { result ≡ Status.ReadFault → Rose (S.faults src.old) (S.faults src.new) }
@@ -78,7 +78,7 @@ fn answer<S: Source, K: Sink>(alloc: Global, command: Command, src: &mut S, out:
 pub fn run<S: Source, K: Sink>(alloc: Global, words: &[String], src: &mut S, out: &mut K) -> Status
     // Each status tells what the input is and what was written, also at a fault.
     ensures says { (command : Command) → AskFor command (map (λ w. string_bytes w) words.now)
-        → OfBytes (S.left src.old) (K.got out.old) (K.got out.new) (Says command result (S.left src.new)) }
+        → OfBytes (S.left src.old) (K.got out.old) (K.got out.new) (StatusSays command result (S.left src.new)) }
 
     // Each command ends with one of its own statuses, whatever the source and the sink tell.
     ensures ends { (command : Command) → AskFor command (map (λ w. string_bytes w) words.now) → IsTrue (ends_with command result) }
@@ -105,7 +105,7 @@ pub fn run<S: Source, K: Sink>(alloc: Global, words: &[String], src: &mut S, out
     ensures read_told { result ≢ Status.ReadFault → result ≢ Status.WriteFault → S.faults src.new ≡ S.faults src.old }
     ensures write_told { result ≢ Status.WriteFault → K.faults out.new ≡ K.faults out.old }
     ensures read_says { (command : Command) → AskFor command (map (λ w. string_bytes w) words.now) → S.faults src.new ≢ S.faults src.old
-        → OfBytes (S.left src.old) (K.got out.old) (K.got out.new) (Says command Status.ReadFault (S.left src.new)) }
+        → OfBytes (S.left src.old) (K.got out.old) (K.got out.new) (StatusSays command Status.ReadFault (S.left src.new)) }
 
     // Where no count of faults rises, each input that is fine is done, or memory was wanting.
     ensures complete { (command : Command) → AskFor command (map (λ w. string_bytes w) words.now) → IfSome (S.left src.old) (λ input. IsFine command input

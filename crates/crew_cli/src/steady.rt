@@ -1,7 +1,7 @@
 // The top call over sources and sinks in memory, and over such as do not fail.
 ghost use Rattle.std.specs.Prelude.{◌≡◌, ◌≢◌, ◌≤◌, ◌↔◌, ◌⊎◌, ◌++◌, ℕ, List, Some, [], length, map, string_bytes};
 ghost use Rattle.crew_io.specs.Io.{Rose};
-ghost use Rattle.crew_cli.specs.Run.{AskFor, Says, IsFine};
+ghost use Rattle.crew_cli.specs.Run.{AskFor, StatusSays, IsFine};
 ghost use Rattle.crew_cli.specs.declared.run.Command.{Command};
 
 use crate::run::{Status, run};
@@ -19,7 +19,7 @@ pub fn run_steady(
 ) -> Status
     // Each status tells what the input is.
     ensures says { (command : Command) → AskFor command (map (λ w. string_bytes w) words.now)
-        → (written : List ℕ) × Says command result (Some src.new.left) src.old.left written }
+        → (written : List ℕ) × StatusSays command result (Some src.new.left) src.old.left written }
 
     // Each input that is fine is done, or memory was wanting.
     ensures complete { (command : Command) → AskFor command (map (λ w. string_bytes w) words.now)
@@ -44,7 +44,7 @@ pub fn run_in_memory(
 ) -> Status
     // Each status tells what the input is and what was written, also at a fault.
     ensures says { (command : Command) → AskFor command (map (λ w. string_bytes w) words.now)
-        → (written : List ℕ) × (out.new.got ≡ out.old.got ++ written) × Says command result (Some src.new.left) src.old.left written }
+        → (written : List ℕ) × (out.new.got ≡ out.old.got ++ written) × StatusSays command result (Some src.new.left) src.old.left written }
 
     ensures words { (result ≡ Status.Words) ↔ ((command : Command) → AskFor command (map (λ w. string_bytes w) words.now) → ⊥) }
     ensures untouched { result ≡ Status.Words → (src.new ≡ src.old) × (out.new ≡ out.old) }
@@ -66,7 +66,7 @@ pub fn run_in_memory(
     ensures read_told { result ≢ Status.ReadFault → result ≢ Status.WriteFault → src.new.faults ≡ src.old.faults }
     ensures write_told { result ≢ Status.WriteFault → out.new.faults ≡ out.old.faults }
     ensures read_says { (command : Command) → AskFor command (map (λ w. string_bytes w) words.now) → src.new.faults ≢ src.old.faults
-        → (written : List ℕ) × (out.new.got ≡ out.old.got ++ written) × Says command Status.ReadFault (Some src.new.left) src.old.left written }
+        → (written : List ℕ) × (out.new.got ≡ out.old.got ++ written) × StatusSays command Status.ReadFault (Some src.new.left) src.old.left written }
     ensures source_later { src.old.faults ≤ src.new.faults }
     ensures sink_later { out.old.faults ≤ out.new.faults }
 {

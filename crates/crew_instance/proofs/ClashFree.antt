@@ -11,14 +11,7 @@ use Rattle.crew_terms.specs.Legal.{IsJob, IsFeasible}
 use Rattle.crew_terms.specs.Verdict.{IsBefore, HasNoClash, AreJobsBelow, IsPlanOf, IsFeasibility, Feasible, BadJob, BadTeam, IsJobFault, Outside, Miscounted, OfTeam, Unskilled, OffShift}
 use Rattle.crew_terms.specs.declared.PlanVerdict.{PlanVerdict}
 use Rattle.crew_terms.specs.declared.PlanVerdict.TheVariants.{Legal, Window, Count, Skill, Shift, Clash}
-
--- a task with a job is one of the plan's
-pub job_known : (p : Plan) (j : ℕ) (job : Job) → job_of p j ≡ Some job → j < length p
-job_known p j job e = at (cases_lt j (length p))
-  where
-    at : (j < length p) ⊎ (length p ≤ j) → j < length p
-    at (inl l) = l
-    at (inr m) = let n : job_of p j ≡ None = get_or-eq_default p None m in let x : None ≡ Some job = sym n ∙ e in cc
+use Rattle.crew_terms.specs.Nodes.{job_known}
 
 -- a task is done once
 pub one_start : (p : Plan) (k h j t u : ℕ) → Does p k j t → Does p h j u → t ≡ u

@@ -3,7 +3,7 @@ use Rattle.std.proofs.Common.{◌≡◌, ◌<◌, ◌+◌, ◌-◌, ◌++◌, �
 use Rattle.std.proofs.lemmas.List.{take_more, set-append_right, length-take-le}
 use Rattle.std.specs.Option.{option_map}
 use Rattle.crew_terms.specs.Plan.{Plan, Job, job_of}
-use Rattle.crew_instance.specs.Teams.{teams_in}
+use Rattle.crew_instance.specs.Teams.{job_teams}
 
 -- the jobs of the tasks below i, and nothing behind them
 abbrev pub copied : Plan → ℕ → Plan
@@ -36,7 +36,7 @@ module _ (p : Plan) (i : ℕ) (l : i < length p) where
       ∙ with_next o e
 
 -- what is read of a task is its job
-pub job_again : (o : Option Job) (start : ℕ) (teams : List ℕ) → option_map (λ (job : Job). job.start) o ≡ Some start → teams ≡ teams_in o → o ≡ Some (record { start = start; teams = teams })
+pub job_again : (o : Option Job) (start : ℕ) (teams : List ℕ) → option_map (λ (job : Job). job.start) o ≡ Some start → teams ≡ job_teams o → o ≡ Some (record { start = start; teams = teams })
 job_again None start teams e f = let x : None ≡ Some start = e in cc
 job_again (Some job) start teams e f = let x : Some job.start ≡ Some start = e in let g : job.start ≡ start = cc in (λ k. Some (record { start = g k; teams = sym f k }))
 

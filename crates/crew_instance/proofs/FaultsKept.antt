@@ -5,7 +5,7 @@ use Rattle.std.proofs.lemmas.List.Elements.{All-weaker}
 use Rattle.crew_terms.specs.Instance.{Instance, IsInShift}
 use Rattle.crew_terms.specs.Plan.{Plan, Job, empty_plan}
 use Rattle.crew_terms.specs.Legal.{IsFeasible, IsFit, IsInWindow, IsJob, IsTeamList}
-use Rattle.crew_terms.specs.Verdict.{BadJob, BadTeam, Feasible, IsFeasibility, IsFirstClash, IsJobFault, IsTeamFault, Miscounted, OffShift, OfTeam, Outside, Unskilled}
+use Rattle.crew_terms.specs.Verdict.{BadJob, BadTeam, Feasible, IsFeasibility, IsFirstClash, IsJobFault, IsVisitFault, Miscounted, OffShift, OfTeam, Outside, Unskilled}
 use Rattle.crew_terms.specs.declared.PlanVerdict.{PlanVerdict}
 use Rattle.crew_instance.specs.Draft.{Draft, FirstFaultNames, IsBadFrozen, IsMissing, instance_of}
 
@@ -36,7 +36,7 @@ module _ (i : Instance) (a b : Plan) where
   clash p k j h is = record { start = is.start; next_start = is.next_start; next = is.next; broken = is.broken; earlier = is.earlier }
 
 module _ (i : Instance) (a b : Plan) where
-  team_fault : (j t k : ℕ) (told : PlanVerdict) → IsTeamFault (freezing i a) j t k told → IsTeamFault (freezing i b) j t k told
+  team_fault : (j t k : ℕ) (told : PlanVerdict) → IsVisitFault (freezing i a) j t k told → IsVisitFault (freezing i b) j t k told
   team_fault j t k told (Unskilled broken is) = Unskilled broken is
   team_fault j t k told (OffShift qualified broken is) = OffShift qualified (λ s. broken (shift i b a k j t s)) is
 

@@ -10,8 +10,8 @@ use Rattle.crew_terms.specs.Verdict.{IsPlanOf}
 use Rattle.crew_terms.specs.Plan.{Plan, Job, job_of, empty_plan}
 use Rattle.crew_terms.specs.declared.Task.{Task}
 use Rattle.crew_terms.specs.declared.Team.{Team}
+use Rattle.crew_terms.specs.Nodes.{job_known}
 use Rattle.crew_instance.specs.Draft.{AreFrozen, AreTeamsFor, Draft, MayFreeze, filled, instance_of, task_at, unfrozen, with_task}
-use Rattle.crew_instance.proofs.ClashFree.{job_known}
 
 -- a job may still be frozen where its task stands as it did, and no team is gone
 pub may_still : (d e : Draft) (j : ℕ) (job : Job) → task_at d j ≡ task_at e j → length d.teams ≤ length e.teams → MayFreeze d j job → MayFreeze e j job

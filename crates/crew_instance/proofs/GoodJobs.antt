@@ -10,11 +10,11 @@ use Rattle.std.proofs.lemmas.List.Elements.{All-contains, Contains-get_or}
 use Rattle.crew_terms.specs.Instance.{Instance, task_of}
 use Rattle.crew_terms.specs.Plan.{Plan, Job, job_of}
 use Rattle.crew_terms.specs.Legal.{IsJob, IsInWindow, IsTeamList, IsFit}
-use Rattle.crew_terms.specs.Verdict.{IsTeamFault, IsJobFault, OfTeam, AreJobsBelow, IsPlanOf}
+use Rattle.crew_terms.specs.Verdict.{IsVisitFault, IsJobFault, OfTeam, AreJobsBelow, IsPlanOf}
 use Rattle.crew_terms.specs.declared.PlanVerdict.{PlanVerdict}
 use Rattle.crew_terms.specs.declared.Task.{Task}
 use Rattle.crew_instance.specs.Jobs.{IsGoodAt}
-use Rattle.crew_instance.specs.Teams.{teams_in}
+use Rattle.crew_instance.specs.Teams.{job_teams}
 
 -- what `is_sorted_by` tells of numbers that are to rise
 pub rising_decides : (xs : List ℕ) (r : Bool) → IsAllAdjacentAnswer (λ x y b. b ≡ ltb x y) xs r → IsTrue r ↔ IsStrictlyIncreasing xs
@@ -48,21 +48,21 @@ good_job i j job window list known fit = record {
 
 -- the team at a place is the first that is not fit
 pub team_fault : (i : Instance) (j : ℕ) (job : Job) (told : PlanVerdict) (m : ℕ) → IsInWindow i j job → IsTeamList i j job → m < length job.teams
-    → All (IsFit i j job.start) (take m job.teams) → IsTeamFault i j job.start (get_or job.teams m 0) told → IsJobFault i j job told
+    → All (IsFit i j job.start) (take m job.teams) → IsVisitFault i j job.start (get_or job.teams m 0) told → IsJobFault i j job told
 team_fault i j job told m window list l earlier how =
     OfTeam window list (take m job.teams) (get_or job.teams m 0) (drop (m + 1) job.teams)
     (sym (take-append-drop m job.teams) ∙ ap (λ ks. take m job.teams ++ ks) (drop_more job.teams m 0 l)) earlier how
 
 -- the job of a task, by its two parts
-pub job_from_parts : (o : Option Job) (t : ℕ) → option_map (λ (job : Job). job.start) o ≡ Some t → o ≡ Some (record { start = t; teams = teams_in o })
+pub job_from_parts : (o : Option Job) (t : ℕ) → option_map (λ (job : Job). job.start) o ≡ Some t → o ≡ Some (record { start = t; teams = job_teams o })
 job_from_parts None t e = cc
 job_from_parts (Some job) t e = let f : job.start ≡ t = cc in ap (λ s. Some (record { start = s; teams = job.teams })) f
 
 -- the teams of a plan are known
 pub teams_known : (i : Instance) (p : Plan) (j t : ℕ) → IsPlanOf i p → option_map (λ (job : Job). job.start) (job_of p j) ≡ Some t
-    → All (λ k. k < length i.teams) (teams_in (job_of p j))
+    → All (λ k. k < length i.teams) (job_teams (job_of p j))
 teams_known i p j t of e k d l =
-    of.known (get_or (teams_in (job_of p j)) k d) j t (record { start = t; teams = teams_in (job_of p j) }, job_from_parts (job_of p j) t e, refl, Contains-get_or (teams_in (job_of p j)) k d l)
+    of.known (get_or (job_teams (job_of p j)) k d) j t (record { start = t; teams = job_teams (job_of p j) }, job_from_parts (job_of p j) t e, refl, Contains-get_or (job_teams (job_of p j)) k d l)
 
 -- one more task
 pub jobs_more : (i : Instance) (p : Plan) (n : ℕ) → AreJobsBelow i p n → IsGoodAt i p n → AreJobsBelow i p (n + 1)

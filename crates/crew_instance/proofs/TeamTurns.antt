@@ -10,9 +10,10 @@ use Rattle.std.proofs.lemmas.List.Sorted.{Contains-permutation, IsPermutation-sy
 use Rattle.crew_terms.specs.Instance.{Instance, CanFollow, task_of}
 use Rattle.crew_terms.specs.Plan.{Plan, Does}
 use Rattle.crew_terms.specs.Verdict.{IsBefore, IsNext, HasNoClash, IsFirstClash, AreJobsBelow}
+use Rattle.crew_terms.specs.Nodes.{job_known}
 use Rattle.crew_instance.specs.declared.turns.Turn.{Turn}
 use Rattle.crew_instance.specs.Turns.{IsInOrder, AreTurns}
-use Rattle.crew_instance.proofs.ClashFree.{job_known, one_start}
+use Rattle.crew_instance.proofs.ClashFree.{one_start}
 use Rattle.crew_instance.proofs.Order.{Precedes}
 
 abbrev pub turn : ℕ → ℕ → Turn

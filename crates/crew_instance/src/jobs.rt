@@ -4,7 +4,7 @@ ghost use Rattle.std.specs.List.Sorted.{IsStrictlyIncreasing};
 ghost use Rattle.crew_terms.specs.Instance.{IsInShift};
 ghost use Rattle.crew_terms.specs.Plan.{Job};
 ghost use Rattle.crew_terms.specs.Legal.{IsJob, IsFit};
-ghost use Rattle.crew_terms.specs.Verdict.{AreJobsBelow, IsFeasibility, IsJobFault, IsPlanOf, IsTeamFault};
+ghost use Rattle.crew_terms.specs.Verdict.{AreJobsBelow, IsFeasibility, IsJobFault, IsPlanOf, IsVisitFault};
 ghost use Rattle.crew_terms.specs.declared.TheConstants.{LAST_MINUTE};
 ghost use Rattle.crew_instance.specs.Jobs.{IsFaultAt, IsGoodAt};
 
@@ -32,7 +32,7 @@ fn fault_of_team(instance: &Instance, j: u32, start: u32, k: u32) -> Option<Plan
     requires team { k < length instance.now.teams }
     requires task { j < length instance.now.tasks }
     requires day { start ≤ LAST_MINUTE }
-    ensures { MatchOption result (IsFit instance.now j start k) (IsTeamFault instance.now j start k) }
+    ensures { MatchOption result (IsFit instance.now j start k) (IsVisitFault instance.now j start k) }
 {
     if !instance.qualified(k, j) {
         return Some(PlanVerdict::Skill(k, j));

@@ -4,7 +4,7 @@ ghost use Rattle.std.specs.Option.{option_map};
 ghost use Rattle.crew_terms.specs.Plan.{empty_plan, job_of, unassigned_count};
 ghost use Rattle.crew_terms.specs.declared.TheConstants.{MOST_TASKS};
 ghost use Rattle.crew_instance.specs.Draft.{filled};
-ghost use Rattle.crew_instance.specs.Teams.{teams_in};
+ghost use Rattle.crew_instance.specs.Teams.{job_teams};
 
 use crew_terms::MOST_TEAMS_PER_TASK;
 use smallvec::SmallVec;
@@ -129,7 +129,7 @@ impl Plan {
     /// The teams that do task `i`, none where it is unassigned.
     pub fn teams(&self, i: u32) -> &[u32]
         requires { i < length self.now }
-        ensures { result.now ≡ teams_in (job_of self.now i) }
+        ensures { result.now ≡ job_teams (job_of self.now i) }
     {
         match &self.slots[i as usize] {
             Some(slot) => slot.teams.as_slice(),

@@ -9,7 +9,7 @@ use Rattle.crew_terms.specs.Words.{IsLine, with_feed}
 use Rattle.crew_terms.specs.declared.TheConstants.{LONGEST_LINE}
 use Rattle.crew_io.proofs.Ranges.{plain_front}
 use Rattle.crew_io.specs.Io.{MOST, HasEnded}
-use Rattle.crew_io.specs.Lines.{Reader, rest_of, allowance, took_line, IsFront, IsPartial, Answers, AnswersTold, Advances, stop_of, handed_out, KeepsLine}
+use Rattle.crew_io.specs.Lines.{Reader, rest_of, allowance, took_line, IsLineLength, IsPartial, Answers, AnswersTold, Advances, stop_of, handed_out, KeepsLine}
 use Rattle.crew_io.specs.declared.lines.Progress.{Progress}
 use Rattle.crew_io.specs.declared.lines.Progress.TheVariants.{Line, TooLong, TooMuch, End, ReadFault}
 
@@ -33,10 +33,10 @@ split_line xs more n h e =
     let d : drop n xs ≡ 10 ∷ drop (n + 1) xs = rw add-one (drop-cons xs n 0 h ∙ ap (λ b. b ∷ drop (suc n) xs) e) in
     ap (λ zs. zs ++ more) (sym (take-append-drop n xs) ∙ ap (λ zs. take n xs ++ zs) d) ∙ simp append_assoc
 
-line_plain : (xs : List ℕ) (n : ℕ) → IsFront xs n → n ≤ LONGEST_LINE → IsLine (take n xs)
+line_plain : (xs : List ℕ) (n : ℕ) → IsLineLength xs n → n ≤ LONGEST_LINE → IsLine (take n xs)
 line_plain xs n f h = record { short = let w = f.within in omega (arith, length-take n xs); whole = f.plain }
 
-told_line : (room : ℕ) (r : Reader) (later : Option (List ℕ)) (n : ℕ) → IsFront r.held n → n < length r.held → n ≤ LONGEST_LINE → n < room
+told_line : (room : ℕ) (r : Reader) (later : Option (List ℕ)) (n : ℕ) → IsLineLength r.held n → n < length r.held → n ≤ LONGEST_LINE → n < room
     → AnswersTold room (rest_of r later) Line (take n r.held) (rest_of (took_line r n) later)
 told_line room r None n f h l w = refl
 told_line room r (Some more) n f h l w = (
@@ -63,7 +63,7 @@ told_end room r (Some more) n e p h l =
 
 -- the reader took a line
 pub line_advances : (old mid new : Reader) (left later : Option (List ℕ)) (n : ℕ) → IsSame old left mid later → mid.handed ≤ mid.limit → mid.limit ≤ MOST
-    → IsFront mid.held n → n < length mid.held → n ≤ LONGEST_LINE → n < allowance mid → new ≡ took_line mid n → Advances old left Line new later
+    → IsLineLength mid.held n → n < length mid.held → n ≤ LONGEST_LINE → n < allowance mid → new ≡ took_line mid n → Advances old left Line new later
 line_advances old mid new left later n s w m f h l r e =
     subst (λ k. Advances old left Line k later) (sym e) record {
       limit = s.limit;
@@ -103,7 +103,7 @@ stop_advances old mid new left later latest answer s w m t a b k told fault = re
 
 -- more bytes were found without an LF than the longest line has
 pub long_advances : (old mid new : Reader) (left later : Option (List ℕ)) (n : ℕ) → IsSame old left mid later → mid.handed ≤ mid.limit → mid.limit ≤ MOST
-    → IsFront mid.held n → LONGEST_LINE < allowance mid → LONGEST_LINE < n → IsStopped mid later TooLong new later → Advances old left TooLong new later
+    → IsLineLength mid.held n → LONGEST_LINE < allowance mid → LONGEST_LINE < n → IsStopped mid later TooLong new later → Advances old left TooLong new later
 long_advances old mid new left later n s w m f l h t =
     stop_advances old mid new left later later TooLong s w m t refl refl refl (told_stop (allowance mid) mid later TooLong [] (λ more. (
       record {
@@ -116,7 +116,7 @@ long_advances old mid new left later n s w m f l h t =
 
 -- more bytes were found than may be handed out, with no line among them
 pub much_advances : (old mid new : Reader) (left later : Option (List ℕ)) (n : ℕ) → IsSame old left mid later → mid.handed ≤ mid.limit → mid.limit ≤ MOST
-    → IsFront mid.held n → allowance mid ≤ LONGEST_LINE → allowance mid ≤ n → allowance mid < length mid.held → IsStopped mid later TooMuch new later → Advances old left TooMuch new later
+    → IsLineLength mid.held n → allowance mid ≤ LONGEST_LINE → allowance mid ≤ n → allowance mid < length mid.held → IsStopped mid later TooMuch new later → Advances old left TooMuch new later
 much_advances old mid new left later n s w m f l h r t =
     stop_advances old mid new left later later TooMuch s w m t refl refl refl (told_stop (allowance mid) mid later TooMuch [] (λ more. (
       record {
@@ -129,13 +129,13 @@ much_advances old mid new left later n s w m f l h r t =
 
 -- the source has ended
 pub end_advances : (old mid new : Reader) (left later latest : Option (List ℕ)) (n k : ℕ) → IsSame old left mid later → mid.handed ≤ mid.limit → mid.limit ≤ MOST
-    → IsFront mid.held n → n ≡ length mid.held → k ≡ length mid.held → length mid.held ≤ LONGEST_LINE → length mid.held ≤ allowance mid → HasEnded later → IsStopped mid later (End k) new latest → Advances old left (End k) new latest
+    → IsLineLength mid.held n → n ≡ length mid.held → k ≡ length mid.held → length mid.held ≤ LONGEST_LINE → length mid.held ≤ allowance mid → HasEnded later → IsStopped mid later (End k) new latest → Advances old left (End k) new latest
 end_advances old mid new left later latest n k s w m f e q l r z t =
     stop_advances old mid new left later latest (End k) s w m t refl refl refl (told_end (allowance mid) mid later k z record { short = l; whole = All-same (λ b. b ≢ 10) mid.held (take n mid.held) (sym (ap (λ j. take j mid.held) e ∙ take-length mid.held)) f.plain } r q) (λ is. absurd (cc))
 
 -- a read has failed
 pub fault_advances : (old mid new : Reader) (left later latest : Option (List ℕ)) (n : ℕ) → IsSame old left mid later → mid.handed ≤ mid.limit → mid.limit ≤ MOST
-    → IsFront mid.held n → n ≡ length mid.held → length mid.held ≤ LONGEST_LINE → length mid.held ≤ allowance mid → new.held ≡ mid.held → IsStopped mid later ReadFault new latest → Advances old left ReadFault new latest
+    → IsLineLength mid.held n → n ≡ length mid.held → length mid.held ≤ LONGEST_LINE → length mid.held ≤ allowance mid → new.held ≡ mid.held → IsStopped mid later ReadFault new latest → Advances old left ReadFault new latest
 fault_advances old mid new left later latest n s w m f e q l h t =
     stop_advances old mid new left later latest ReadFault s w m t refl refl refl (told_stop (allowance mid) mid later ReadFault [] (λ more. refl))
     (λ is. subst (λ held. IsPartial (allowance mid) held (length held)) (sym h)

@@ -1,4 +1,5 @@
 pub mod Io
+pub mod Appends
 pub mod Memory
 pub mod KeptSource
 pub mod KeptSteady

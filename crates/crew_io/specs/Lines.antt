@@ -36,7 +36,7 @@ abbrev pub NoFeed : List ℕ → Type 0
 NoFeed bytes = All (λ b. b ≢ 10) bytes
 
 -- n bytes stand before the first LF, or are all
-pub record IsFront (bytes : List ℕ) (n : ℕ) : Type 0 where
+pub record IsLineLength (bytes : List ℕ) (n : ℕ) : Type 0 where
   pub within : n ≤ length bytes
   pub plain : NoFeed (take n bytes)
   pub feed : n < length bytes → slice_index bytes n ≡ 10

@@ -25,8 +25,8 @@ pub record Store : Type 0 where
   pub faults : ℕ
 
 -- the number of the next call, counted from 1, stands in the list
-abbrev pub IsDue : List ℕ → ℕ → Type 0
-IsDue fails calls = Contains fails (calls + 1)
+abbrev pub FailsNext : List ℕ → ℕ → Type 0
+FailsNext fails calls = Contains fails (calls + 1)
 
 -- after a read that failed
 abbrev pub feed_failed : Feed → Feed
@@ -38,7 +38,7 @@ feed_gave f n = record f { left = drop n f.left; calls = one_more f.calls }
 
 -- the call is due to fail, or a piece that is not empty meets a full room
 abbrev pub IsRefused : Store → List ℕ → Type 0
-IsRefused s piece = IsDue s.fails s.calls ⊎ ((length s.got ≡ s.room) × (piece ≢ []))
+IsRefused s piece = FailsNext s.fails s.calls ⊎ ((length s.got ≡ s.room) × (piece ≢ []))
 
 -- after a write or a flush that failed
 abbrev pub store_failed : Store → Store

@@ -5,6 +5,4 @@ pub mod lines;
 mod script;
 pub mod sink;
 pub mod source;
-#[cfg(test)]
-mod tests;
 pub mod text;

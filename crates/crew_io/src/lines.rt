@@ -5,7 +5,7 @@ ghost use mathlib.Core.Option.{none};
 ghost use Rattle.crew_io.specs.contracts.lines.LineReader.{the_row};
 ghost use Rattle.crew_io.specs.Got.{GotNext};
 ghost use Rattle.crew_io.specs.Io.{MOST, Rose, HasEnded};
-ghost use Rattle.crew_io.specs.Lines.{fresh_reader, allowance, rest_of, with_left, took_line, IsFront, Advances, Steps};
+ghost use Rattle.crew_io.specs.Lines.{fresh_reader, allowance, rest_of, with_left, took_line, IsLineLength, Advances, Steps};
 
 use crate::source::{Failed, Source};
 use crew_terms::LONGEST_LINE;
@@ -75,7 +75,7 @@ impl Model for LineReader {
 
 /// How many bytes stand before the first LF, or all of them.
 fn first_feed(bytes: &[u8]) -> usize
-    ensures { IsFront bytes.now result }
+    ensures { IsLineLength bytes.now result }
 {
     memchr(b'\n', bytes).unwrap_or(bytes.len())
 }
@@ -190,7 +190,7 @@ impl LineReader {
     /// How many bytes of what is held stand before its first LF, or all of them.
     fn search(&mut self) -> usize
         ensures same { self.new ≡ self.old }
-        ensures front { IsFront self.old.held result }
+        ensures front { IsLineLength self.old.held result }
     {
         self.searched += first_feed(&self.buf[self.searched..self.end]);
         self.searched - self.at

@@ -1,7 +1,7 @@
 // Calls that are numbered from 1, some of which fail.
 ghost use Rattle.std.specs.Prelude.{◌≡◌, ◌↔◌, IsTrue};
 ghost use Rattle.crew_io.specs.Io.{one_more};
-ghost use Rattle.crew_io.specs.Memory.{IsDue};
+ghost use Rattle.crew_io.specs.Memory.{FailsNext};
 
 /// The numbers of the calls that fail, and the counts of calls and of faults.
 #[derive(Drop)]
@@ -13,7 +13,7 @@ pub struct Script {
 
 /// Whether the number of the next call stands in the list.
 fn is_due(fails: &[u64], calls: u64) -> bool
-    ensures { IsTrue result ↔ IsDue fails.now calls }
+    ensures { IsTrue result ↔ FailsNext fails.now calls }
 {
     match calls.checked_add(1) {
         Some(number) => fails.contains(&number),
@@ -35,7 +35,7 @@ impl Script {
 
     /// Counts a call, and says whether it is due to fail.
     pub fn call(&mut self) -> bool
-        ensures due { IsTrue result ↔ IsDue self.old.fails.items self.old.calls }
+        ensures due { IsTrue result ↔ FailsNext self.old.fails.items self.old.calls }
         ensures counted { self.new ≡ record self.old { calls = one_more self.old.calls } }
     {
         let is_due = is_due(&self.fails, self.calls);

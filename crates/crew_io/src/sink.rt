@@ -3,7 +3,7 @@ ghost use Rattle.std.specs.Prelude.{◌≡◌, ◌≤◌, ◌<◌, ◌+◌, ◌-
 ghost use Rattle.std.specs.Io.KnownBytes.{WriteAppends, Keeps};
 ghost use Rattle.std.specs.Io.Buffered.{writer_buffer, writer_contents};
 ghost use Rattle.crew_io.specs.Io.{Rose, Took, Appended, AppendedPart, one_more};
-ghost use Rattle.crew_io.specs.Memory.{IsDue, IsRefused, store_failed, store_took};
+ghost use Rattle.crew_io.specs.Memory.{FailsNext, IsRefused, store_failed, store_took};
 ghost use Rattle.crew_io.specs.Std.{writer_of, write_faults};
 
 use crate::script::Script;
@@ -170,7 +170,7 @@ impl Sink for MemSink {
         ensures full { length self.old.got ≡ self.old.room → length self.new.got ≡ self.new.room }
 
         // It fails exactly where the call is due to fail.
-        ensures due { IsErr result ↔ IsDue self.old.fails self.old.calls }
+        ensures due { IsErr result ↔ FailsNext self.old.fails self.old.calls }
         ensures ok { OnOk result (self.new ≡ store_took self.old []) }
         ensures failed { OnErr result (self.new ≡ store_failed self.old) }
     {

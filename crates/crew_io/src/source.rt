@@ -2,7 +2,7 @@
 ghost use Rattle.std.specs.Prelude.{◌≡◌, ◌≤◌, ◌<◌, ◌↔◌, ◌++◌, ⊤, [], List, ℕ, Option, Some, None, Ok, length, take, drop, min, IfOk, OnOk, OnErr, IsOk, IsErr};
 ghost use Rattle.std.specs.Io.KnownBytes.{ReadConsumes};
 ghost use Rattle.crew_io.specs.Io.{Rose, Gave, HasEnded, one_more};
-ghost use Rattle.crew_io.specs.Memory.{IsDue, feed_failed, feed_gave};
+ghost use Rattle.crew_io.specs.Memory.{FailsNext, feed_failed, feed_gave};
 ghost use Rattle.crew_io.specs.Std.{reader_of, read_faults};
 
 use crate::script::Script;
@@ -105,7 +105,7 @@ impl Source for MemSource {
         ensures steady { self.old.fails ≡ [] → IsOk result × (self.new.fails ≡ []) }
 
         // It fails exactly where the call is due to fail, and gives as much as it may.
-        ensures due { IsErr result ↔ IsDue self.old.fails self.old.calls }
+        ensures due { IsErr result ↔ FailsNext self.old.fails self.old.calls }
         ensures count { IfOk result (λ n. n ≡ min (min (length self.old.left) (length buf.old)) self.old.piece) }
         ensures ok { IfOk result (λ n. self.new ≡ feed_gave self.old n) }
         ensures failed { OnErr result (self.new ≡ feed_failed self.old) }

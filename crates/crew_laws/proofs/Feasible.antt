@@ -4,11 +4,11 @@ use Rattle.std.proofs.lemmas.List.{length-replicate, get_or-replicate}
 use Rattle.crew_terms.specs.Instance.{Instance}
 use Rattle.crew_terms.specs.Plan.{Plan, Job, job_of, empty_plan}
 use Rattle.crew_terms.specs.Legal.{IsJob, IsFit, IsFeasible}
-use Rattle.crew_laws.proofs.Serves.{has_job}
+use Rattle.crew_terms.specs.Nodes.{job_known}
 
 none_begun : (n j : ℕ) (job : Job) → job_of (empty_plan n) j ≡ Some job → ⊥
 none_begun n j job e =
-    let l : j < n = rw length-replicate at (has_job (empty_plan n) j job e) in
+    let l : j < n = rw length-replicate at (job_known (empty_plan n) j job e) in
     let a : job_of (empty_plan n) j ≡ None = get_or-replicate n j None None l in
     let b : Some job ≡ None = sym e ∙ a in
     cc

@@ -11,8 +11,9 @@ use Rattle.crew_terms.specs.Limits.{Limits, IsPermittedVisit, tasks_in, teams_in
 use Rattle.crew_terms.specs.Minutes.{is_free_or_required, first_minute, minute_count, open_tasks, priced, required_teams, IsListOf, IsMinuteOf}
 use Rattle.crew_terms.specs.declared.Pair.{Pair}
 use Rattle.crew_terms.specs.declared.Pair.TheVariants.{Free, Forbidden, Required}
-use Rattle.crew_laws.proofs.Below.{some_below, any_below-some}
-use Rattle.crew_laws.proofs.Kept.{list_of}
+use Rattle.crew_terms.specs.Below.{some_below, any_below-some}
+use Rattle.crew_terms.specs.Listed.{list_of}
+use Rattle.crew_terms.specs.Nodes.{required_is}
 
 -- ---- skills
 
@@ -93,16 +94,11 @@ open_listed n k = list_of (λ j. (t : ℕ) × IsPermittedVisit n k j t) (λ j. l
     (λ j l e. some_minute n k j e l)
     (λ j h. let m = permitted_minute n k j h.0 h.1 in (m.known, lt-ltb 0 (minute_count n k j) (omega (arith, m.from, m.until))))
 
-required_so : (q : Pair) → is_required q ≡ true → q ≡ Required
-required_so Free e = absurd (let a : false ≡ true = e in cc)
-required_so Forbidden e = absurd (let a : false ≡ true = e in cc)
-required_so Required e = refl
-
 pub required_listed : (n : Limits) (j : ℕ) → IsListOf (λ k. (k < teams_in n) × (pair_of n k j ≡ Required)) (required_teams n j)
 required_listed n j = list_of (λ k. (k < teams_in n) × (pair_of n k j ≡ Required)) (λ k. is_required (pair_of n k j)) (teams_in n)
-    (λ k l e. (l, required_so (pair_of n k j) e)) (λ k h. (h.0, ap is_required h.1))
+    (λ k l e. (l, required_is (pair_of n k j) e)) (λ k h. (h.0, ap is_required h.1))
 
 pub priced_listed : (n : Limits) → IsListOf (λ j. (j < tasks_in n) × ((k : ℕ) × (k < teams_in n) × (pair_of n k j ≡ Required))) (priced n)
 priced_listed n = list_of (λ j. (j < tasks_in n) × ((k : ℕ) × (k < teams_in n) × (pair_of n k j ≡ Required))) (has_required n) (tasks_in n)
-    (λ j l e. let a = some_below (teams_in n) (λ k. is_required (pair_of n k j)) e in (l, (a.0, a.1, required_so (pair_of n a.0 j) a.2)))
+    (λ j l e. let a = some_below (teams_in n) (λ k. is_required (pair_of n k j)) e in (l, (a.0, a.1, required_is (pair_of n a.0 j) a.2)))
     (λ j h. (h.0, any_below-some (teams_in n) (λ k. is_required (pair_of n k j)) h.1.0 h.1.1 (ap is_required h.1.2)))

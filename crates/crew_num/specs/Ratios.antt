@@ -4,7 +4,7 @@ use Rattle.std.specs.Ordering.{MatchOrdering}
 use Rattle.std.specs.declared.cmp.Ordering.{Ordering}
 use Rattle.crew_num.specs.declared.exact.Op.TheVariants.{Mul}
 use Rattle.crew_num.specs.declared.exact.Overflow.{Overflow}
-use Rattle.crew_num.specs.Exact.{IsInRange, IsOverflow, fault}
+use Rattle.crew_num.specs.Exact.{FitsI128, IsOverflow, fault}
 
 -- how x compares with y
 abbrev pub IsOrder : Ordering → ℤ → ℤ → Type 0
@@ -13,7 +13,7 @@ IsOrder order x y = MatchOrdering order (x <ℤ y) (x ≡ y) (y <ℤ x)
 -- the first of a * d and c * b that leaves i128
 pub data IsFirstProduct (a b c d : ℤ) (f : Overflow) : Type 0 where
   Left : (is : f ≡ fault Mul a d) (leaves : IsOverflow f) → IsFirstProduct a b c d f
-  Right : (left : IsInRange (a *ℤ d)) (is : f ≡ fault Mul c b) (leaves : IsOverflow f) → IsFirstProduct a b c d f
+  Right : (left : FitsI128 (a *ℤ d)) (is : f ≡ fault Mul c b) (leaves : IsOverflow f) → IsFirstProduct a b c d f
 
 -- the greatest whole number that is not above n/d, where d is positive
 pub record IsFloor (floor n d : ℤ) : Type 0 where
@@ -26,4 +26,4 @@ pub record IsFloorOverflow (num den scale : ℤ) (f : Overflow) : Type 0 where
   pub product_leaves : IsOverflow f
   pub floor : ℤ
   pub is_floor : IsFloor floor (num *ℤ scale) den
-  pub floor_leaves : IsInRange floor → ⊥
+  pub floor_leaves : FitsI128 floor → ⊥

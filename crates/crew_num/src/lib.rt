@@ -6,8 +6,6 @@ mod exact;
 mod mixed;
 mod quotients;
 mod ratios;
-#[cfg(test)]
-mod tests;
 
 pub use divisors::{gcd, gcd_of};
 pub use exact::{Op, Overflow, add, cross, mul, sub};

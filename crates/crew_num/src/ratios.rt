@@ -1,7 +1,7 @@
 // Ratios of numbers: their order, and the floor of one that is scaled.
 ghost use Rattle.std.specs.Prelude.{◌≡◌, pos, ◌+ℤ◌, ◌*ℤ◌, ◌<ℤ◌, ◌≤ℤ◌, IfOk, IfErr, OnOk};
 ghost use Rattle.std.specs.Option.{SomeIff};
-ghost use Rattle.crew_num.specs.Exact.{IsInRange};
+ghost use Rattle.crew_num.specs.Exact.{FitsI128};
 ghost use Rattle.crew_num.specs.Ratios.{IsFirstProduct, IsFloor, IsFloorOverflow, IsOrder};
 
 use crate::exact::{Op, Overflow, mul};
@@ -13,7 +13,7 @@ pub fn cmp_ratio(a: i128, b: i128, c: i128, d: i128) -> Result<Ordering, Overflo
     requires b { pos 0 <ℤ b }
     requires d { pos 0 <ℤ d }
     ensures order { IfOk result (λ order. IsOrder order (a *ℤ d) (c *ℤ b)) }
-    ensures products { OnOk result (IsInRange (a *ℤ d) × IsInRange (c *ℤ b)) }
+    ensures products { OnOk result (FitsI128 (a *ℤ d) × FitsI128 (c *ℤ b)) }
     ensures overflow { IfErr result (IsFirstProduct a b c d) }
 {
     let left = mul(a, d)?;
@@ -46,7 +46,7 @@ fn floor_parts(num: i128, den: i128, scale: i128) -> ScaledParts
 fn scaled_sum(whole: i128, scale: i128, part: i128) -> Option<i128>
     requires low { pos 0 ≤ℤ part }
     requires high { part ≤ℤ scale }
-    ensures { let sum = whole *ℤ scale +ℤ part in SomeIff result (IsInRange sum) sum }
+    ensures { let sum = whole *ℤ scale +ℤ part in SomeIff result (FitsI128 sum) sum }
 {
     if whole < 0 {
         // The product and what is taken from it have one sign: so it leaves i128 only where the sum does.

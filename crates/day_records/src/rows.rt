@@ -7,13 +7,13 @@ ghost use Rattle.day_records.specs.Rows.{ReadsFields, form_at};
 
 use crate::skills::read_skills;
 use crate::words::RecordWords;
-use crew_terms::{LAST_MINUTE, MOST_NODES, Name, SKILLS};
+use crew_terms::{LAST_MINUTE, LONGEST_NAME, MOST_NODES, Name, SKILLS};
 use day_terms::{Entry, GREATEST_COUNT};
 use field_table::{Field, FieldFault, Kind, Schema, Words, field, fields};
 
 const NAME: Field = Field {
     low: 1,
-    high: 32,
+    high: LONGEST_NAME as i64,
     kind: Kind::Name,
 };
 

@@ -5,7 +5,7 @@ use Rattle.std.specs.Option.{option_or}
 use Rattle.std.proofs.lemmas.List.Concat.{flat_map-cons}
 use Rattle.std.proofs.lemmas.List.Elements.{All-cons, All-nil}
 use Rattle.std.proofs.lemmas.List.Folds.{find-append}
-use Rattle.day_terms.specs.State.{State}
+use Rattle.day_terms.specs.State.{DayState}
 use Rattle.day_terms.specs.Rounds.{lacks_time, first_missing}
 use Rattle.day_terms.specs.Laws.{IsFirstLack}
 use Rattle.day_terms.proofs.ByTest.{by_test, find_here, find_later}
@@ -18,7 +18,7 @@ Bytes = List ℕ
 abbrev row_of : List Bytes → Bytes → List (Bytes × Bytes)
 row_of ps from = map (λ to. (from, to)) ps
 
-module _ (s : State) where
+module _ (s : DayState) where
   abbrev Told : Bytes → Bytes → Type 0
   Told from to = lacks_time s (from, to) ≡ false
 

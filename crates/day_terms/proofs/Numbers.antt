@@ -9,12 +9,12 @@ use Rattle.std.proofs.lemmas.List.Folds.{Any-from_list_any, list_any_at}
 use Rattle.std.proofs.lemmas.List.Sums.{fails_before_first, passes_at_first}
 use Rattle.std.proofs.lemmas.Option.{slice_get-get_or}
 use Rattle.std.proofs.lemmas.Slice.Eq.{bytes_eq-Decides}
-use Rattle.day_terms.specs.State.{State, has_place, place_number}
+use Rattle.day_terms.specs.State.{DayState, has_place, place_number}
 use Rattle.day_terms.proofs.ByTest.{by_test}
 use Rattle.day_terms.proofs.Named as named
 use Rattle.day_terms.proofs.Times.{Bytes}
 
-pub place_known : (s : State) (name : Bytes) → (has_place s name ≡ true) ↔ Contains s.places name
+pub place_known : (s : DayState) (name : Bytes) → (has_place s name ≡ true) ↔ Contains s.places name
 place_known s name =
     let k = named.known (λ (p : Bytes). p) s.places name in (
       (λ h. let a = k.0 h in (a.0, a.2, subst (λ p. slice_index_or s.places a.0 p ≡ p) a.4 a.3)),
@@ -81,11 +81,11 @@ module _ (ps : List Bytes) (name : Bytes) where
       (λ t. subst (λ b. All IsOther (take (number b) ps)) (sym t) (All-from_get_or IsOther (take at ps) name other_before))
       (λ t. subst (λ b. All IsOther (take (number b) ps)) (sym t) (All-nil IsOther))
 
-pub known : (s : State) (name : Bytes) → has_place s name ≡ true → slice_get s.places (place_number s name) ≡ Some name
+pub known : (s : DayState) (name : Bytes) → has_place s name ≡ true → slice_get s.places (place_number s name) ≡ Some name
 known s name = known_at s.places name
 
-pub first : (s : State) (name : Bytes) → All (λ p. p ≢ name) (take (place_number s name) s.places)
+pub first : (s : DayState) (name : Bytes) → All (λ p. p ≢ name) (take (place_number s name) s.places)
 first s name = first_at s.places name
 
-pub unknown : (s : State) (name : Bytes) → has_place s name ≡ false → place_number s name ≡ 0
+pub unknown : (s : DayState) (name : Bytes) → has_place s name ≡ false → place_number s name ≡ 0
 unknown s name = unknown_at s.places name

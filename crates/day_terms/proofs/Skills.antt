@@ -6,7 +6,7 @@ use Rattle.std.proofs.lemmas.Bool.{cases_eq, cases_lt}
 use Rattle.std.proofs.Math.Pow.{pow-lt}
 use Rattle.std.proofs.lemmas.Nat.Bits.{bit_at_and, bit_at_or, bit_at_not, bit_at_above, bit_at-lt, bit_at-pow_same, bit_at-pow_other}
 use Rattle.crew_terms.specs.declared.Team.{Team}
-use Rattle.day_terms.specs.State.{State, after_entry}
+use Rattle.day_terms.specs.State.{DayState, after_entry}
 use Rattle.day_terms.specs.declared.Entry.TheVariants.{Skill, Unskill}
 use Rattle.day_terms.proofs.Named.{changed_named}
 use Rattle.day_terms.proofs.Places.{same_some}
@@ -67,7 +67,7 @@ one_less set n m known small = elim (cases_lt m 64) [
               ((λ h. (ne, sym as_before ∙ h)), (λ h. as_before ∙ h.1))
         ]
 
-module _ (s : State) (team : Bytes) (n k m : ℕ) (before after : Team) (at : slice_get s.teams k ≡ Some before) (named : before.name ≡ team) where
+module _ (s : DayState) (team : Bytes) (n k m : ℕ) (before after : Team) (at : slice_get s.teams k ≡ Some before) (named : before.name ≡ team) where
   pub skill : slice_get (after_entry s (Skill team n)).teams k ≡ Some after → (bit_at after.skills m ≡ 1) ↔ ((m ≡ n) ⊎ (bit_at before.skills m ≡ 1))
   skill then =
       let change : Team → Team = λ t. record t { skills = bit_or t.skills (2 ^ n) } in

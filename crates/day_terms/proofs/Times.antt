@@ -3,7 +3,7 @@ use Rattle.std.proofs.Common.{◌≡◌, ◌≢◌, ◌⊎◌, ◌&&◌, inl, in
 use Rattle.std.specs.Prelude.{bytes_eq, find, option_map}
 use Rattle.std.proofs.lemmas.Bool.Decides.{not_from_Decides}
 use Rattle.std.proofs.lemmas.Slice.Eq.{bytes_eq-Decides}
-use Rattle.day_terms.specs.State.{State, Given, is_way, given_time, with_time}
+use Rattle.day_terms.specs.State.{DayState, Given, is_way, given_time, with_time_between}
 use Rattle.day_terms.specs.Rounds.{minutes_given}
 use Rattle.day_terms.proofs.ByTest.{by_test, find_here, find_later}
 
@@ -76,10 +76,10 @@ others_found (g ∷ gs) from to minutes a b other =
     ∙ found_behind g (given_time gs from to minutes) gs a b (others_found gs from to minutes a b other))
 
 abbrev pub IsGiven : Type 0
-IsGiven = (s : State) (from to : Bytes) (minutes : ℕ) → minutes_given (with_time s from to minutes) from to ≡ Some minutes
+IsGiven = (s : DayState) (from to : Bytes) (minutes : ℕ) → minutes_given (with_time_between s from to minutes) from to ≡ Some minutes
 
 abbrev pub LeavesOthers : Type 0
-LeavesOthers = (s : State) (from to : Bytes) (minutes : ℕ) (a b : Bytes) → (a ≢ from) ⊎ (b ≢ to) → minutes_given (with_time s from to minutes) a b ≡ minutes_given s a b
+LeavesOthers = (s : DayState) (from to : Bytes) (minutes : ℕ) (a b : Bytes) → (a ≢ from) ⊎ (b ≢ to) → minutes_given (with_time_between s from to minutes) a b ≡ minutes_given s a b
 
 pub given : IsGiven
 given s from to minutes = new_found s.times from to minutes
@@ -89,16 +89,16 @@ others s from to minutes a b other = others_found s.times from to minutes a b ot
 
 -- ---- both ways
 
-pub there : IsGiven → LeavesOthers → (s : State) (from to : Bytes) (minutes : ℕ) → minutes_given (with_time (with_time s from to minutes) to from minutes) from to ≡ Some minutes
+pub there : IsGiven → LeavesOthers → (s : DayState) (from to : Bytes) (minutes : ℕ) → minutes_given (with_time_between (with_time_between s from to minutes) to from minutes) from to ≡ Some minutes
 there is leaves s from to minutes =
-    let first = with_time s from to minutes in
+    let first = with_time_between s from to minutes in
     by_test (bytes_eq from to)
-    (λ t. subst (λ x. minutes_given (with_time first x from minutes) from x ≡ Some minutes) ((bytes_eq-Decides from to).0 t) (is first from from minutes))
+    (λ t. subst (λ x. minutes_given (with_time_between first x from minutes) from x ≡ Some minutes) ((bytes_eq-Decides from to).0 t) (is first from from minutes))
     (λ t. leaves first to from minutes from to (inl (not_from_Decides (bytes_eq from to) (bytes_eq-Decides from to) t)) ∙ is s from to minutes)
 
-pub back : IsGiven → (s : State) (from to : Bytes) (minutes : ℕ) → minutes_given (with_time (with_time s from to minutes) to from minutes) to from ≡ Some minutes
-back is s from to minutes = is (with_time s from to minutes) to from minutes
+pub back : IsGiven → (s : DayState) (from to : Bytes) (minutes : ℕ) → minutes_given (with_time_between (with_time_between s from to minutes) to from minutes) to from ≡ Some minutes
+back is s from to minutes = is (with_time_between s from to minutes) to from minutes
 
-pub others_twice : LeavesOthers → (s : State) (from to : Bytes) (minutes : ℕ) (a b : Bytes) → (a ≢ from) ⊎ (b ≢ to) → (a ≢ to) ⊎ (b ≢ from)
-    → minutes_given (with_time (with_time s from to minutes) to from minutes) a b ≡ minutes_given s a b
-others_twice leaves s from to minutes a b one other = leaves (with_time s from to minutes) to from minutes a b other ∙ leaves s from to minutes a b one
+pub others_twice : LeavesOthers → (s : DayState) (from to : Bytes) (minutes : ℕ) (a b : Bytes) → (a ≢ from) ⊎ (b ≢ to) → (a ≢ to) ⊎ (b ≢ from)
+    → minutes_given (with_time_between (with_time_between s from to minutes) to from minutes) a b ≡ minutes_given s a b
+others_twice leaves s from to minutes a b one other = leaves (with_time_between s from to minutes) to from minutes a b other ∙ leaves s from to minutes a b one

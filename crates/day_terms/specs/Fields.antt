@@ -2,7 +2,7 @@
 use Rattle.std.specs.Prelude.{◌≡◌, ◌<◌, ◌+◌, ◌^◌, ◌↔◌, ◌⊎◌, ℕ, ℤ, pos, List, [], ◌∷◌, Contains}
 use Rattle.std.specs.List.{AllByRecursion, AllZip}
 use Rattle.std.specs.Int.{bit_at}
-use Rattle.crew_terms.specs.declared.TheConstants.{SKILLS}
+use Rattle.crew_terms.specs.declared.TheConstants.{LONGEST_NAME, SKILLS}
 use Rattle.crew_terms.specs.Name.{IsName}
 use Rattle.crew_terms.specs.Words.{Words, words_of}
 use Rattle.field_table.specs.Fields.{Spells, Accepts, Refuses}
@@ -42,7 +42,7 @@ pub record ListsSet (field : List ℕ) (set : ℕ) : Type 0 where
 
 -- the field of a name
 abbrev pub name_field : Field
-name_field = record { low = pos 1; high = pos 32; kind = Name }
+name_field = record { low = pos 1; high = pos LONGEST_NAME; kind = Name }
 
 -- a field of the slot's kind and range; a list of skills has none of its own
 abbrev pub field_in : Slot → Field

@@ -5,7 +5,7 @@ use Rattle.field_table.specs.declared.fields.FieldFault.{FieldFault}
 use Rattle.day_terms.specs.Records.{field_of}
 use Rattle.day_terms.specs.Forms.{Slot, Value}
 use Rattle.day_terms.specs.Fields.{Gives, IsBad}
-use Rattle.day_terms.specs.State.{State}
+use Rattle.day_terms.specs.State.{DayState}
 use Rattle.day_terms.specs.Rounds.{lacks_time}
 use Rattle.day_terms.specs.declared.Entry.{Entry}
 use Rattle.day_terms.specs.declared.Entry.TheVariants.{Plan}
@@ -16,7 +16,7 @@ is_plan (Plan nodes) = true
 is_plan _ = false
 
 -- the places with these numbers lack the time from the one to the other; none is lacking from a place before the first, nor from the first to one before the second
-pub record IsFirstLack (s : State) (from to : List ℕ) : Type 0 where
+pub record IsFirstLack (s : DayState) (from to : List ℕ) : Type 0 where
   pub from_number : ℕ
   pub to_number : ℕ
   pub from_is : slice_get s.places from_number ≡ Some from

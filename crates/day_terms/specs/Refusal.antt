@@ -1,8 +1,8 @@
 -- why an entry is refused in a state
-use Rattle.std.specs.Prelude.{◌-◌, ◌||◌, ℕ, Bool, List, [], ◌∷◌, Option, None, length, not, nat_le, nat_lt, option_map}
+use Rattle.std.specs.Prelude.{◌≡◌, ◌-◌, ◌||◌, ℕ, Bool, List, [], ◌∷◌, Option, None, length, not, nat_le, nat_lt, option_map}
 use Rattle.std.specs.Map.{lookup}
 use Rattle.crew_terms.specs.declared.TheConstants.{MOST_PLACES, MOST_TEAMS, MOST_TASKS, MOST_TEAMS_PER_TASK, WIDEST_WINDOW}
-use Rattle.day_terms.specs.State.{State, has_place, has_team, has_task}
+use Rattle.day_terms.specs.State.{DayState, has_place, has_team, has_task, after_entry}
 use Rattle.day_terms.specs.Rounds.{first_missing}
 use Rattle.day_terms.specs.declared.Entry.{Entry}
 use Rattle.day_terms.specs.declared.Entry.TheVariants.{Place, Travel, RouteTime, DefaultTravel, Team, Task, Cancel, Move, Longer, Needs, Sick, Shift, Skill, Unskill, Plan}
@@ -31,8 +31,12 @@ is_bad_window earliest latest = nat_lt latest earliest || nat_lt WIDEST_WINDOW (
 abbrev pub is_bad_count : ℕ → Bool
 is_bad_count teams = nat_lt teams 1 || nat_lt MOST_TEAMS_PER_TASK teams
 
+-- a shift that ends before it begins, or when it begins
+abbrev pub is_bad_shift : ℕ → ℕ → Bool
+is_bad_shift from until = nat_le until from
+
 -- the refusal of the entry, if it is refused: of each kind's conditions, the first that holds
-abbrev pub refusal_of : State → Entry → Option Refusal
+abbrev pub refusal_of : DayState → Entry → Option Refusal
 refusal_of s (Place name) = first_of ((nat_le MOST_PLACES (length s.places), TooMany) ∷ (has_place s name, SameName) ∷ [])
 refusal_of s (Travel from to minutes) = first_of ((not (has_place s from) || not (has_place s to), NoPlace) ∷ [])
 refusal_of s (RouteTime from to minutes) = first_of ((not (has_place s from) || not (has_place s to), NoPlace) ∷ [])
@@ -41,7 +45,7 @@ refusal_of s (Team name home from until skills) = first_of (
     (nat_le MOST_TEAMS (length s.teams), TooMany)
     ∷ (has_team s name, SameName)
     ∷ (not (has_place s home), NoPlace)
-    ∷ (nat_le until from, BadShift)
+    ∷ (is_bad_shift from until, BadShift)
     ∷ []
     )
 refusal_of s (Task name place earliest latest minutes teams skills) = first_of (
@@ -57,7 +61,12 @@ refusal_of s (Move task earliest latest) = first_of ((not (has_task s task), NoT
 refusal_of s (Longer task minutes) = first_of ((not (has_task s task), NoTask) ∷ [])
 refusal_of s (Needs task teams) = first_of ((not (has_task s task), NoTask) ∷ (is_bad_count teams, BadTeams) ∷ [])
 refusal_of s (Sick team) = first_of ((not (has_team s team), NoTeam) ∷ [])
-refusal_of s (Shift team from until) = first_of ((not (has_team s team), NoTeam) ∷ (nat_le until from, BadShift) ∷ [])
+refusal_of s (Shift team from until) = first_of ((not (has_team s team), NoTeam) ∷ (is_bad_shift from until, BadShift) ∷ [])
 refusal_of s (Skill team skill) = first_of ((not (has_team s team), NoTeam) ∷ [])
 refusal_of s (Unskill team skill) = first_of ((not (has_team s team), NoTeam) ∷ [])
 refusal_of s (Plan nodes) = option_map (λ p. MissingTravel p.0 p.1) (first_missing s)
+
+-- each of these entries is taken by the state that those before it come to
+abbrev pub AreTaken : DayState → List Entry → Type 0
+AreTaken s [] = Unit {0}
+AreTaken s (entry ∷ entries) = (refusal_of s entry ≡ None) × AreTaken (after_entry s entry) entries

@@ -15,7 +15,7 @@ pub record Given : Type 0 where
 
 -- places, teams and tasks, where a home or a task's place is a place's number; the given travel times, by names; and the
 -- time between different places that have none of their own
-pub record State : Type 0 where
+pub record DayState : Type 0 where
   pub places : List (List ℕ)
   pub teams : List Team
   pub tasks : List Task
@@ -23,11 +23,11 @@ pub record State : Type 0 where
   pub default_minutes : Option ℕ
 
 -- the state before the first entry
-abbrev pub start : State
+abbrev pub start : DayState
 start = record { places = []; teams = []; tasks = []; times = []; default_minutes = None }
 
 -- a place has the name
-abbrev pub has_place : State → List ℕ → Bool
+abbrev pub has_place : DayState → List ℕ → Bool
 has_place s name = list_any (bytes_eq name) s.places
 
 -- the team has the name
@@ -35,7 +35,7 @@ abbrev pub is_team : List ℕ → Team → Bool
 is_team name t = bytes_eq name t.name
 
 -- a team has the name
-abbrev pub has_team : State → List ℕ → Bool
+abbrev pub has_team : DayState → List ℕ → Bool
 has_team s name = list_any (is_team name) s.teams
 
 -- the task has the name
@@ -43,11 +43,11 @@ abbrev pub is_task : List ℕ → Task → Bool
 is_task name t = bytes_eq name t.name
 
 -- a task has the name
-abbrev pub has_task : State → List ℕ → Bool
+abbrev pub has_task : DayState → List ℕ → Bool
 has_task s name = list_any (is_task name) s.tasks
 
 -- the number of the place that has the name
-abbrev pub place_number : State → List ℕ → ℕ
+abbrev pub place_number : DayState → List ℕ → ℕ
 place_number s name = unwrap_or (position (bytes_eq name) s.places) 0
 
 -- the time is one from the one place to the other
@@ -60,22 +60,22 @@ given_time [] from to minutes = record { from = from; to = to; minutes = minutes
 given_time (g ∷ gs) from to minutes = if is_way from to g then record g { minutes = minutes } ∷ gs else g ∷ given_time gs from to minutes
 
 -- with the time from the one place to the other
-abbrev pub with_time : State → List ℕ → List ℕ → ℕ → State
-with_time s from to minutes = record s { times = given_time s.times from to minutes }
+abbrev pub with_time_between : DayState → List ℕ → List ℕ → ℕ → DayState
+with_time_between s from to minutes = record s { times = given_time s.times from to minutes }
 
 -- with the team of this name changed
-abbrev pub with_team : State → List ℕ → (Team → Team) → State
-with_team s name change = record s { teams = map (λ t. if is_team name t then change t else t) s.teams }
+abbrev pub with_changed_team : DayState → List ℕ → (Team → Team) → DayState
+with_changed_team s name change = record s { teams = map (λ t. if is_team name t then change t else t) s.teams }
 
 -- with the task of this name changed
-abbrev pub with_task : State → List ℕ → (Task → Task) → State
-with_task s name change = record s { tasks = map (λ t. if is_task name t then change t else t) s.tasks }
+abbrev pub with_changed_task : DayState → List ℕ → (Task → Task) → DayState
+with_changed_task s name change = record s { tasks = map (λ t. if is_task name t then change t else t) s.tasks }
 
 -- the state after an entry that is not refused
-abbrev pub after_entry : State → Entry → State
+abbrev pub after_entry : DayState → Entry → DayState
 after_entry s (Place name) = record s { places = s.places ++ name ∷ [] }
-after_entry s (Travel from to minutes) = with_time (with_time s from to minutes) to from minutes
-after_entry s (RouteTime from to minutes) = with_time s from to minutes
+after_entry s (Travel from to minutes) = with_time_between (with_time_between s from to minutes) to from minutes
+after_entry s (RouteTime from to minutes) = with_time_between s from to minutes
 after_entry s (DefaultTravel minutes) = record s { default_minutes = Some minutes }
 after_entry s (NewTeam name home from until skills) = record s {
   teams = s.teams ++ record { name = name; home = place_number s home; from = from; until = until; skills = skills } ∷ [];
@@ -95,15 +95,15 @@ after_entry s (NewTask name place earliest latest minutes teams skills) = record
       ∷ [];
 }
 after_entry s (Cancel task) = record s { tasks = filter (λ t. not (is_task task t)) s.tasks }
-after_entry s (Move task earliest latest) = with_task s task (λ t. record t { earliest = earliest; latest = latest })
-after_entry s (Longer task minutes) = with_task s task (λ t. record t { minutes = minutes })
-after_entry s (Needs task teams) = with_task s task (λ t. record t { teams = teams })
+after_entry s (Move task earliest latest) = with_changed_task s task (λ t. record t { earliest = earliest; latest = latest })
+after_entry s (Longer task minutes) = with_changed_task s task (λ t. record t { minutes = minutes })
+after_entry s (Needs task teams) = with_changed_task s task (λ t. record t { teams = teams })
 after_entry s (Sick team) = record s { teams = filter (λ t. not (is_team team t)) s.teams }
-after_entry s (Shift team from until) = with_team s team (λ t. record t { from = from; until = until })
-after_entry s (Skill team skill) = with_team s team (λ t. record t { skills = bit_or t.skills (2 ^ skill) })
-after_entry s (Unskill team skill) = with_team s team (λ t. record t { skills = bit_and t.skills (bit_not w64 (2 ^ skill)) })
+after_entry s (Shift team from until) = with_changed_team s team (λ t. record t { from = from; until = until })
+after_entry s (Skill team skill) = with_changed_team s team (λ t. record t { skills = bit_or t.skills (2 ^ skill) })
+after_entry s (Unskill team skill) = with_changed_team s team (λ t. record t { skills = bit_and t.skills (bit_not w64 (2 ^ skill)) })
 after_entry s (Plan nodes) = s
 
 -- the state after these entries, none of which is refused
-abbrev pub state_after : List Entry → State
+abbrev pub state_after : List Entry → DayState
 state_after entries = fold after_entry start entries

@@ -9,9 +9,9 @@ use field_table::FieldFault;
 pub use laws::{
     cancelled_task_goes, entries_are_said_by_place, first_bad_is_first, first_condition_counts,
     good_fields_make_an_entry, minutes_are_by_name, missing_is_first, names_are_known,
-    numbers_are_spelled_by_place, one_skill_changes, places_are_numbered, rounds_are_of_plans,
-    rounds_go_on, sick_team_goes, state_goes_on, task_changes_by_name, team_changes_by_name,
-    time_is_given, travel_is_both_ways,
+    numbers_are_spelled_by_place, one_skill_changes, places_are_numbered,
+    refused_numbers_break_rules, rounds_are_of_plans, rounds_go_on, sick_team_goes, state_goes_on,
+    task_changes_by_name, team_changes_by_name, time_is_given, travel_is_both_ways,
 };
 
 /// The greatest number of teams that a record may say for a task.

@@ -7,10 +7,11 @@ use Rattle.dossier_terms.specs.Lines.{lines_of, head_lines, pool_lines, plan_lin
 use Rattle.dossier_terms.specs.Reading.{Reading, Form, Pools, Plans, Trees, Nodes, Ends, Begun}
 use Rattle.dossier_terms.specs.Rules.{Holds, Spelled, On}
 use Rattle.dossier_terms.specs.Table.{Reaches, IsCounts, Ended, Finish, begin}
+use Rattle.dossier_terms.specs.Counted.{leaves_of, depth_le}
 use Rattle.dossier_laws.proofs.HeadWrites.{head_reached}
 use Rattle.dossier_laws.proofs.Pool.{pool_reached}
 use Rattle.dossier_laws.proofs.Plan.{plan_reached}
-use Rattle.dossier_laws.proofs.NodeWrites.{tree_reached, leaves_of, depth_le}
+use Rattle.dossier_laws.proofs.NodeWrites.{tree_reached}
 use Rattle.dossier_laws.proofs.Rules.{reaches-append}
 
 ended-append : (s : Reading) (xs : List Words) (m : Reading) (ys : List Words) (d : Dossier) → Reaches s xs m → Ended m ys d → Ended s (xs ++ ys) d

@@ -13,7 +13,7 @@ use Rattle.crew_terms.specs.declared.Choice.TheVariants as choices
 use Rattle.crew_terms.specs.declared.Side.{Side}
 use Rattle.crew_terms.specs.declared.Side.TheVariants.{First, Second}
 use Rattle.crew_terms.specs.declared.TheConstants.{LAST_MINUTE}
-use Rattle.dossier_laws.proofs.Below.{range_less}
+use Rattle.crew_terms.specs.Listed.{all_below}
 use Rattle.dossier_laws.proofs.Lists.{All-or}
 
 abbrev EndsInTime : ℕ × ℕ → Type 0
@@ -27,7 +27,7 @@ last_minute n j h = All-or EndsInTime n.windows j (0, 0) h (omega arith)
 
 pub root_day : (i : Instance) → IsInstance i → IsDay (root_limits i)
 root_day i h = All-map EndsInTime (λ j. root_window (task_of i j) (job_of i.frozen j)) (range_with_len 0 (length i.tasks))
-    (All-weaker (λ j. j < length i.tasks) (λ j. EndsInTime (root_window (task_of i j) (job_of i.frozen j))) (λ j l. at j l (job_of i.frozen j) refl) (range_with_len 0 (length i.tasks)) (range_less (length i.tasks)))
+    (All-weaker (λ j. j < length i.tasks) (λ j. EndsInTime (root_window (task_of i j) (job_of i.frozen j))) (λ j l. at j l (job_of i.frozen j) refl) (range_with_len 0 (length i.tasks)) (all_below (length i.tasks)))
   where
     at : (j : ℕ) → j < length i.tasks → (o : Option Job) → job_of i.frozen j ≡ o → EndsInTime (root_window (task_of i j) o)
     at j l None e = let task = h.parts.tasks j no_task l in task.window.day

@@ -14,7 +14,7 @@ use Rattle.dossier_terms.specs.declared.Size.{Size}
 use Rattle.dossier_terms.specs.Dossier.{skills_of, mask_of}
 use Rattle.crew_terms.specs.Words.{Words}
 use Rattle.dossier_terms.specs.Lines.{form_line, size_line, place_line, travel_line, team_line, task_line, size_of, team_words, task_words}
-use Rattle.dossier_terms.specs.Reading.{Reading, Said, nothing, Form, Sizes, Places, Travels, Teams, Tasks, places_due, travels_due, teams_due, tasks_due}
+use Rattle.dossier_terms.specs.Reading.{Reading, Answer, nothing, Form, Sizes, Places, Travels, Teams, Tasks, places_due, travels_due, teams_due, tasks_due}
 use Rattle.dossier_terms.specs.Table.{IsSize, IsTravel, form_row, size_row, place_row, travel_row, team_row, task_row}
 use Rattle.dossier_laws.proofs.SoFar.{head_so_far, AreNamed, IsPart, HasRead, ArePlaces, AreTravels, AreTeams, AreTasks, IsHead, IsReading, spelled, Follows}
 use Rattle.dossier_laws.proofs.Empty.{empty_more, empty_feasible}
@@ -67,7 +67,7 @@ due_places z (suc k) i h = (refl, h)
 
 -- ---- the rows
 
-pub form_follows : (ws : Words) (said : Said) → form_row ws said → Follows Form ws said
+pub form_follows : (ws : Words) (said : Answer) → form_row ws said → Follows Form ws said
 form_follows ws said h = must_then Form ws said (λ e g.
     goes_then Form ws said (ap (λ w. w ∷ []) (sym e), tt) g) h
 
@@ -84,7 +84,7 @@ part_nothing z s = record {
   frozen = refl;
 }
 
-pub size_follows : (ws : Words) (said : Said) → size_row ws said → Follows Sizes ws said
+pub size_follows : (ws : Words) (said : Answer) → size_row ws said → Follows Sizes ws said
 size_follows ws said h = must_then Sizes ws said (λ shape g.
     spells_then Sizes ws said (λ z s e g.
     let due = due_places z z.places nothing (0, omega arith, part_nothing z s, record { places = refl; travel = refl; teams = refl; tasks = refl }) in
@@ -114,7 +114,7 @@ one_more xs x p h = omega (arith, length-append xs (x ∷ []))
 one_named : {A : Type 0} (IsOne : A → Type 0) (name : A → List ℕ) (xs : List A) (x : A) → AreNamed IsOne name xs → IsOne x → All (λ o. name o ≢ name x) xs → AreNamed IsOne name (xs ++ x ∷ [])
 one_named IsOne name xs x h is fresh = record { each = All-push IsOne xs x h.each is; differ = all_pairs_push (λ a b. name a ≢ name b) xs x h.differ fresh }
 
-pub place_follows : (z : Size) (k : ℕ) (i : Instance) (ws : Words) (said : Said) → ArePlaces z (suc k) i → place_row z k i ws said → Follows (Places z k i) ws said
+pub place_follows : (z : Size) (k : ℕ) (i : Instance) (ws : Words) (said : Answer) → ArePlaces z (suc k) i → place_row z k i ws said → Follows (Places z k i) ws said
 place_follows z k i ws said r h = must_then s ws said (λ shape g.
     spells_then s ws said (λ name is e g.
     must_then s ws said (λ fresh g.
@@ -137,7 +137,7 @@ place_follows z k i ws said r h = must_then s ws said (λ shape g.
     s : Reading
     s = Places z k i
 
-pub travel_follows : (z : Size) (k : ℕ) (i : Instance) (ws : Words) (said : Said) → AreTravels z (suc k) i → travel_row z k i ws said → Follows (Travels z k i) ws said
+pub travel_follows : (z : Size) (k : ℕ) (i : Instance) (ws : Words) (said : Answer) → AreTravels z (suc k) i → travel_row z k i ws said → Follows (Travels z k i) ws said
 travel_follows z k i ws said r h = must_then s ws said (λ shape g.
     spells_then s ws said (λ row is e g.
     let j : Instance = record i { travel = i.travel ++ row ∷ [] } in
@@ -159,7 +159,7 @@ travel_follows z k i ws said r h = must_then s ws said (λ shape g.
     s : Reading
     s = Travels z k i
 
-pub team_follows : (z : Size) (k : ℕ) (i : Instance) (ws : Words) (said : Said) → AreTeams z (suc k) i → team_row z k i ws said → Follows (Teams z k i) ws said
+pub team_follows : (z : Size) (k : ℕ) (i : Instance) (ws : Words) (said : Answer) → AreTeams z (suc k) i → team_row z k i ws said → Follows (Teams z k i) ws said
 team_follows z k i ws said r h = must_then s ws said (λ shape g.
     must_then s ws said (λ named g.
     spells_then s ws said (λ p is e g.
@@ -187,7 +187,7 @@ team_follows z k i ws said r h = must_then s ws said (λ shape g.
     s : Reading
     s = Teams z k i
 
-pub task_follows : (z : Size) (k : ℕ) (i : Instance) (ws : Words) (said : Said) → AreTasks z (suc k) i → task_row z k i ws said → Follows (Tasks z k i) ws said
+pub task_follows : (z : Size) (k : ℕ) (i : Instance) (ws : Words) (said : Answer) → AreTasks z (suc k) i → task_row z k i ws said → Follows (Tasks z k i) ws said
 task_follows z k i ws said r h = must_then s ws said (λ shape g.
     must_then s ws said (λ named g.
     spells_then s ws said (λ p is e g.

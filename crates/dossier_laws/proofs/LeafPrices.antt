@@ -11,7 +11,8 @@ use Rattle.crew_terms.specs.Minutes.{required_teams, priced}
 use Rattle.crew_terms.specs.Leaf.{IsOnRequired, IsPrice, AreInRange, rho_of}
 use Rattle.crew_terms.specs.declared.Pair.{Pair}
 use Rattle.crew_terms.specs.declared.Pair.TheVariants.{Free, Forbidden, Required}
-use Rattle.dossier_terms.specs.Dossier.{Leaf, Rows, prices_of, extra_of, beside}
+use Rattle.crew_terms.specs.Nodes.{not_required}
+use Rattle.dossier_terms.specs.Dossier.{Leaf, AreRows, prices_of, extra_of, beside}
 use Rattle.dossier_laws.proofs.Below.{map_at}
 use Rattle.dossier_laws.proofs.Lists.{All-or}
 
@@ -30,11 +31,6 @@ beside_none {A} P (k ∷ ks) xs key other h = at (P k) refl (λ ys. beside_none 
     at false e ih xs = ih xs
     at true e ih [] = refl
     at true e ih (x ∷ ys) = test x ys e (ih ys) (k == key) refl
-
-not_required : (q : Pair) → q ≢ Required → is_required q ≡ false
-not_required Free h = refl
-not_required Forbidden h = refl
-not_required Required h = absurd (h refl)
 
 -- what stands in the prices for a team and a task
 pub rho_at : (n : Limits) (leaf : Leaf) (k j : ℕ) → k < teams_in n → j < tasks_in n → rho_of (prices_of n leaf) k j ≡ extra_of n leaf k j
@@ -62,7 +58,7 @@ beside_in {A} P (k ∷ ks) (x ∷ xs) key other h o = at (k == key) (beside_in P
     at true r = h.0
     at false r = r
 
-rows_in : (In : ℤ → Type 0) (wants : ℕ → ℕ) (keys : List ℕ) (rows : List (List ℤ)) → Rows In wants keys rows → AllByRecursion (λ row. AllByRecursion In row) rows
+rows_in : (In : ℤ → Type 0) (wants : ℕ → ℕ) (keys : List ℕ) (rows : List (List ℤ)) → AreRows In wants keys rows → AllByRecursion (λ row. AllByRecursion In row) rows
 rows_in In wants [] [] h = tt
 rows_in In wants [] (row ∷ rows) h = absurd h
 rows_in In wants (k ∷ ks) [] h = absurd h
@@ -71,7 +67,7 @@ rows_in In wants (k ∷ ks) (row ∷ rows) h = (h.1, rows_in In wants ks rows h.
 no_price : IsPrice (pos 0)
 no_price = record { least = omega (arith, ints); most = omega (arith, ints) }
 
-pub in_range : (n : Limits) (leaf : Leaf) → AllByRecursion IsPrice leaf.prices → Rows IsPrice (λ j. length (required_teams n j)) (priced n) leaf.extras → AreInRange (prices_of n leaf)
+pub in_range : (n : Limits) (leaf : Leaf) → AllByRecursion IsPrice leaf.prices → AreRows IsPrice (λ j. length (required_teams n j)) (priced n) leaf.extras → AreInRange (prices_of n leaf)
 in_range n leaf h rows = record {
   tasks = λ j. All-or IsPrice leaf.prices j (pos 0) (All-from_recursion IsPrice leaf.prices h) no_price;
   pairs = λ k j. rho_each IsPrice n leaf k j

@@ -6,12 +6,12 @@ use Rattle.std.proofs.lemmas.List.{get_or-map}
 use Rattle.crew_terms.specs.Limits.{Limits, tasks_in, teams_in}
 use Rattle.crew_terms.specs.Plan.{unassigned_count}
 use Rattle.crew_terms.specs.Leaf.{Prices as TaskPrices, HoldsLocally, IsValidLeaf, Proves, bound_of, IsPrice, HoldsPotential, HoldsWorth}
-use Rattle.dossier_terms.specs.Dossier.{Leaf, Potentials, no_potentials, Rows, Tables, IsTable, IsWritten, IsWorthNumber, IsSigned, prices_of, worths_of, phi_in, phi_of}
+use Rattle.dossier_terms.specs.Dossier.{Leaf, Potentials, no_potentials, AreRows, Tables, IsTable, IsWritten, IsWorthNumber, IsSigned, prices_of, worths_of, phi_in, phi_of}
 use Rattle.crew_terms.specs.Branches.{LeafNode, Open, Closed}
 use Rattle.crew_terms.specs.Minutes.{priced, open_tasks, required_teams, minute_count}
 use Rattle.crew_terms.specs.Words.{Words}
 use Rattle.dossier_terms.specs.Lines.{open_line, closed_line, price_line, extra_line, worth_line, phi_line, rows_lines, table_lines, node_lines}
-use Rattle.dossier_terms.specs.Reading.{Reading, Said, limits_of, Prices, Extras, Worths, Phis, LeafSite}
+use Rattle.dossier_terms.specs.Reading.{Reading, Answer, limits_of, Prices, Extras, Worths, Phis, LeafSite}
 use Rattle.dossier_terms.specs.Table.{after_table, after_phi, after_extra, price_row, extra_row, worth_row, phi_row}
 use Rattle.dossier_laws.proofs.SoFar.{IsLeafSite, NodeHolds, RowsSoFar, AreLeafPrices, TablesHold, IsLeafPart, leaf_so_far, IsReading, spelled, Follows, nodes_so_far, leaf_line, site_so_far, prices_so_far, tables_so_far}
 use Rattle.dossier_laws.proofs.Rules.{must_then, each_then, spells_then, goes_then}
@@ -24,15 +24,15 @@ pub rows_none : (line : ℕ → List ℤ → Words) (keys : List ℕ) → rows_l
 rows_none line [] = refl
 rows_none line (k ∷ ks) = refl
 
-rows_more : (In : ℤ → Type 0) (wants : ℕ → ℕ) (line : ℕ → List ℤ → Words) (read : List ℕ) (rows : List (List ℤ)) (j : ℕ) (left : List ℕ) (vs : List ℤ) → Rows In wants read rows
+rows_more : (In : ℤ → Type 0) (wants : ℕ → ℕ) (line : ℕ → List ℤ → Words) (read : List ℕ) (rows : List (List ℤ)) (j : ℕ) (left : List ℕ) (vs : List ℤ) → AreRows In wants read rows
     → rows_lines line (read ++ j ∷ left) (rows ++ vs ∷ []) ≡ rows_lines line (read ++ j ∷ left) rows ++ line j vs ∷ []
 rows_more In wants line [] [] j left vs h = ap (λ w. line j vs ∷ w) (rows_none line left)
 rows_more In wants line [] (r ∷ rows) j left vs h = absurd h
 rows_more In wants line (k ∷ read) [] j left vs h = absurd h
 rows_more In wants line (k ∷ read) (r ∷ rows) j left vs h = ap (λ w. line k r ∷ w) (rows_more In wants line read rows j left vs h.2)
 
-rows_push : (In : ℤ → Type 0) (wants : ℕ → ℕ) (read : List ℕ) (rows : List (List ℤ)) (j : ℕ) (vs : List ℤ) → Rows In wants read rows → length vs ≡ wants j → AllByRecursion In vs
-    → Rows In wants (read ++ j ∷ []) (rows ++ vs ∷ [])
+rows_push : (In : ℤ → Type 0) (wants : ℕ → ℕ) (read : List ℕ) (rows : List (List ℤ)) (j : ℕ) (vs : List ℤ) → AreRows In wants read rows → length vs ≡ wants j → AllByRecursion In vs
+    → AreRows In wants (read ++ j ∷ []) (rows ++ vs ∷ [])
 rows_push In wants [] [] j vs h n each = (n, each, tt)
 rows_push In wants [] (r ∷ rows) j vs h n each = absurd h
 rows_push In wants (k ∷ read) [] j vs h n each = absurd h
@@ -46,8 +46,8 @@ one_line : (In : ℤ → Type 0) (wants : ℕ → ℕ) (line : ℕ → List ℤ 
     → rows_lines line keys (rows ++ vs ∷ []) ≡ rows_lines line keys rows ++ line j vs ∷ []
 one_line In wants line keys rows j js vs h = subst (λ ks. rows_lines line ks (rows ++ vs ∷ []) ≡ rows_lines line ks rows ++ line j vs ∷ []) (sym h.1) (rows_more In wants line h.0 rows j js vs h.2)
 
-all_rows : (In : ℤ → Type 0) (wants : ℕ → ℕ) (keys : List ℕ) (rows : List (List ℤ)) → RowsSoFar In wants keys rows [] → Rows In wants keys rows
-all_rows In wants keys rows h = subst (λ ks. Rows In wants ks rows) (sym (h.1 ∙ append-nil h.0)) h.2
+all_rows : (In : ℤ → Type 0) (wants : ℕ → ℕ) (keys : List ℕ) (rows : List (List ℤ)) → RowsSoFar In wants keys rows [] → AreRows In wants keys rows
+all_rows In wants keys rows h = subst (λ ks. AreRows In wants ks rows) (sym (h.1 ∙ append-nil h.0)) h.2
 
 -- ---- tables
 
@@ -111,7 +111,7 @@ done_text : (front : List Words) (n : Limits) (leaf : Leaf) (closed : Bool)
 done_text front n leaf true = leaf_text front closed_line (price_line leaf.prices) (rows_lines extra_line (priced n) leaf.extras) (table_lines n 0 leaf.tables)
 done_text front n leaf false = leaf_text front open_line (price_line leaf.prices) (rows_lines extra_line (priced n) leaf.extras) (table_lines n 0 leaf.tables)
 
-table_after : (s : Reading) (ws : Words) (said : Said) (a : LeafSite) (leaf : Leaf) (left : ℕ) → IsLeafPart a leaf left
+table_after : (s : Reading) (ws : Words) (said : Answer) (a : LeafSite) (leaf : Leaf) (left : ℕ) → IsLeafPart a leaf left
     → tables_so_far a leaf.prices leaf.extras leaf.tables ≡ spelled s ++ ws ∷ [] → after_table a leaf left said → Follows s ws said
 table_after s ws said a leaf zero r e h = must_then s ws said (λ low g.
     must_then s ws said (λ high g.
@@ -119,7 +119,7 @@ table_after s ws said a leaf zero r e h = must_then s ws said (λ low g.
     goes_then s ws said (done.0 ∙ done_text (nodes_so_far a.begun a.counts a.above) (limits_of a) leaf a.is_closed ∙ e, done.1) g) g) h
 table_after s ws said a leaf (suc left) r e h = goes_then s ws said (e, r) h
 
-phi_after : (s : Reading) (ws : Words) (said : Said) (a : LeafSite) (prices : List ℤ) (extras : List (List ℤ)) (tables : List Potentials) (left : ℕ) (worth : ℤ) (rows : List (List ℤ)) (keys : List ℕ)
+phi_after : (s : Reading) (ws : Words) (said : Answer) (a : LeafSite) (prices : List ℤ) (extras : List (List ℤ)) (tables : List Potentials) (left : ℕ) (worth : ℤ) (rows : List (List ℤ)) (keys : List ℕ)
     → IsLeafPart a (leaf_so_far prices extras tables) (suc left) → IsWorthNumber worth
     → RowsSoFar IsSigned (minute_count (limits_of a) (length tables)) (open_tasks (limits_of a) (length tables)) rows keys
     → tables_so_far a prices extras tables ++ worth_line worth ∷ [] ++ rows_lines phi_line (open_tasks (limits_of a) (length tables)) rows ≡ spelled s ++ ws ∷ []
@@ -148,7 +148,7 @@ phi_after s ws said a prices extras tables left worth rows [] r w all e h =
     table_after s ws said a (leaf_so_far prices extras (tables ++ t ∷ [])) left part (text ∙ e) g) g) h
 phi_after s ws said a prices extras tables left worth rows (j ∷ js) r w all e h = goes_then s ws said (e, (r, w, all)) h
 
-extra_after : (s : Reading) (ws : Words) (said : Said) (a : LeafSite) (prices : List ℤ) (rows : List (List ℤ)) (keys : List ℕ) → IsLeafSite a → AreLeafPrices (limits_of a) prices rows keys
+extra_after : (s : Reading) (ws : Words) (said : Answer) (a : LeafSite) (prices : List ℤ) (rows : List (List ℤ)) (keys : List ℕ) → IsLeafSite a → AreLeafPrices (limits_of a) prices rows keys
     → prices_so_far a prices rows ≡ spelled s ++ ws ∷ [] → after_extra a prices rows keys said → Follows s ws said
 extra_after s ws said a prices rows [] r p e h = table_after s ws said a (leaf_so_far prices rows []) (teams_in (limits_of a))
     (record { site = r; prices = p; count = omega arith; tables = tt }) (append-nil (prices_so_far a prices rows) ∙ e) h
@@ -156,7 +156,7 @@ extra_after s ws said a prices rows (j ∷ js) r p e h = goes_then s ws said (e,
 
 -- ---- the rows
 
-pub price_follows : (a : LeafSite) (ws : Words) (said : Said) → IsLeafSite a → price_row a ws said → Follows (Prices a) ws said
+pub price_follows : (a : LeafSite) (ws : Words) (said : Answer) → IsLeafSite a → price_row a ws said → Follows (Prices a) ws said
 price_follows a ws said r h = must_then s ws said (λ shape g.
     spells_then s ws said (λ vs is e g.
     extra_after s ws said a vs [] (priced (limits_of a)) r (record { count = is.count; each = is.each; rows = ([], refl, tt) })
@@ -165,7 +165,7 @@ price_follows a ws said r h = must_then s ws said (λ shape g.
     s : Reading
     s = Prices a
 
-pub extra_follows : (a : LeafSite) (prices : List ℤ) (rows : List (List ℤ)) (j : ℕ) (js : List ℕ) (ws : Words) (said : Said) → IsLeafSite a × AreLeafPrices (limits_of a) prices rows (j ∷ js)
+pub extra_follows : (a : LeafSite) (prices : List ℤ) (rows : List (List ℤ)) (j : ℕ) (js : List ℕ) (ws : Words) (said : Answer) → IsLeafSite a × AreLeafPrices (limits_of a) prices rows (j ∷ js)
     → extra_row a prices rows j js ws said → Follows (Extras a prices rows j js) ws said
 extra_follows a prices rows j js ws said r h = must_then s ws said (λ shape g.
     spells_then s ws said (λ vs is e g.
@@ -178,7 +178,7 @@ extra_follows a prices rows j js ws said r h = must_then s ws said (λ shape g.
     s : Reading
     s = Extras a prices rows j js
 
-pub worth_follows : (a : LeafSite) (prices : List ℤ) (extras : List (List ℤ)) (tables : List Potentials) (left : ℕ) (ws : Words) (said : Said) → IsLeafPart a (leaf_so_far prices extras tables) (suc left)
+pub worth_follows : (a : LeafSite) (prices : List ℤ) (extras : List (List ℤ)) (tables : List Potentials) (left : ℕ) (ws : Words) (said : Answer) → IsLeafPart a (leaf_so_far prices extras tables) (suc left)
     → worth_row a prices extras tables left ws said → Follows (Worths a prices extras tables left) ws said
 worth_follows a prices extras tables left ws said r h = must_then s ws said (λ shape g.
     spells_then s ws said (λ v is e g.
@@ -189,7 +189,7 @@ worth_follows a prices extras tables left ws said r h = must_then s ws said (λ 
     s : Reading
     s = Worths a prices extras tables left
 
-pub phi_follows : (a : LeafSite) (prices : List ℤ) (extras : List (List ℤ)) (tables : List Potentials) (left : ℕ) (worth : ℤ) (rows : List (List ℤ)) (j : ℕ) (js : List ℕ) (ws : Words) (said : Said)
+pub phi_follows : (a : LeafSite) (prices : List ℤ) (extras : List (List ℤ)) (tables : List Potentials) (left : ℕ) (worth : ℤ) (rows : List (List ℤ)) (j : ℕ) (js : List ℕ) (ws : Words) (said : Answer)
     → IsReading (Phis a prices extras tables left worth rows j js)
     → phi_row a prices extras tables left worth rows j js ws said → Follows (Phis a prices extras tables left worth rows j js) ws said
 phi_follows a prices extras tables left worth rows j js ws said r h = must_then s ws said (λ shape g.

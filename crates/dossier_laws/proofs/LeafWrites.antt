@@ -6,7 +6,7 @@ use Rattle.std.proofs.lemmas.List.{get_or-map, length-map, nil_from_length}
 use Rattle.crew_terms.specs.Limits.{Limits, teams_in}
 use Rattle.crew_terms.specs.Plan.{unassigned_count}
 use Rattle.crew_terms.specs.Leaf.{Prices as TaskPrices, HoldsLocally, IsValidLeaf, Proves, bound_of, IsPrice}
-use Rattle.dossier_terms.specs.Dossier.{Leaf, Potentials, no_potentials, Rows, Tables, IsTable, IsWritten, IsSigned, prices_of, worths_of, phi_in, phi_of}
+use Rattle.dossier_terms.specs.Dossier.{Leaf, Potentials, no_potentials, AreRows, Tables, IsTable, IsWritten, IsSigned, prices_of, worths_of, phi_in, phi_of}
 use Rattle.crew_terms.specs.Minutes.{priced, open_tasks, required_teams, minute_count}
 use Rattle.dossier_terms.specs.Lines.{extra_line, phi_line, rows_lines, table_lines, leaf_lines}
 use Rattle.dossier_terms.specs.Reading.{Reading, More, limits_of, leaf_done, Prices, Extras, Worths, Phis, LeafSite}
@@ -47,7 +47,7 @@ after_phi_holds a prices extras tables left worth rows [] h =
     (after_table_holds a (leaf_so_far prices extras (tables ++ record { worth = worth; phi = rows } ∷ [])) left (h refl).1))
 after_phi_holds a prices extras tables left worth rows (j ∷ js) h = On refl
 
-no_rows : (In : ℤ → Type 0) (wants : ℕ → ℕ) (keys : List ℕ) (rows : List (List ℤ)) → Rows In wants keys rows → keys ≡ [] → rows ≡ []
+no_rows : (In : ℤ → Type 0) (wants : ℕ → ℕ) (keys : List ℕ) (rows : List (List ℤ)) → AreRows In wants keys rows → keys ≡ [] → rows ≡ []
 no_rows In wants keys [] h e = refl
 no_rows In wants [] (r ∷ rows) h e = absurd h
 no_rows In wants (k ∷ keys) (r ∷ rows) h e = absurd (cc)
@@ -55,7 +55,7 @@ no_rows In wants (k ∷ keys) (r ∷ rows) h e = absurd (cc)
 phis_reached : (a : LeafSite) (prices : List ℤ) (extras : List (List ℤ)) (tables : List Potentials) (left : ℕ) (t : Potentials)
     → HoldsLocally (limits_of a) (length tables) (prices_of (limits_of a) (leaf_so_far prices extras tables)) (phi_in (limits_of a) (length tables) t) t.worth
     → (left ≡ 0 → Bounds a (leaf_so_far prices extras (tables ++ t ∷ [])))
-    → (done : List (List ℤ)) (keys : List ℕ) (rows : List (List ℤ)) → t.phi ≡ done ++ rows → Rows IsSigned (minute_count (limits_of a) (length tables)) keys rows
+    → (done : List (List ℤ)) (keys : List ℕ) (rows : List (List ℤ)) → t.phi ≡ done ++ rows → AreRows IsSigned (minute_count (limits_of a) (length tables)) keys rows
     → Reaches (phis_next a prices extras tables left t.worth done keys) (rows_lines phi_line keys rows) (tables_next a (leaf_so_far prices extras (tables ++ t ∷ [])) left)
 phis_reached a prices extras tables left t v b done [] [] e h = ap (λ phi. tables_next a (leaf_so_far prices extras (tables ++ record t { phi = phi } ∷ [])) left) (sym (e ∙ append-nil done))
 phis_reached a prices extras tables left t v b done [] (r ∷ rows) e h = absurd h
@@ -105,7 +105,7 @@ after_extra_holds a prices rows [] h = after_table_holds a (leaf_so_far prices r
 after_extra_holds a prices rows (j ∷ js) h = On refl
 
 extras_reached : (a : LeafSite) (prices : List ℤ) (extras : List (List ℤ)) → (teams_in (limits_of a) ≡ 0 → Bounds a (leaf_so_far prices extras []))
-    → (done : List (List ℤ)) (keys : List ℕ) (rows : List (List ℤ)) → extras ≡ done ++ rows → Rows IsPrice (λ j. length (required_teams (limits_of a) j)) keys rows
+    → (done : List (List ℤ)) (keys : List ℕ) (rows : List (List ℤ)) → extras ≡ done ++ rows → AreRows IsPrice (λ j. length (required_teams (limits_of a) j)) keys rows
     → Reaches (extras_next a prices done keys) (rows_lines extra_line keys rows) (tables_next a (leaf_so_far prices extras []) (teams_in (limits_of a)))
 extras_reached a prices extras b done [] [] e h = ap (λ rows. tables_next a (leaf_so_far prices rows []) (teams_in (limits_of a))) (sym (e ∙ append-nil done))
 extras_reached a prices extras b done [] (r ∷ rows) e h = absurd h

@@ -28,8 +28,3 @@ All-or P xs k d h o = elim (cases_lt k (length xs)) [
 -- a line for each item, and for one more
 pub map_more : {A B : Type 0} (line : A → B) (front : List B) (head : B) (xs : List A) (x : A) → front ++ head ∷ map line (xs ++ x ∷ []) ≡ (front ++ head ∷ map line xs) ++ line x ∷ []
 map_more line front head xs x = simp (map-append, append_assoc)
-
-pub tail_rises : (x : ℕ) (xs : List ℕ) → IsStrictlyIncreasing (x ∷ xs) → IsStrictlyIncreasing xs
-tail_rises x xs h k l =
-    let e : suc k + 1 ≡ suc (k + 1) = omega arith in
-    subst (λ m. slice_index (x ∷ xs) (suc k) < slice_index (x ∷ xs) m) e (h (suc k) (omega arith))

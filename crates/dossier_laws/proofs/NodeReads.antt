@@ -10,7 +10,7 @@ use Rattle.crew_terms.specs.declared.Side.TheVariants.{First, Second}
 use Rattle.crew_terms.specs.declared.TreeCounts.{TreeCounts}
 use Rattle.dossier_terms.specs.Dossier.{Written, IsGood}
 use Rattle.dossier_terms.specs.Lines.{choice_line, tree_line, end_line, node_lines}
-use Rattle.dossier_terms.specs.Reading.{Reading, Said, node_done, whole, Trees, Nodes, Ends, Begun, Above}
+use Rattle.dossier_terms.specs.Reading.{Reading, Answer, node_done, whole, Trees, Nodes, Ends, Begun, Above}
 use Rattle.dossier_terms.specs.Table.{tree_row, node_row, leaf_row, after_split, end_row}
 use Rattle.dossier_laws.proofs.SoFar.{IsPlanned, IsTreePart, NodeHolds, FramesHold, IsReading, spelled, Follows, begun_lines, nodes_so_far, frames_lines}
 use Rattle.dossier_laws.proofs.Rules.{must_then, when_then, spells_then, goes_then, finish_then}
@@ -38,7 +38,7 @@ done_reads b c (InSecond choice first ∷ above) t p h k =
 
 -- ---- the rows
 
-pub tree_follows : (b : Begun) (ws : Words) (said : Said) → IsPlanned b → tree_row b ws said → Follows (Trees b) ws said
+pub tree_follows : (b : Begun) (ws : Words) (said : Answer) → IsPlanned b → tree_row b ws said → Follows (Trees b) ws said
 tree_follows b ws said r h = must_then s ws said (λ shape g.
     spells_then s ws said (λ c is e g.
     must_then s ws said (λ leaves g.
@@ -49,7 +49,7 @@ tree_follows b ws said r h = must_then s ws said (λ shape g.
     s : Reading
     s = Trees b
 
-split_follows : (b : Begun) (c : TreeCounts) (above : List Above) (choice : Choice) (ws : Words) (said : Said) → IsTreePart b c × FramesHold b above → ws ≡ choice_line choice
+split_follows : (b : Begun) (c : TreeCounts) (above : List Above) (choice : Choice) (ws : Words) (said : Answer) → IsTreePart b c × FramesHold b above → ws ≡ choice_line choice
     → after_split b c above choice said → Follows (Nodes b c above) ws said
 split_follows b c above choice ws said r e h = must_then s ws said (λ room g.
     must_then s ws said (λ can g.
@@ -58,7 +58,7 @@ split_follows b c above choice ws said r e h = must_then s ws said (λ room g.
     s : Reading
     s = Nodes b c above
 
-leaf_follows : (b : Begun) (c : TreeCounts) (above : List Above) (ws : Words) (said : Said) → IsTreePart b c × FramesHold b above → leaf_row b c above ws said → Follows (Nodes b c above) ws said
+leaf_follows : (b : Begun) (c : TreeCounts) (above : List Above) (ws : Words) (said : Answer) → IsTreePart b c × FramesHold b above → leaf_row b c above ws said → Follows (Nodes b c above) ws said
 leaf_follows b c above ws said r h = must_then s ws said (λ shape g.
     when_then s ws said (λ e g. must_then s ws said (λ room g. must_then s ws said (λ none g.
     let done = done_reads b c above (LeafNode Bare) r.0 r.1 (tt, none) in
@@ -71,7 +71,7 @@ leaf_follows b c above ws said r h = must_then s ws said (λ shape g.
     s : Reading
     s = Nodes b c above
 
-pub node_follows : (b : Begun) (c : TreeCounts) (above : List Above) (ws : Words) (said : Said) → IsTreePart b c × FramesHold b above → node_row b c above ws said → Follows (Nodes b c above) ws said
+pub node_follows : (b : Begun) (c : TreeCounts) (above : List Above) (ws : Words) (said : Answer) → IsTreePart b c × FramesHold b above → node_row b c above ws said → Follows (Nodes b c above) ws said
 node_follows b c above ws said r h =
     when_then s ws said (λ window g. must_then s ws said (λ shape g. spells_then s ws said (λ p is e g. split_follows b c above (choices.Window p.0 p.1) ws said r e g) g) g) (λ g.
     when_then s ws said (λ pair g. must_then s ws said (λ shape g. spells_then s ws said (λ p is e g. split_follows b c above (choices.Pair p.0 p.1) ws said r e g) g) g) (λ g.
@@ -80,7 +80,7 @@ node_follows b c above ws said r h =
     s : Reading
     s = Nodes b c above
 
-pub end_follows : (b : Begun) (c : TreeCounts) (t : Written) (ws : Words) (said : Said) → IsTreePart b c × NodeHolds b (root_limits b.instance) t → end_row b c t ws said → Follows (Ends b c t) ws said
+pub end_follows : (b : Begun) (c : TreeCounts) (t : Written) (ws : Words) (said : Answer) → IsTreePart b c × NodeHolds b (root_limits b.instance) t → end_row b c t ws said → Follows (Ends b c t) ws said
 end_follows b c t ws said r h = must_then s ws said (λ e g.
     must_then s ws said (λ counted g.
     let pool = r.0.planned.pool in

@@ -12,9 +12,10 @@ use Rattle.crew_terms.specs.declared.Choice.TheVariants as choices
 use Rattle.crew_terms.specs.declared.Side.{Side}
 use Rattle.crew_terms.specs.declared.Side.TheVariants.{First, Second}
 use Rattle.crew_terms.specs.declared.TreeCounts.{TreeCounts}
+use Rattle.crew_terms.specs.Nodes.{child_instance}
 use Rattle.dossier_terms.specs.Dossier.{Written, Leaf}
 use Rattle.dossier_terms.specs.Lines.{choice_line, node_lines}
-use Rattle.dossier_terms.specs.Reading.{Said, More, node_done, Nodes, Prices, Begun, Above}
+use Rattle.dossier_terms.specs.Reading.{Answer, More, node_done, Nodes, Prices, Begun, Above}
 use Rattle.dossier_terms.specs.Rules.{Holds, Then, Else, Spelled, On}
 use Rattle.dossier_terms.specs.Table.{Reaches, HasSplitRoom, node_row, leaf_row}
 use Rattle.dossier_laws.proofs.SoFar.{NodeHolds}
@@ -23,19 +24,6 @@ use Rattle.dossier_laws.proofs.Days.{IsDay, last_minute, root_day, child_day}
 use Rattle.dossier_laws.proofs.LeafWrites.{leaf_reached}
 
 -- ---- numbers of a tree
-
-one_leaf : (claim : Claim Leaf) → closed_in claim + left_open_in claim ≡ 1
-one_leaf Bare = refl
-one_leaf (Open leaf) = refl
-one_leaf (Closed leaf) = refl
-
-pub leaves_of : (t : Written) → closed t + left_open t ≡ splits t + 1
-leaves_of (LeafNode claim) = one_leaf claim
-leaves_of (SplitNode choice first second) = let a = leaves_of first in let b = leaves_of second in omega arith
-
-pub depth_le : (t : Written) → depth t ≤ splits t
-depth_le (LeafNode claim) = omega arith
-depth_le (SplitNode choice first second) = let a = depth_le first in let b = depth_le second in omega arith
 
 -- the node still fits into the counts
 pub record Fits (c : TreeCounts) (above : List Above) (t : Written) : Type 0 where
@@ -59,12 +47,6 @@ room c above choice first second f = (omega arith, omega arith)
 abbrev first_byte : ℕ → Words → ℕ
 first_byte k ws = slice_index (slice_index_or ws k []) 0
 
-child_instance : (n : Limits) (choice : Choice) (side : Side) → (child n choice side).instance ≡ n.instance
-child_instance n (choices.Window j cut) First = refl
-child_instance n (choices.Window j cut) Second = refl
-child_instance n (choices.Pair k j) First = refl
-child_instance n (choices.Pair k j) Second = refl
-
 split_said : (b : Begun) (c : TreeCounts) (above : List Above) (choice : Choice) → (limits_below (root_limits b.instance) above).instance ≡ b.instance → IsDay (limits_below (root_limits b.instance) above)
     → CanSplit (limits_below (root_limits b.instance) above) choice → HasSplitRoom c above → node_row b c above (choice_line choice) (More (Nodes b c (InFirst choice ∷ above)))
 split_said b c above (choices.Window j cut) same day can fits =
@@ -76,7 +58,7 @@ split_said b c above (choices.Pair k j) same day can fits =
     let task = subst (λ (i : Instance). j < length i.tasks) same can.task in
     Else (λ e. absurd (let a = ap (first_byte 0) e.1 in omega arith)) (Then (_, refl) (Holds (_, refl, refl) (Spelled (k, j) (team, task) refl (Holds fits (Holds can (On refl))))))
 
-leaf_said : (b : Begun) (c : TreeCounts) (above : List Above) (rest : Words) (said : Said) → leaf_row b c above (codes "leaf" ∷ rest) said → node_row b c above (codes "leaf" ∷ rest) said
+leaf_said : (b : Begun) (c : TreeCounts) (above : List Above) (rest : Words) (said : Answer) → leaf_row b c above (codes "leaf" ∷ rest) said → node_row b c above (codes "leaf" ∷ rest) said
 leaf_said b c above rest said h = Else (λ e. absurd (let a = ap (first_byte 0) e.1 in omega arith)) (Else (λ e. absurd (let a = ap (first_byte 0) e.1 in omega arith)) h)
 
 nodes_reached : (b : Begun) (c : TreeCounts) (t : Written) (above : List Above) → (limits_below (root_limits b.instance) above).instance ≡ b.instance → IsDay (limits_below (root_limits b.instance) above)

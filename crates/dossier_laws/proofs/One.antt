@@ -4,7 +4,7 @@ use Rattle.dossier_terms.specs.declared.Reason.{Reason}
 use Rattle.dossier_terms.specs.Dossier.{Dossier, IsGood}
 use Rattle.crew_terms.specs.Words.{Words}
 use Rattle.dossier_terms.specs.Lines.{lines_of}
-use Rattle.dossier_terms.specs.Reading.{Reading, Said, More, Whole, No, Form}
+use Rattle.dossier_terms.specs.Reading.{Reading, Answer, More, Whole, No, Form}
 use Rattle.dossier_terms.specs.Table.{Says, Reaches, Ended}
 use Rattle.dossier_laws.proofs.SoFar.{IsReading}
 use Rattle.dossier_laws.proofs.Sound.{says_follows}
@@ -35,7 +35,7 @@ reading_reached : (s : Reading) (lines : List Words) (t : Reading) → IsReading
 reading_reached s [] t r h = subst IsReading h r
 reading_reached s (ws ∷ lines) t r h = let a = says_follows s ws (More h.0) r h.1 in reading_reached h.0 lines t a.1 h.2
 
-pub reached_says_one : HaveOneVerdict → (lines : List Words) (s : Reading) (ws : Words) (a b : Said) → Reaches Form lines s → Says s ws a → Says s ws b → a ≡ b
+pub reached_says_one : HaveOneVerdict → (lines : List Words) (s : Reading) (ws : Words) (a b : Answer) → Reaches Form lines s → Says s ws a → Says s ws b → a ≡ b
 reached_says_one verdicts lines s ws a b h = says_one verdicts s ws (reading_reached Form lines s tt h) a b
 
 -- ---- what is read so far, and what may follow
@@ -57,7 +57,7 @@ pub refused_not_good : HaveOneVerdict → (lines more : List Words) (s : Reading
 refused_not_good verdicts lines more s ws q d h told good e =
     at (rest_ended verdicts lines (ws ∷ more) s d h good e)
   where
-    same : (said : Said) → Says s ws said → No q ≡ said
+    same : (said : Answer) → Says s ws said → No q ≡ said
     same said t = reached_says_one verdicts lines s ws (No q) said h told t
 
     at : Ended s (ws ∷ more) d → ⊥

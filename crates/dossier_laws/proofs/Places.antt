@@ -6,19 +6,19 @@ use Rattle.std.proofs.lemmas.Bool.{eqb-true, eq-eqb}
 use Rattle.std.proofs.lemmas.List.Kept.{AllPairs-from_increasing}
 use Rattle.crew_terms.specs.Limits.{Limits, tasks_in, teams_in, pair_of, is_required, has_required}
 use Rattle.crew_terms.specs.Leaf.{IsPrice, rho_of}
-use Rattle.dossier_terms.specs.Dossier.{Leaf, Potentials, no_potentials, beside, Rows, Tables, IsTable, IsSigned, IsWritten, prices_of, phi_of}
+use Rattle.dossier_terms.specs.Dossier.{Leaf, Potentials, no_potentials, beside, AreRows, Tables, IsTable, IsSigned, IsWritten, prices_of, phi_of}
 use Rattle.crew_terms.specs.Minutes.{priced, required_teams, open_tasks, minute_count, first_minute}
-use Rattle.dossier_laws.proofs.Lists.{tail_rises}
+use Rattle.crew_terms.specs.Rising.{rises_tail}
 use Rattle.dossier_laws.proofs.LeafPrices.{rho_at}
 use Rattle.dossier_laws.proofs.Below.{kept_less, kept_rises}
 
-rows-length : (In : ℤ → Type 0) (wants : ℕ → ℕ) (keys : List ℕ) (rows : List (List ℤ)) → Rows In wants keys rows → length rows ≡ length keys
+rows-length : (In : ℤ → Type 0) (wants : ℕ → ℕ) (keys : List ℕ) (rows : List (List ℤ)) → AreRows In wants keys rows → length rows ≡ length keys
 rows-length In wants [] [] h = refl
 rows-length In wants [] (row ∷ rows) h = absurd h
 rows-length In wants (k ∷ ks) [] h = absurd h
 rows-length In wants (k ∷ ks) (row ∷ rows) h = let a = rows-length In wants ks rows h.2 in omega arith
 
-row-length : (In : ℤ → Type 0) (wants : ℕ → ℕ) (keys : List ℕ) (rows : List (List ℤ)) (a : ℕ) → Rows In wants keys rows → a < length keys → length (slice_index_or rows a []) ≡ wants (slice_index keys a)
+row-length : (In : ℤ → Type 0) (wants : ℕ → ℕ) (keys : List ℕ) (rows : List (List ℤ)) (a : ℕ) → AreRows In wants keys rows → a < length keys → length (slice_index_or rows a []) ≡ wants (slice_index keys a)
 row-length In wants [] rows a h l = absurd (omega arith)
 row-length In wants (k ∷ ks) [] a h l = absurd h
 row-length In wants (k ∷ ks) (row ∷ rows) zero h l = h.0
@@ -29,7 +29,7 @@ beside_at : {A : Type 0} (ks : List ℕ) (xs : List A) (a : ℕ) (none : A) → 
 beside_at [] xs a none h l e = absurd (omega arith)
 beside_at (k ∷ ks) [] a none h l e = absurd (omega arith)
 beside_at (k ∷ ks) (x ∷ xs) zero none h l e = ap (λ b. cond b x (beside ks xs k none)) (eq-eqb k k refl)
-beside_at (k ∷ ks) (x ∷ xs) (suc a) none h l e = at (k == slice_index ks a) refl (beside_at ks xs a none (tail_rises k ks h) (omega arith) (omega arith))
+beside_at (k ∷ ks) (x ∷ xs) (suc a) none h l e = at (k == slice_index ks a) refl (beside_at ks xs a none (rises_tail k ks h) (omega arith) (omega arith))
   where
     below : k < slice_index ks a
     below = AllPairs-from_increasing (k ∷ ks) h 0 (suc a) 0 (omega arith) l

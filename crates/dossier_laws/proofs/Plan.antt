@@ -11,7 +11,7 @@ use Rattle.crew_terms.specs.Plan.{Plan, Job, empty_plan, job_of, unassigned_coun
 use Rattle.crew_terms.specs.Legal.{IsLegal}
 use Rattle.crew_terms.specs.Words.{Words}
 use Rattle.dossier_terms.specs.Lines.{plan_line, do_line, jobs_from, plan_lines}
-use Rattle.dossier_terms.specs.Reading.{Reading, Said, More, Plans, Jobs, Trees, jobs_due, Begun}
+use Rattle.dossier_terms.specs.Reading.{Reading, Answer, More, Plans, Jobs, Trees, jobs_due, Begun}
 use Rattle.dossier_terms.specs.Rules.{Holds, HoldsBy, Spelled, On}
 use Rattle.dossier_terms.specs.Table.{Reaches, IsDoLine, plan_row, job_row, after_job}
 use Rattle.dossier_laws.proofs.SoFar.{IsPoolPart, AreRoutes, IsPlanPart, AreJobs, IsReading, spelled, Follows, routes_lines, jobs_lines}
@@ -57,7 +57,7 @@ due_jobs b zero from h legal =
     )
 due_jobs b (suc k) from h legal = (refl, h)
 
-pub plan_follows : (b : Begun) (ws : Words) (said : Said) → AreRoutes b 0 → plan_row b ws said → Follows (Plans b) ws said
+pub plan_follows : (b : Begun) (ws : Words) (said : Answer) → AreRoutes b 0 → plan_row b ws said → Follows (Plans b) ws said
 plan_follows b ws said r h = must_then s ws said (λ shape g.
     spells_then s ws said (λ p is e g.
     let c : Begun = record b { bound = p.1 } in
@@ -78,12 +78,12 @@ plan_follows b ws said r h = must_then s ws said (λ shape g.
     s : Reading
     s = Plans b
 
-after_follows : (s : Reading) (ws : Words) (said : Said) (b : Begun) (k from : ℕ) → ((k ≡ 0 → IsLegal b.instance b.plan) → Follows s ws (More (jobs_due b k from)))
+after_follows : (s : Reading) (ws : Words) (said : Answer) (b : Begun) (k from : ℕ) → ((k ≡ 0 → IsLegal b.instance b.plan) → Follows s ws (More (jobs_due b k from)))
     → after_job b k from said → Follows s ws said
 after_follows s ws said b zero from f h = by_then s ws said (λ legal g. goes_then s ws said (f (λ z. legal)) g) h
 after_follows s ws said b (suc k) from f h = goes_then s ws said (f (λ z. absurd (omega arith))) h
 
-pub job_follows : (b : Begun) (k from : ℕ) (ws : Words) (said : Said) → AreJobs b (suc k) from → job_row b k from ws said → Follows (Jobs b k from) ws said
+pub job_follows : (b : Begun) (k from : ℕ) (ws : Words) (said : Answer) → AreJobs b (suc k) from → job_row b k from ws said → Follows (Jobs b k from) ws said
 job_follows b k from ws said r h = must_then s ws said (λ shape g.
     spells_then s ws said (λ p is e g.
     must_then s ws said (λ later g.
@@ -124,7 +124,7 @@ no_jobs o [] h = refl
 no_jobs o (None ∷ q) h = ap (λ w. None ∷ w) (no_jobs (suc o) q h)
 no_jobs o (Some job ∷ q) h = absurd (omega arith)
 
-do_fits : (i : Instance) (p : Plan) (j : ℕ) (job : Job) → IsInstance i → IsLegal i p → job_of p j ≡ Some job → j < length p → IsDoLine i (j, job)
+do_fits : (i : Instance) (p : Plan) (j : ℕ) (job : Job) → IsInstance i → IsLegal i p → job_of p j ≡ Some job → j < length p → IsDoLine (length i.teams) (length i.tasks) (j, job)
 do_fits i p j job w h e l =
     let fits = h.feasible.jobs j job e in
     let known : j < length i.tasks = omega (arith, h.feasible.whole) in

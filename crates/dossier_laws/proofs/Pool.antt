@@ -11,9 +11,10 @@ use Rattle.crew_terms.specs.declared.Visit.{Visit}
 use Rattle.dossier_terms.specs.Dossier.{IsPooled}
 use Rattle.crew_terms.specs.Words.{Words}
 use Rattle.dossier_terms.specs.Lines.{pool_line, route_line, visit_words, head_lines, pool_lines}
-use Rattle.dossier_terms.specs.Reading.{Reading, Said, More, Pools, Routes, Plans, routes_due, Begun}
+use Rattle.dossier_terms.specs.Reading.{Reading, Answer, More, Pools, Routes, Plans, routes_due, Begun}
 use Rattle.dossier_terms.specs.Rules.{Holds, Spelled, On}
 use Rattle.dossier_terms.specs.Table.{Says, Reaches, IsPairs, pool_row, route_row, begin}
+use Rattle.dossier_terms.specs.Counted.{route_pairs}
 use Rattle.dossier_laws.proofs.SoFar.{IsHead, IsPoolPart, AreRoutes, IsReading, spelled, Follows, routes_lines}
 use Rattle.crew_terms.specs.declared.TheConstants.{LAST_MINUTE}
 use Rattle.dossier_laws.proofs.Days.{IsDay, last_minute, root_day}
@@ -26,7 +27,7 @@ due_routes : (b : Begun) (k : ℕ) → AreRoutes b k → (spelled (routes_due b 
 due_routes b zero h = (ap (routes_lines b) (let e : length b.pool ≡ length b.pool + 0 = omega arith in e), h)
 due_routes b (suc k) h = (refl, h)
 
-pub pool_follows : (i : Instance) (budget : ℕ) (ws : Words) (said : Said) → IsHead i budget → pool_row i budget ws said → Follows (Pools i budget) ws said
+pub pool_follows : (i : Instance) (budget : ℕ) (ws : Words) (said : Answer) → IsHead i budget → pool_row i budget ws said → Follows (Pools i budget) ws said
 pool_follows i budget ws said r h = must_then s ws said (λ shape g.
     spells_then s ws said (λ p is e g.
     must_then s ws said (λ kept g.
@@ -37,7 +38,7 @@ pool_follows i budget ws said r h = must_then s ws said (λ shape g.
     s : Reading
     s = Pools i budget
 
-pub route_follows : (b : Begun) (k : ℕ) (ws : Words) (said : Said) → AreRoutes b (suc k) → route_row b k ws said → Follows (Routes b k) ws said
+pub route_follows : (b : Begun) (k : ℕ) (ws : Words) (said : Answer) → AreRoutes b (suc k) → route_row b k ws said → Follows (Routes b k) ws said
 route_follows b k ws said r h = must_then s ws said (λ shape g.
     spells_then s ws said (λ x is e g.
     must_then s ws said (λ legal g.
@@ -63,13 +64,6 @@ route_follows b k ws said r h = must_then s ws said (λ shape g.
     s = Routes b k
 
 -- ---- what is written
-
-visits_length : (vs : List Visit) → length (flat_map visit_words vs) ≡ 2 * length vs
-visits_length [] = refl
-visits_length (v ∷ vs) = let a = visits_length vs in omega (arith, length-append (visit_words v) (flat_map visit_words vs))
-
-route_shape : (r : Route) → 1 ≤ length r.visits → IsPairs (route_line r)
-route_shape r h = let a = visits_length r.visits in (length r.visits - 1, omega arith)
 
 visit_in : (i : Instance) (k j t : ℕ) → IsDay (root_limits i) → IsPermittedVisit (root_limits i) k j t → (j < length i.tasks) × (t ≤ LAST_MINUTE)
 visit_in i k j t day p = (p.known, omega (arith, last_minute (root_limits i) j day, p.late))
@@ -104,5 +98,5 @@ pool_reached i budget kept pool whole some many good differ = (
     one ys x zs e =
         let g = All-at (IsPooled i) pool ys x zs e good in
         let in_range = route_in i x.team x.visits (root_day i whole) g.route in
-        Holds ((_, refl), route_shape x g.some) (Spelled x (record { team = g.team; some = g.some; tasks = in_range.0; starts = in_range.1 }) refl
+        Holds ((_, refl), route_pairs x g.some) (Spelled x (record { team = g.team; some = g.some; tasks = in_range.0; starts = in_range.1 }) refl
         (Holds g.route (Holds (AllPairs-at (λ (a b : Route). a ≢ b) pool ys x zs e differ) (On refl))))

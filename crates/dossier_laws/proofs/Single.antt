@@ -9,16 +9,16 @@ use Rattle.dossier_terms.specs.declared.Reason.{Reason}
 use Rattle.dossier_terms.specs.declared.Reason.TheVariants.{Plan as BadPlan}
 use Rattle.dossier_terms.specs.Dossier.{Dossier, Leaf, Potentials}
 use Rattle.crew_terms.specs.Words.{Words}
-use Rattle.dossier_terms.specs.Reading.{Reading, Said, No, Form, Sizes, Places, Travels, Teams, Tasks, Pools, Routes, Plans, Jobs, Trees, Nodes, Prices, Extras, Worths, Phis, Ends, Begun, LeafSite}
-use Rattle.dossier_terms.specs.Rules.{Must, Holds, Fails, MustEach, HoldsOfAll, FailsAt, MustBy, HoldsBy, FailsBy, When, Then, Else, Spells, Spelled, Unspelled, Goes, On}
+use Rattle.dossier_terms.specs.Reading.{Reading, Answer, No, Form, Sizes, Places, Travels, Teams, Tasks, Pools, Routes, Plans, Jobs, Trees, Nodes, Prices, Extras, Worths, Phis, Ends, Begun, LeafSite}
+use Rattle.dossier_terms.specs.Rules.{Must, Holds, Fails, MustEach, HoldsOfAll, FailsAt, MustBy, HoldsBy, FailsBy, When, Then, Else, MustSpell, Spelled, Unspelled, Goes, On}
 use Rattle.dossier_terms.specs.Table.{Says, Finishes, Finish, BreaksPlan, after_job, after_table, after_phi, after_extra}
 use Rattle.dossier_laws.proofs.SoFar.{IsReading}
 use Rattle.dossier_laws.proofs.Spellings.{size_one, name_one, travel_one, team_one, task_one, pool_one, plan_one, window_one, node_pair_one, tree_one, route_one, do_one, prices_one, signed_one, worth_one}
 
-abbrev pub Single : (Said → Type 0) → Type 0
-Single R = (a b : Said) → R a → R b → a ≡ b
+abbrev pub Single : (Answer → Type 0) → Type 0
+Single R = (a b : Answer) → R a → R b → a ≡ b
 
-must_one : {P : Type 0} {r : Reason} {rest : Said → Type 0} → Single rest → Single (Must P r rest)
+must_one : {P : Type 0} {r : Reason} {rest : Answer → Type 0} → Single rest → Single (Must P r rest)
 must_one one a b (Holds f o) (Holds g p) = one a b o p
 must_one one a b (Holds f o) (Fails g t) = absurd (g f)
 must_one one a b (Fails g t) (Holds f o) = absurd (g f)
@@ -33,26 +33,26 @@ one_first P i j before broken below fails = at (cases_lt i j) (cases_lt j i)
     at (inr l) (inl m) = absurd (fails (before j m))
     at (inr l) (inr m) = omega arith
 
-each_one : {n : ℕ} {P : ℕ → Type 0} {reason : ℕ → Reason} {rest : Said → Type 0} → Single rest → Single (MustEach n P reason rest)
+each_one : {n : ℕ} {P : ℕ → Type 0} {reason : ℕ → Reason} {rest : Answer → Type 0} → Single rest → Single (MustEach n P reason rest)
 each_one one a b (HoldsOfAll f o) (HoldsOfAll g p) = one a b o p
 each_one one a b (HoldsOfAll f o) (FailsAt j l first g t) = absurd (g (f j l))
 each_one one a b (FailsAt j l first g t) (HoldsOfAll f o) = absurd (g (f j l))
 each_one {P = P} {reason = reason} one a b (FailsAt i l first g t) (FailsAt j m before h u) = t ∙ ap (λ k. No (reason k)) (one_first P i j first g before h) ∙ sym u
 
-by_one : {P : Type 0} {Breaks : Reason → Type 0} {rest : Said → Type 0} → ((r q : Reason) → Breaks r → Breaks q → r ≡ q) → Single rest → Single (MustBy P Breaks rest)
+by_one : {P : Type 0} {Breaks : Reason → Type 0} {rest : Answer → Type 0} → ((r q : Reason) → Breaks r → Breaks q → r ≡ q) → Single rest → Single (MustBy P Breaks rest)
 by_one reasons one a b (HoldsBy f o) (HoldsBy g p) = one a b o p
 by_one reasons one a b (HoldsBy f o) (FailsBy r how g t) = absurd (g f)
 by_one reasons one a b (FailsBy r how g t) (HoldsBy f o) = absurd (g f)
 by_one reasons one a b (FailsBy r how g t) (FailsBy q also h u) = t ∙ ap No (reasons r q how also) ∙ sym u
 
-when_one : {P : Type 0} {yes other : Said → Type 0} → Single yes → Single other → Single (When P yes other)
+when_one : {P : Type 0} {yes other : Answer → Type 0} → Single yes → Single other → Single (When P yes other)
 when_one one two a b (Then f o) (Then g p) = one a b o p
 when_one one two a b (Then f o) (Else g p) = absurd (g f)
 when_one one two a b (Else g p) (Then f o) = absurd (g f)
 when_one one two a b (Else f o) (Else g p) = two a b o p
 
-spells_one : {A : Type 0} {spell : A → Words} {In : A → Type 0} {words : Words} {r : Reason} {rest : A → Said → Type 0}
-    → ((x y : A) → In x → In y → spell x ≡ spell y → x ≡ y) → ((x : A) → In x → Single (rest x)) → Single (Spells spell In words r rest)
+spells_one : {A : Type 0} {spell : A → Words} {In : A → Type 0} {words : Words} {r : Reason} {rest : A → Answer → Type 0}
+    → ((x y : A) → In x → In y → spell x ≡ spell y → x ≡ y) → ((x : A) → In x → Single (rest x)) → Single (MustSpell spell In words r rest)
 spells_one {rest = rest} only one a b (Spelled x i e o) (Spelled y j f p) = one y j a b (subst (λ z. rest z a) (only x y i j (sym e ∙ f)) o) p
 spells_one only one a b (Spelled x i e o) (Unspelled g t) = absurd (g x i e)
 spells_one only one a b (Unspelled g t) (Spelled x i e o) = absurd (g x i e)
@@ -98,9 +98,9 @@ says_one verdicts (Travels z k i) ws r = must_one (spells_one (travel_one z.plac
 says_one verdicts (Teams z k i) ws r = must_one (must_one (spells_one (team_one z.places r.2.size.places) (λ x h. must_one (must_one goes_one))))
 says_one verdicts (Tasks z k i) ws r = must_one (must_one (spells_one (task_one z.places r.2.size.places) (λ x h. must_one (must_one goes_one))))
 says_one verdicts (Pools i budget) ws r = must_one (spells_one pool_one (λ x h. must_one goes_one))
-says_one verdicts (Routes b k) ws r = must_one (spells_one (route_one b.instance r.0.head.instance.parts.few_teams r.0.head.instance.parts.few_tasks) (λ x h. must_one (must_one goes_one)))
+says_one verdicts (Routes b k) ws r = must_one (spells_one (route_one (length b.instance.teams) (length b.instance.tasks) r.0.head.instance.parts.few_teams r.0.head.instance.parts.few_tasks) (λ x h. must_one (must_one goes_one)))
 says_one verdicts (Plans b) ws r = must_one (spells_one (plan_one (length b.instance.tasks) r.0.head.instance.parts.few_tasks) (λ x h. goes_one))
-says_one verdicts (Jobs b k from) ws r = must_one (spells_one (do_one b.instance r.0.pool.head.instance.parts.few_teams r.0.pool.head.instance.parts.few_tasks) (λ x h. must_one (job_one verdicts _ k _)))
+says_one verdicts (Jobs b k from) ws r = must_one (spells_one (do_one (length b.instance.teams) (length b.instance.tasks) r.0.pool.head.instance.parts.few_teams r.0.pool.head.instance.parts.few_tasks) (λ x h. must_one (job_one verdicts _ k _)))
 says_one verdicts (Trees b) ws r = must_one (spells_one tree_one (λ x h. must_one (must_one (must_one goes_one))))
 says_one verdicts (Nodes b c above) ws r =
     let parts = r.0.planned.pool.head.instance.parts in

@@ -11,9 +11,10 @@ use Rattle.std.proofs.lemmas.Bool.{cases_lt, eqb-true, eq-eqb}
 use Rattle.std.proofs.lemmas.List.Elements.{filter-append, recursion_from_All}
 use Rattle.crew_terms.specs.Minutes.{IsListOf}
 use Rattle.crew_terms.specs.declared.TheConstants.{SKILLS}
+use Rattle.crew_terms.specs.Listed.{list_of}
+use Rattle.crew_terms.specs.Rising.{rises_tail}
 use Rattle.dossier_terms.specs.Dossier.{skills_of, mask_of}
-use Rattle.dossier_laws.proofs.Below.{range_more, kept_less, kept_rises, list_of}
-use Rattle.dossier_laws.proofs.Lists.{tail_rises}
+use Rattle.dossier_laws.proofs.Below.{range_more, kept_less, kept_rises}
 
 pub skills_known : (mask : ℕ) → All (λ s. s < SKILLS) (skills_of mask)
 skills_known mask = kept_less (λ s. bit_at mask s == 1) SKILLS
@@ -75,7 +76,7 @@ Rises a (x ∷ xs) = (a ≤ x) × Rises (suc x) xs
 
 rises_after : (x : ℕ) (xs : List ℕ) → IsStrictlyIncreasing (x ∷ xs) → Rises (suc x) xs
 rises_after x [] h = tt
-rises_after x (y ∷ ys) h = (let a : x < y = h 0 (omega arith) in omega arith, rises_after y ys (tail_rises x (y ∷ ys) h))
+rises_after x (y ∷ ys) h = (let a : x < y = h 0 (omega arith) in omega arith, rises_after y ys (rises_tail x (y ∷ ys) h))
 
 rises : (xs : List ℕ) → IsStrictlyIncreasing xs → Rises 0 xs
 rises [] h = tt

@@ -18,9 +18,9 @@ use Rattle.crew_terms.specs.declared.Task.{Task}
 use Rattle.crew_terms.specs.declared.TreeCounts.{TreeCounts}
 use Rattle.crew_terms.specs.declared.TheConstants.{MOST_NODES}
 use Rattle.dossier_terms.specs.declared.Size.{Size}
-use Rattle.dossier_terms.specs.Dossier.{Written, Leaf, Potentials, IsPooled, IsGood, tree_of, AreWritten, Rows, IsWorthNumber, IsSigned, IsTable, prices_of, phi_in}
+use Rattle.dossier_terms.specs.Dossier.{Written, Leaf, Potentials, IsPooled, IsGood, tree_of, AreWritten, AreRows, IsWorthNumber, IsSigned, IsTable, prices_of, phi_in}
 use Rattle.dossier_terms.specs.Lines.{form_line, size_line, place_line, travel_line, team_line, task_line, pool_line, route_line, plan_line, do_line, tree_line, choice_line, open_line, closed_line, price_line, extra_line, worth_line, phi_line, rows_lines, table_lines, node_lines, head_lines, plan_lines, jobs_from, lines_of}
-use Rattle.dossier_terms.specs.Reading.{Reading, Said, More, Whole, No, limits_of, Form, Sizes, Places, Travels, Teams, Tasks, Pools, Routes, Plans, Jobs, Trees, Nodes, Prices, Extras, Worths, Phis, Ends, Begun, Above, LeafSite}
+use Rattle.dossier_terms.specs.Reading.{Reading, Answer, More, Whole, No, limits_of, Form, Sizes, Places, Travels, Teams, Tasks, Pools, Routes, Plans, Jobs, Trees, Nodes, Prices, Extras, Worths, Phis, Ends, Begun, Above, LeafSite}
 use Rattle.dossier_terms.specs.Table.{IsSize, IsTravel}
 
 abbrev pub head_so_far : Size → Instance → List Words
@@ -115,7 +115,7 @@ IsLeafSite a = IsTreePart a.begun a.counts × FramesHold a.begun a.above
 
 -- the rows so far, of the keys that come before the one that is due
 abbrev pub RowsSoFar : (ℤ → Type 0) → (ℕ → ℕ) → List ℕ → List (List ℤ) → List ℕ → Type 0
-RowsSoFar In wants keys rows left = (read : List ℕ) × (keys ≡ read ++ left) × Rows In wants read rows
+RowsSoFar In wants keys rows left = (read : List ℕ) × (keys ≡ read ++ left) × AreRows In wants read rows
 
 pub record AreLeafPrices (n : Limits) (prices : List ℤ) (extras : List (List ℤ)) (left : List ℕ) : Type 0 where
   pub count : length prices ≡ tasks_in n
@@ -210,7 +210,7 @@ spelled (Phis a prices extras tables left worth rows j js) = tables_so_far a pri
 spelled (Ends b c t) = begun_lines b ++ tree_line c ∷ node_lines (root_limits b.instance) t
 
 -- what a line that is not refused leaves
-abbrev pub Follows : Reading → Words → Said → Type 0
+abbrev pub Follows : Reading → Words → Answer → Type 0
 Follows s ws (More next) = (spelled next ≡ spelled s ++ ws ∷ []) × IsReading next
 Follows s ws (Whole d) = (lines_of d ≡ spelled s ++ ws ∷ []) × IsGood d
 Follows s ws (No r) = Unit {0}

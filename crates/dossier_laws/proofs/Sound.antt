@@ -3,7 +3,7 @@ use Rattle.std.proofs.Common.{◌≡◌, List, [], ◌∷◌, ◌++◌, ap, sym,
 use Rattle.dossier_terms.specs.Dossier.{Dossier, IsGood}
 use Rattle.crew_terms.specs.Words.{Words}
 use Rattle.dossier_terms.specs.Lines.{lines_of}
-use Rattle.dossier_terms.specs.Reading.{Reading, Said, More, Whole, Form, Sizes, Places, Travels, Teams, Tasks, Pools, Routes, Plans, Jobs, Trees, Nodes, Prices, Extras, Worths, Phis, Ends}
+use Rattle.dossier_terms.specs.Reading.{Reading, Answer, More, Whole, Form, Sizes, Places, Travels, Teams, Tasks, Pools, Routes, Plans, Jobs, Trees, Nodes, Prices, Extras, Worths, Phis, Ends}
 use Rattle.dossier_terms.specs.Table.{Says, Ended}
 use Rattle.dossier_laws.proofs.SoFar.{IsReading, spelled, Follows}
 use Rattle.dossier_laws.proofs.HeadReads.{form_follows, size_follows, place_follows, travel_follows, team_follows, task_follows}
@@ -12,7 +12,7 @@ use Rattle.dossier_laws.proofs.Plan.{plan_follows, job_follows}
 use Rattle.dossier_laws.proofs.NodeReads.{tree_follows, node_follows, end_follows}
 use Rattle.dossier_laws.proofs.LeafReads.{price_follows, extra_follows, worth_follows, phi_follows}
 
-pub says_follows : (s : Reading) (ws : Words) (said : Said) → IsReading s → Says s ws said → Follows s ws said
+pub says_follows : (s : Reading) (ws : Words) (said : Answer) → IsReading s → Says s ws said → Follows s ws said
 says_follows Form ws said r h = form_follows ws said h
 says_follows Sizes ws said r h = size_follows ws said h
 says_follows (Places z k i) ws said r h = place_follows z k i ws said r h

@@ -9,7 +9,6 @@ use Rattle.std.proofs.lemmas.Str.Parse.{IsNumeralModel, numerals_by_fold}
 use Rattle.std.proofs.lemmas.Fmt.{decimal_injective, digits_decimal}
 use Rattle.crew_terms.specs.Name.{IsName}
 use Rattle.crew_terms.specs.Plan.{Job}
-use Rattle.crew_terms.specs.Instance.{Instance}
 use Rattle.crew_terms.specs.declared.Team.{Team}
 use Rattle.crew_terms.specs.declared.Task.{Task}
 use Rattle.crew_terms.specs.declared.Visit.{Visit}
@@ -21,6 +20,7 @@ use Rattle.crew_terms.specs.Leaf.{IsPrice}
 use Rattle.dossier_terms.specs.Lines.{size_line, place_line, travel_line, team_words, task_words, pool_line, route_line, visit_words, plan_line, do_line, tree_line, window_line, pair_line, worth_line}
 use Rattle.crew_terms.specs.declared.TreeCounts.{TreeCounts}
 use Rattle.dossier_terms.specs.Table.{IsSize, IsTravel, IsTeamLine, IsTaskLine, IsRouteLine, IsDoLine, IsCounts, AreNumbers}
+use Rattle.dossier_terms.specs.Counted.{IsWide, price_wide, worth_wide, signed_wide}
 use Rattle.std.proofs.lemmas.List.Elements.{recursion_from_All}
 
 -- ---- numbers
@@ -37,11 +37,6 @@ own = numerals_by_fold _ (search rules) read_on (search rules)
 
 no_sign : (n : ℕ) (ds : List ℕ) → n < 18446744073709551616 → decimal n ≡ 45 ∷ ds → ⊥
 no_sign n ds h e = let a : true ≡ false = sym (digits_decimal own n (omega arith)) ∙ ap all_ascii_digits e in absurd cc
-
--- fits 64 bits, with a sign
-pub record IsWide (z : ℤ) : Type 0 where
-  pub least : negsuc 9223372036854775807 ≤ℤ z
-  pub most : z ≤ℤ pos 9223372036854775807
 
 small : (m : ℕ) → IsWide (pos m) → m < 18446744073709551616
 small m a = let p : pos m ≤ℤ pos 9223372036854775807 = a.most in omega (arith, ints)
@@ -168,30 +163,21 @@ visits_one n few (x ∷ xs) (y ∷ ys) a b c d e =
     let v : x ≡ y = ap (λ (m : ℕ). record x { task = m }) p ∙ ap (λ (m : ℕ). record y { start = m }) q in
     ap (λ (w : Visit). w ∷ xs) v ∙ ap (λ ws. y ∷ ws) r
 
-pub route_one : (i : Instance) → length i.teams ≤ MOST_TEAMS → length i.tasks ≤ MOST_TASKS → (x y : Route) → IsRouteLine i x → IsRouteLine i y → route_line x ≡ route_line y → x ≡ y
-route_one i few some x y a b e =
+pub route_one : (m n : ℕ) → m ≤ MOST_TEAMS → n ≤ MOST_TASKS → (x y : Route) → IsRouteLine m n x → IsRouteLine m n y → route_line x ≡ route_line y → x ≡ y
+route_one m n few some x y a b e =
     let p = dec x.team y.team (omega (arith, a.team)) (omega (arith, b.team)) cc in
     let f : flat_map visit_words x.visits ≡ flat_map visit_words y.visits = cc in
-    let q = visits_one (length i.tasks) some x.visits y.visits a.tasks a.starts b.tasks b.starts f in
-    ap (λ (m : ℕ). record x { team = m }) p ∙ ap (λ vs. record y { visits = vs }) q
+    let q = visits_one n some x.visits y.visits a.tasks a.starts b.tasks b.starts f in
+    ap (λ (k : ℕ). record x { team = k }) p ∙ ap (λ vs. record y { visits = vs }) q
 
-pub do_one : (i : Instance) → length i.teams ≤ MOST_TEAMS → length i.tasks ≤ MOST_TASKS → (x y : ℕ × Job) → IsDoLine i x → IsDoLine i y → do_line x ≡ do_line y → x ≡ y
-do_one i few some x y a b e =
+pub do_one : (m n : ℕ) → m ≤ MOST_TEAMS → n ≤ MOST_TASKS → (x y : ℕ × Job) → IsDoLine m n x → IsDoLine m n y → do_line x ≡ do_line y → x ≡ y
+do_one m n few some x y a b e =
     let p = dec x.0 y.0 (omega (arith, a.task)) (omega (arith, b.task)) cc in
     let q = dec x.1.start y.1.start (omega (arith, a.start)) (omega (arith, b.start)) cc in
     let f : map decimal x.1.teams ≡ map decimal y.1.teams = cc in
-    let r = map_one decimal (λ k. k < length i.teams) (below_one (length i.teams) (omega arith)) x.1.teams y.1.teams a.teams b.teams f in
-    let v : x.1 ≡ y.1 = ap (λ (m : ℕ). record x.1 { start = m }) q ∙ ap (λ ks. record y.1 { teams = ks }) r in
-    ap (λ (m : ℕ). (m, x.1)) p ∙ ap (λ (w : Job). (y.0, w)) v
-
-price_wide : (z : ℤ) → IsPrice z → IsWide z
-price_wide z h = let p = h.least in let q = h.most in record { least = omega (arith, ints); most = omega (arith, ints) }
-
-worth_wide : (z : ℤ) → IsWorthNumber z → IsWide z
-worth_wide z h = let p = h.least in let q = h.most in record { least = omega (arith, ints); most = omega (arith, ints) }
-
-signed_wide : (z : ℤ) → IsSigned z → IsWide z
-signed_wide z h = record { least = grind (arith, ints, h); most = grind (arith, ints, h) }
+    let r = map_one decimal (λ k. k < m) (below_one m (omega arith)) x.1.teams y.1.teams a.teams b.teams f in
+    let v : x.1 ≡ y.1 = ap (λ (t : ℕ). record x.1 { start = t }) q ∙ ap (λ ks. record y.1 { teams = ks }) r in
+    ap (λ (j : ℕ). (j, x.1)) p ∙ ap (λ (w : Job). (y.0, w)) v
 
 pub prices_one : (n : ℕ) (x y : List ℤ) → AreNumbers IsPrice n x → AreNumbers IsPrice n y → map signed_decimal x ≡ map signed_decimal y → x ≡ y
 prices_one n x y a b e = map_one signed_decimal IsPrice (λ u v h k. sdec u v (price_wide u h) (price_wide v k)) x y a.each b.each e

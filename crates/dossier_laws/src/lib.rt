@@ -14,7 +14,7 @@ ghost use Rattle.dossier_terms.specs.Dossier.{Dossier, IsGood, skills_of, mask_o
 ghost use Rattle.crew_terms.specs.Minutes.{open_tasks, required_teams, priced, first_minute, IsListOf};
 ghost use Rattle.crew_terms.specs.Branches.{splits, closed, left_open, depth};
 ghost use Rattle.dossier_terms.specs.Lines.{lines_of};
-ghost use Rattle.dossier_terms.specs.Reading.{Reading, Said, More, Whole, No, Form};
+ghost use Rattle.dossier_terms.specs.Reading.{Reading, Answer, More, Whole, No, Form};
 ghost use Rattle.dossier_terms.specs.Table.{Says, Reaches, Ended};
 ghost use Rattle.dossier_laws.specs.Sheet.{sheet, sheet_lines};
 ghost use Rattle.dossier_laws.specs.Law.{IsWhole, IsRead};
@@ -42,7 +42,7 @@ pub fn one_dossier()
 /// The table says one thing of a line, where lines have led from the start to a state: one next state, one
 /// dossier or one reason.
 pub fn says_one_thing()
-    ensures { (lines : List Words) (s : Reading) (ws : Words) (a b : Said) → Reaches Form lines s → Says s ws a → Says s ws b → a ≡ b }
+    ensures { (lines : List Words) (s : Reading) (ws : Words) (a b : Answer) → Reaches Form lines s → Says s ws a → Says s ws b → a ≡ b }
 {
     one_verdict();
 }

@@ -8,5 +8,5 @@ abbrev pub cut_words : Inside → List (List ℕ)
 cut_words a = pieces_of a.line.now a.cuts.now
 
 -- each cut is one of the line
-abbrev pub IsCut : Inside → Type 0
-IsCut a = All (IsCutOf a.line.now) a.cuts.now
+abbrev pub AreCuts : Inside → Type 0
+AreCuts a = All (IsCutOf a.line.now) a.cuts.now

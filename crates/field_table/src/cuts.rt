@@ -58,11 +58,11 @@ impl<'a> Model for LineWords<'a> {
 
     ghost Value = { List (List ℕ) };
 
-    ghost use Rattle.field_table.specs.Cut.{cut_words, IsCut};
+    ghost use Rattle.field_table.specs.Cut.{cut_words, AreCuts};
 
     ghost view = { cut_words };
 
-    ghost invariant = { IsCut };
+    ghost invariant = { AreCuts };
 }
 
 impl<'a> Words for LineWords<'a> {

@@ -6,8 +6,6 @@ mod cuts;
 mod fields;
 mod laws;
 mod numbers;
-#[cfg(test)]
-mod tests;
 
 pub use clocks::{read_clock, write_clock};
 pub use cuts::{Cuts, LineWords, Words};

@@ -3,7 +3,7 @@ use Rattle.std.proofs.Common.{◌≡◌, ◌<◌, ◌≤◌, ◌-◌, ◌||◌, 
 use Rattle.std.proofs.lemmas.Bool.Decides.{nat_tests}
 use Rattle.crew_terms.specs.Rules.{IsTeamCount}
 use Rattle.crew_terms.specs.declared.TheConstants.{MOST_PLACES, MOST_TEAMS, MOST_TASKS, MOST_TEAMS_PER_TASK, WIDEST_WINDOW}
-use Rattle.day_terms.specs.State.{State, has_place, has_team, has_task}
+use Rattle.day_terms.specs.State.{DayState, has_place, has_team, has_task}
 use Rattle.day_terms.specs.Refusal.{Refusal, TooMany, SameName, NoPlace, NoTask, NoTeam, BadWindow, BadShift, BadTeams, first_of, refusal_of, is_bad_window, is_bad_count}
 use Rattle.day_terms.specs.declared.Entry.TheVariants.{Place, Team, Task, Cancel, Move, Needs, Sick, Shift}
 
@@ -42,7 +42,7 @@ good_count teams e =
     let n = neither _ _ e in
     record { some = not_less teams 1 n.0; few = not_less MOST_TEAMS_PER_TASK teams n.1 }
 
-module _ (s : State) where
+module _ (s : DayState) where
   pub place_accepted : (name : List ℕ) → refusal_of s (Place name) ≡ None → (length s.places < MOST_PLACES) × (has_place s name ≡ false)
   place_accepted name e =
       let p = passes (nat_le MOST_PLACES (length s.places)) TooMany ((has_place s name, SameName) ∷ []) e in

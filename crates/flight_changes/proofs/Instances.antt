@@ -5,8 +5,8 @@ use Rattle.std.proofs.lemmas.List.{length-map}
 use Rattle.std.proofs.lemmas.List.Elements.{All-map, All-head, All-tail}
 use Rattle.crew_terms.specs.Rules.{AreTimes}
 use Rattle.crew_terms.specs.declared.TheConstants.{LAST_MINUTE}
-use Rattle.day_terms.specs.State.{State, Given, is_way}
-use Rattle.day_terms.specs.Rounds.{minutes_given, minutes_from, instance_of}
+use Rattle.day_terms.specs.State.{DayState, Given, is_way}
+use Rattle.day_terms.specs.Rounds.{minutes_given, minutes_by_name, day_instance}
 use Rattle.flight_changes.specs.Limits.{IsState}
 use Rattle.flight_changes.proofs.Keyed.{Bytes, by_test}
 
@@ -24,13 +24,13 @@ few_by None true default h k = omega arith
 few_by None false (Some m) h k = k
 few_by None false None h k = omega arith
 
-module _ (s : State) (is : IsState s) where
-  few : (from to : Bytes) → minutes_from s from to ≤ LAST_MINUTE
+module _ (s : DayState) (is : IsState s) where
+  few : (from to : Bytes) → minutes_by_name s from to ≤ LAST_MINUTE
   few from to = few_by (minutes_given s from to) (bytes_eq from to) s.default_minutes (few_found s.times from to is.times) is.default_minutes
 
-  pub are_times : AreTimes (length s.places) (instance_of s).travel
+  pub are_times : AreTimes (length s.places) (day_instance s).travel
   are_times = record {
-    rows = length-map s.places (λ from. map (minutes_from s from) s.places);
-    columns = All-map (λ row. length row ≡ length s.places) (λ from. map (minutes_from s from) s.places) s.places (λ k x h. length-map s.places (minutes_from s _));
-    minutes = All-map (All (λ t. t ≤ LAST_MINUTE)) (λ from. map (minutes_from s from) s.places) s.places (λ k x h. All-map (λ t. t ≤ LAST_MINUTE) (minutes_from s _) s.places (λ i y l. few _ _));
+    rows = length-map s.places (λ from. map (minutes_by_name s from) s.places);
+    columns = All-map (λ row. length row ≡ length s.places) (λ from. map (minutes_by_name s from) s.places) s.places (λ k x h. length-map s.places (minutes_by_name s _));
+    minutes = All-map (All (λ t. t ≤ LAST_MINUTE)) (λ from. map (minutes_by_name s from) s.places) s.places (λ k x h. All-map (λ t. t ≤ LAST_MINUTE) (minutes_by_name s _) s.places (λ i y l. few _ _));
   }

@@ -1,7 +1,7 @@
 -- the first of a list that passes, as it is looked for
 use Rattle.std.proofs.Common.{◌≡◌, ◌<◌, ◌+◌, ◌&&◌, ℕ, suc, Bool, true, false, not, List, [], ◌∷◌, Option, Some, None, is_some, is_none, length, map, drop, get_or, arith, refl, sym, ap, ◌∙◌}
 use Rattle.std.specs.Prelude.{bytes_eq, find, flat_map}
-use Rattle.day_terms.specs.State.{State}
+use Rattle.day_terms.specs.State.{DayState}
 use Rattle.day_terms.specs.Rounds.{lacks_time, minutes_given}
 use Rattle.std.specs.Option.{option_or}
 use Rattle.std.proofs.Math.Seq.{drop-cons}
@@ -33,7 +33,7 @@ none_of (Some x) e = refl
 none_of None e = cc
 
 -- where a default stands, no time is missing
-pub none_missing : (s : State) → is_some s.default_minutes ≡ true → (ps : List (List ℕ × List ℕ)) → find (lacks_time s) ps ≡ None
+pub none_missing : (s : DayState) → is_some s.default_minutes ≡ true → (ps : List (List ℕ × List ℕ)) → find (lacks_time s) ps ≡ None
 none_missing s e [] = refl
 none_missing s e (p ∷ ps) =
     let n = none_of s.default_minutes e in

@@ -8,21 +8,10 @@ use Rattle.crew_terms.specs.Rules.{IsTeam, IsTask}
 use Rattle.crew_terms.specs.declared.TheConstants.{MOST_PLACES, MOST_TEAMS, MOST_TASKS, LAST_MINUTE}
 use Rattle.crew_terms.specs.declared.Team.{Team}
 use Rattle.crew_terms.specs.declared.Task.{Task}
-use Rattle.day_terms.specs.State.{State, Given}
+use Rattle.crew_terms.specs.Places.{team_at_home, task_in_place}
+use Rattle.day_terms.specs.State.{DayState, Given}
 use Rattle.flight_changes.specs.Limits.{IsState}
 use Rattle.flight_changes.proofs.Keyed.{Bytes, by_test}
-
-team_at_home : (n : ℕ) (t : Team) → IsTeam n t → IsTeam (n + 1) t
-team_at_home n t is = record { name = is.name; home = let h = is.home in omega arith; shift = is.shift; skills = is.skills }
-
-task_in_place : (n : ℕ) (t : Task) → IsTask n t → IsTask (n + 1) t
-task_in_place n t is = record {
-  name = is.name;
-  place = let h = is.place in omega arith;
-  window = is.window;
-  teams = is.teams;
-  skills = is.skills;
-}
 
 -- what holds of each element and of v holds where v replaces some
 pub all_replaced : {X : Type 0} (P : X → Type 0) (test : X → Bool) (v : X) (xs : List X) → P v → All P xs → All P (map (λ x. if test x then v else x) xs)
@@ -42,7 +31,7 @@ length_filter test (x ∷ xs) =
     let r = length_filter test xs in
     by_test (test x) (λ t. rw t (omega arith)) (λ t. rw t (omega arith))
 
-module _ (s : State) (is : IsState s) where
+module _ (s : DayState) (is : IsState s) where
   pub place_more : (name : Bytes) → length s.places < MOST_PLACES → IsName name → AllPairs (λ a b. a ≢ b) (s.places ++ name ∷ []) → IsState (record s { places = s.places ++ name ∷ [] })
   place_more name room spelled new =
       let n = length_push s.places name in

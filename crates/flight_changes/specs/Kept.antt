@@ -1,7 +1,7 @@
 -- what the fields stand for
 use Rattle.std.specs.Prelude.{◌≡◌, ℕ, List, map}
 use Rattle.indexmap.specs.IndexMap.{keys, values}
-use Rattle.day_terms.specs.State.{State, Given}
+use Rattle.day_terms.specs.State.{DayState, Given}
 use Rattle.flight_changes.specs.Limits.{IsState}
 use Rattle.flight_changes.specs.declared.desks.Desk.TheInside.{Inside}
 
@@ -9,7 +9,7 @@ use Rattle.flight_changes.specs.declared.desks.Desk.TheInside.{Inside}
 abbrev pub given_of : (List ℕ × List ℕ) × ℕ → Given
 given_of e = record { from = e.0.0; to = e.0.1; minutes = e.1 }
 
-abbrev pub kept : Inside → State
+abbrev pub kept : Inside → DayState
 kept a = record {
   places = a.places.keys;
   teams = values a.teams;

@@ -5,7 +5,7 @@ ghost use Rattle.crew_terms.specs.declared.TheConstants.{LAST_MINUTE, MOST_TASKS
 ghost use Rattle.day_terms.specs.Ranges.{IsInRange};
 ghost use Rattle.day_terms.specs.Refusal.{refusal_of};
 ghost use Rattle.flight_changes.specs.Limits.{IsState};
-ghost use Rattle.day_terms.specs.State.{after_entry, has_place, has_task, has_team, is_task, is_team, place_number, with_task, with_team};
+ghost use Rattle.day_terms.specs.State.{after_entry, has_place, has_task, has_team, is_task, is_team, place_number, with_changed_task, with_changed_team};
 
 use crate::desks::Desk;
 use crew_terms::{Name, Task, Team};
@@ -217,7 +217,7 @@ impl Desk {
     fn put_task(&mut self, task: Task)
         requires known { has_task self.old task.name ≡ true }
         requires fits { IsTask (length self.old.places) task }
-        ensures { self.new ≡ with_task self.old task.name (λ _. task) }
+        ensures { self.new ≡ with_changed_task self.old task.name (λ _. task) }
     {
         *self.tasks.get_mut(&task.name).unwrap() = task;
     }
@@ -226,7 +226,7 @@ impl Desk {
     fn put_team(&mut self, team: Team)
         requires known { has_team self.old team.name ≡ true }
         requires fits { IsTeam (length self.old.places) team }
-        ensures { self.new ≡ with_team self.old team.name (λ _. team) }
+        ensures { self.new ≡ with_changed_team self.old team.name (λ _. team) }
     {
         *self.teams.get_mut(&team.name).unwrap() = team;
     }

@@ -26,9 +26,9 @@ pub struct Desk {
 }
 
 impl Model for Desk {
-    ghost use Rattle.day_terms.specs.State.{State};
+    ghost use Rattle.day_terms.specs.State.{DayState};
 
-    ghost Value = { State };
+    ghost Value = { DayState };
 
     ghost use Rattle.flight_changes.specs.Kept.{kept, IsKept};
 

@@ -1,7 +1,7 @@
 // The instance of a moment, and what travel time it lacks.
 ghost use Rattle.std.specs.Prelude.{◌≡◌, ℕ, List, None, Some, find, map, option_map, IfOk, IfErr};
 ghost use Rattle.crew_instance.specs.Draft.{rows_of};
-ghost use Rattle.day_terms.specs.Rounds.{first_missing, instance_of, lacks_time, minutes_from, minutes_given};
+ghost use Rattle.day_terms.specs.Rounds.{first_missing, day_instance, lacks_time, minutes_by_name, minutes_given};
 ghost use Rattle.flight_changes.specs.Faults.{answer_of};
 ghost use Rattle.day_terms.specs.Refusal.{refusal_of};
 
@@ -16,7 +16,7 @@ impl Desk {
     /// The instance of the state as it stands. There is none where two different places have no travel time
     /// and no default stands; the first such pair, by `from` and then by `to`, is told. Memory may run out.
     pub fn instance(&self) -> Result<Instance, ChangeFault>
-        ensures ok { IfOk result (λ instance. instance ≡ instance_of self.now) }
+        ensures ok { IfOk result (λ instance. instance ≡ day_instance self.now) }
         ensures missing { (from to : List ℕ) → first_missing self.now ≡ Some (from, to) → result ≡ Err (ChangeFault.MissingTravel from to) }
         ensures whole { first_missing self.now ≡ None → IfErr result (λ fault. fault ≡ ChangeFault.OutOfMemory) }
     {
@@ -95,7 +95,7 @@ impl Desk {
 
     /// The minutes from one place to another.
     fn minutes(&self, from: &Name, to: &Name) -> u32
-        ensures { result ≡ minutes_from self.now from.now to.now }
+        ensures { result ≡ minutes_by_name self.now from.now to.now }
     {
         if let Some(minutes) = self.minutes_given(from, to) {
             return minutes;
@@ -108,7 +108,7 @@ impl Desk {
 
     /// The minutes from a place to each.
     fn minutes_row(&self, from: &Name) -> Result<Vec<u32>, AllocError>
-        ensures { IfOk result (λ row. row.items ≡ map (minutes_from self.now from.now) self.now.places) }
+        ensures { IfOk result (λ row. row.items ≡ map (minutes_by_name self.now from.now) self.now.places) }
     {
         let mut row = Vec::with_capacity(self.alloc, self.places.len())?;
         for to in self.places.as_slice() {
@@ -119,7 +119,7 @@ impl Desk {
 
     /// The minutes from each place to each.
     fn minutes_rows(&self) -> Result<Vec<Vec<u32>>, AllocError>
-        ensures { IfOk result (λ rows. rows_of rows.items ≡ (instance_of self.now).travel) }
+        ensures { IfOk result (λ rows. rows_of rows.items ≡ (day_instance self.now).travel) }
     {
         let mut rows = Vec::with_capacity(self.alloc, self.places.len())?;
         for from in self.places.as_slice() {

@@ -19,10 +19,10 @@ use Rattle.crew_instance.specs.Draft.{Draft as Parts, time_of, with_row, minutes
 use Rattle.dossier_terms.specs.declared.Size.{Size}
 use Rattle.dossier_terms.specs.Dossier.{mask_of}
 use Rattle.dossier_terms.specs.Lines.{size_line, place_line, travel_line, team_words, task_words}
-use Rattle.dossier_terms.specs.Reading.{Said, More as Goes, nothing, places_due, teams_due, tasks_due}
+use Rattle.dossier_terms.specs.Reading.{Answer, More as Goes, nothing, places_due, teams_due, tasks_due}
 use Rattle.dossier_terms.specs.Rules.{Holds, Fails, Spelled, On, IsShape}
 use Rattle.dossier_terms.specs.Table.{IsSize, IsTravel, IsTeamLine, IsTaskLine, size_row, place_row, travel_row, team_row, task_row, after_place, after_travel, after_team, after_task}
-use Rattle.head_check.specs.Head.{parts_of}
+use Rattle.head_check.specs.Head.{instance_so_far}
 use Rattle.head_check.proofs.GivenRow.{time_in_row, time_elsewhere}
 
 -- ---- rows of travel times
@@ -58,7 +58,7 @@ given_row d a row n h = ext_get_or 0 (minutes_from d a) row (length-map-range_wi
 
 -- the parts after one row of travel times more
 pub travel_parts : (d : Parts) (r : ℕ) (row : List ℕ) → r < length d.times → length d.places ≡ length row
-    → parts_of (with_row d r row) (suc r) ≡ record (parts_of d r) { travel = (parts_of d r).travel ++ row ∷ [] }
+    → instance_so_far (with_row d r row) (suc r) ≡ record (instance_so_far d r) { travel = (instance_so_far d r).travel ++ row ∷ [] }
 travel_parts d r row below n =
     let new : Parts = with_row d r row in
     let last : minutes_from new r ≡ row = given_row new r row n (λ y l. time_in_row d r y row below l) in
@@ -66,7 +66,7 @@ travel_parts d r row below n =
     rows_same (minutes_from new) (minutes_from d) r (λ a l. same_row a (λ y. time_elsewhere d r a y row (λ e. absurd (omega arith)))) in
     let travel : map (minutes_from new) (range_with_len 0 (suc r)) ≡ map (minutes_from d) (range_with_len 0 r) ++ row ∷ [] =
     row_more (minutes_from new) r ∙ ap (λ x. map (minutes_from new) (range_with_len 0 r) ++ x ∷ []) last ∙ ap (λ x. x ++ row ∷ []) before in
-    ap (λ rows. record (parts_of d r) { travel = rows }) travel
+    ap (λ rows. record (instance_so_far d r) { travel = rows }) travel
   where
     same_row : (a : ℕ) → ((y : ℕ) → time_of (with_row d r row) a y ≡ time_of d a y) → minutes_from (with_row d r row) a ≡ minutes_from d a
     same_row a h = ext_get_or 0 (minutes_from (with_row d r row) a) (minutes_from d a)
@@ -80,18 +80,18 @@ travel_parts d r row below n =
 
 -- ---- one row after another, for the fields that the line spells
 
-pub size_more : (ws : Words) (z : Size) (said : Said) → IsSize z → ws ≡ size_line z → said ≡ Goes (places_due z z.places nothing) → size_row ws said
+pub size_more : (ws : Words) (z : Size) (said : Answer) → IsSize z → ws ≡ size_line z → said ≡ Goes (places_due z z.places nothing) → size_row ws said
 size_more ws z said fits is e = Holds (_, is, refl) (Spelled z fits is (On e))
 
 place_shape : (ws : Words) (name : List ℕ) → ws ≡ place_line name → IsShape (codes "place") 1 ws
 place_shape ws name is = (name ∷ [], is, refl)
 
-pub team_says : (z : Size) (k : ℕ) (i : Instance) (ws : Words) (p : Team × List ℕ) (said : Said) → IsTeamLine z.places p → ws ≡ team_words p
+pub team_says : (z : Size) (k : ℕ) (i : Instance) (ws : Words) (p : Team × List ℕ) (said : Answer) → IsTeamLine z.places p → ws ≡ team_words p
     → after_team z k i (record p.0 { skills = mask_of p.1 }) (IsStrictlyIncreasing p.1) said → team_row z k i ws said
 team_says z k i ws p said fits is rest = Holds (_, is, omega arith)
     (Holds (subst (λ w. IsName (slice_index_or w 1 [])) (sym is) fits.name) (Spelled p fits is rest))
 
-pub task_says : (z : Size) (k : ℕ) (i : Instance) (ws : Words) (p : Task × List ℕ) (said : Said) → IsTaskLine z.places p → ws ≡ task_words p
+pub task_says : (z : Size) (k : ℕ) (i : Instance) (ws : Words) (p : Task × List ℕ) (said : Answer) → IsTaskLine z.places p → ws ≡ task_words p
     → after_task z k i (record p.0 { skills = mask_of p.1 }) (IsStrictlyIncreasing p.1) said → task_row z k i ws said
 task_says z k i ws p said fits is rest = Holds (_, is, omega arith)
     (Holds (subst (λ w. IsName (slice_index_or w 1 [])) (sym is) fits.name) (Spelled p fits is rest))
@@ -108,7 +108,7 @@ same_window : (t : Task) (skills : ℕ) → IsWindow t → IsWindow (record t { 
 same_window t skills w = record { order = w.order; width = w.width; day = w.day; some_minutes = w.some_minutes; minutes = w.minutes }
 
 -- the rules of a team, told by its value and whether its skills rise
-pub team_rules : (z : Size) (k : ℕ) (i : Instance) (t : Team) (ss : List ℕ) (Rises : Type 0) (said : Said)
+pub team_rules : (z : Size) (k : ℕ) (i : Instance) (t : Team) (ss : List ℕ) (Rises : Type 0) (said : Answer)
     → (Rises → IsStrictlyIncreasing ss × (t.skills ≡ mask_of ss)) → ((Rises → ⊥) → IsStrictlyIncreasing ss → ⊥)
     → after_team z k i t Rises said → after_team z k i (record t { skills = mask_of ss }) (IsStrictlyIncreasing ss) said
 team_rules z k i t ss Rises said rise fall (Fails broken told) = Fails broken told
@@ -118,7 +118,7 @@ team_rules z k i t ss Rises said rise fall (Holds new (Holds fact (On e))) =
     let y = rise fact.1 in
     Holds new (Holds (same_shift t (mask_of ss) fact.0, y.0) (On (e ∙ ap (λ s. Goes (teams_due z k (record i { teams = i.teams ++ record t { skills = s } ∷ [] }))) y.1)))
 
-pub task_rules : (z : Size) (k : ℕ) (i : Instance) (t : Task) (ss : List ℕ) (Rises : Type 0) (said : Said)
+pub task_rules : (z : Size) (k : ℕ) (i : Instance) (t : Task) (ss : List ℕ) (Rises : Type 0) (said : Answer)
     → (Rises → IsStrictlyIncreasing ss × (t.skills ≡ mask_of ss)) → ((Rises → ⊥) → IsStrictlyIncreasing ss → ⊥)
     → after_task z k i t Rises said → after_task z k i (record t { skills = mask_of ss }) (IsStrictlyIncreasing ss) said
 task_rules z k i t ss Rises said rise fall (Fails broken told) = Fails broken told
@@ -128,10 +128,10 @@ task_rules z k i t ss Rises said rise fall (Holds new (Holds fact (On e))) =
     let y = rise fact.1 in
     Holds new (Holds (same_window t (mask_of ss) fact.0, y.0) (On (e ∙ ap (λ s. Goes (tasks_due z k (record i { tasks = i.tasks ++ record t { skills = s } ∷ []; frozen = i.frozen ++ None ∷ [] }))) y.1)))
 
-pub place_says : (z : Size) (k : ℕ) (i : Instance) (ws : Words) (name : List ℕ) (said : Said) → IsName name → ws ≡ place_line name
+pub place_says : (z : Size) (k : ℕ) (i : Instance) (ws : Words) (name : List ℕ) (said : Answer) → IsName name → ws ≡ place_line name
     → after_place z k i name said → place_row z k i ws said
 place_says z k i ws name said fits is rest = Holds (place_shape ws name is) (Spelled name fits is rest)
 
-pub travel_says : (z : Size) (k : ℕ) (i : Instance) (ws : Words) (row : List ℕ) (said : Said) → IsTravel z.places row → ws ≡ travel_line row
+pub travel_says : (z : Size) (k : ℕ) (i : Instance) (ws : Words) (row : List ℕ) (said : Answer) → IsTravel z.places row → ws ≡ travel_line row
     → after_travel z k i row said → travel_row z k i ws said
 travel_says z k i ws row said fits is rest = Holds (map decimal row, is, length-map row decimal ∙ fits.count) (Spelled row fits is rest)

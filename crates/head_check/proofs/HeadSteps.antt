@@ -14,7 +14,7 @@ use Rattle.dossier_terms.specs.Dossier.{mask_of}
 use Rattle.dossier_terms.specs.Reading.{More as Goes, teams_due, tasks_due}
 use Rattle.dossier_terms.specs.Rules.{Holds, On}
 use Rattle.head_check.specs.Numbers.{naturals, AreBelow}
-use Rattle.head_check.specs.Head.{IsHead, IsDue, Tells, parts_of}
+use Rattle.head_check.specs.Head.{IsHead, IsDue, HeadTells, instance_so_far}
 use Rattle.dossier_terms.specs.Table.{after_team, after_task}
 use Rattle.head_check.specs.declared.due.HeadDue.{HeadDue}
 use Rattle.head_check.specs.declared.due.HeadStep.TheVariants.{More}
@@ -54,22 +54,22 @@ pub team_more : (z : Size) (k : ℕ) (d new : Parts) (p : ℕ) (t : Team) (Rises
     → length d.teams < MOST_TEAMS → length d.places ≡ p → t.home < p
     → ((length d.teams < MOST_TEAMS) × HasTeam d t.name → ⊥)
     → (TakesTeam d t.name × (t.home < length d.places) × (IsShift t → ⊥) → ⊥)
-    → new ≡ record d { teams = d.teams ++ t ∷ [] } → IsDue (teams_due z k (parts_of new p)) due → Tells (after_team z k (parts_of d p) t Rises) (More due)
+    → new ≡ record d { teams = d.teams ++ t ∷ [] } → IsDue (teams_due z k (instance_so_far new p)) due → HeadTells (after_team z k (instance_so_far d p) t Rises) (More due)
 team_more z k d new p t Rises due rises room places home same shift is next =
     let held = shift_held t (λ broken. shift (record { room = room; new = λ has. same (room, has) }, omega arith, broken)) in
     plainly (Holds (none_of (λ (o : Team). o.name ≡ t.name) d.teams (λ has. same (room, has)))
-    (Holds (held, rises) (On (ap Goes (next.is ∙ ap (λ x. teams_due z k (parts_of x p)) is))))) next.holds
+    (Holds (held, rises) (On (ap Goes (next.is ∙ ap (λ x. teams_due z k (instance_so_far x p)) is))))) next.holds
 
 -- a task that is taken
 pub task_more : (z : Size) (k : ℕ) (d new : Parts) (p : ℕ) (t : Task) (Rises : Type 0) (due : HeadDue) → Rises
     → length d.tasks < MOST_TASKS → length d.places ≡ p → t.place < p
     → ((length d.tasks < MOST_TASKS) × HasTask d t.name → ⊥)
     → (TakesTask d t.name × (t.place < length d.places) × (IsWindow t → ⊥) → ⊥)
-    → new ≡ with_task d t → IsDue (tasks_due z k (parts_of new p)) due → Tells (after_task z k (parts_of d p) t Rises) (More due)
+    → new ≡ with_task d t → IsDue (tasks_due z k (instance_so_far new p)) due → HeadTells (after_task z k (instance_so_far d p) t Rises) (More due)
 task_more z k d new p t Rises due rises room places place same window is next =
     let held = window_held t (λ broken. window (record { room = room; new = λ has. same (room, has) }, omega arith, broken)) in
     plainly (Holds (none_of (λ (o : Task). o.name ≡ t.name) d.tasks (λ has. same (room, has)))
-    (Holds (held, rises) (On (ap Goes (next.is ∙ ap (λ x. tasks_due z k (parts_of x p)) is))))) next.holds
+    (Holds (held, rises) (On (ap Goes (next.is ∙ ap (λ x. tasks_due z k (instance_so_far x p)) is))))) next.holds
 
 -- a row of travel times more is given
 pub head_more : (z : Size) (d : Parts) (r p : ℕ) (row : List ℕ) → IsHead (record { size = z; builder = d }) p r 0 0

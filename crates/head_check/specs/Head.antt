@@ -5,7 +5,7 @@ use Rattle.crew_terms.specs.Words.{Words}
 use Rattle.crew_terms.specs.Instance.{Instance}
 use Rattle.crew_terms.specs.Rules.{HasNoFrozen}
 use Rattle.crew_instance.specs.Draft.{Draft as Parts, time_of, minutes_from}
-use Rattle.dossier_terms.specs.Reading.{Reading, Said, More as Goes, No as Refuses, Form as FormDue, Sizes, Places, Travels, Teams, Tasks, Pools}
+use Rattle.dossier_terms.specs.Reading.{Reading, Answer, More as Goes, No as Refuses, Form as FormDue, Sizes, Places, Travels, Teams, Tasks, Pools}
 use Rattle.dossier_terms.specs.Table.{IsSize, Says}
 use Rattle.head_check.specs.declared.due.Head.{Head}
 use Rattle.head_check.specs.declared.due.HeadDue.{HeadDue}
@@ -14,8 +14,8 @@ use Rattle.head_check.specs.declared.due.HeadStep.{HeadStep}
 use Rattle.head_check.specs.declared.due.HeadStep.TheVariants.{More, No}
 
 -- the parts of an instance that a builder holds, of whose travel times the first rows are read
-abbrev pub parts_of : Parts → ℕ → Instance
-parts_of d rows = record {
+abbrev pub instance_so_far : Parts → ℕ → Instance
+instance_so_far d rows = record {
   places = d.places;
   teams = d.teams;
   tasks = d.tasks;
@@ -31,10 +31,10 @@ rows_read head more = head.size.places - suc more
 abbrev pub reading_of : HeadDue → Reading
 reading_of Form = FormDue
 reading_of Size = Sizes
-reading_of (Place head more) = Places head.value.size more (parts_of head.value.builder 0)
-reading_of (Travel head more) = Travels head.value.size more (parts_of head.value.builder (rows_read head.value more))
-reading_of (Team head more) = Teams head.value.size more (parts_of head.value.builder head.value.size.places)
-reading_of (Task head more) = Tasks head.value.size more (parts_of head.value.builder head.value.size.places)
+reading_of (Place head more) = Places head.value.size more (instance_so_far head.value.builder 0)
+reading_of (Travel head more) = Travels head.value.size more (instance_so_far head.value.builder (rows_read head.value more))
+reading_of (Team head more) = Teams head.value.size more (instance_so_far head.value.builder head.value.size.places)
+reading_of (Task head more) = Tasks head.value.size more (instance_so_far head.value.builder head.value.size.places)
 reading_of (Whole base) = Pools base.value.instance base.value.nodes
 
 -- a line of the head is due
@@ -53,7 +53,7 @@ pub record IsHead (head : Head) (p r m n : ℕ) : Type 0 where
   pub given : AreGiven head.builder r
   pub teams : length head.builder.teams ≡ m
   pub tasks : length head.builder.tasks ≡ n
-  pub frozen : HasNoFrozen (parts_of head.builder r)
+  pub frozen : HasNoFrozen (instance_so_far head.builder r)
 
 -- what holds of what is held
 abbrev pub Holds : HeadDue → Type 0
@@ -71,9 +71,9 @@ pub record IsDue (reading : Reading) (due : HeadDue) : Type 0 where
   pub holds : Holds due
 
 -- what the table says where the step is this
-abbrev pub answer_of : HeadStep → Said
-answer_of (More due) = Goes (reading_of due)
-answer_of (No reason) = Refuses reason
+abbrev pub head_answer : HeadStep → Answer
+head_answer (More due) = Goes (reading_of due)
+head_answer (No reason) = Refuses reason
 
 -- what holds of what is due next
 abbrev pub HoldsNext : HeadStep → Type 0
@@ -81,10 +81,10 @@ HoldsNext (More due) = Holds due
 HoldsNext (No reason) = Unit {0}
 
 -- the step is what these rules say, and what is held stands for what is due next
-pub record Tells (Rules : Said → Type 0) (step : HeadStep) : Type 0 where
-  pub says : Rules (answer_of step)
+pub record HeadTells (Rules : Answer → Type 0) (step : HeadStep) : Type 0 where
+  pub says : Rules (head_answer step)
   pub holds : HoldsNext step
 
 -- the step is what the table says of the line
-abbrev pub IsStep : HeadDue → Words → HeadStep → Type 0
-IsStep due words step = Tells (Says (reading_of due) words) step
+abbrev pub IsHeadStep : HeadDue → Words → HeadStep → Type 0
+IsHeadStep due words step = HeadTells (Says (reading_of due) words) step

@@ -6,11 +6,11 @@ ghost use Rattle.dossier_terms.specs.Table.{IsTravel, after_place, after_travel,
 ghost use Rattle.crew_instance.specs.Draft.{with_row};
 ghost use Rattle.head_check.specs.Numbers.{AreBelow, naturals};
 ghost use Rattle.dossier_terms.specs.Reading.{places_due, travels_due, teams_due, tasks_due};
-ghost use Rattle.head_check.specs.Head.{Holds, IsHead, IsStep, IsDue, Tells, parts_of, rows_read};
+ghost use Rattle.head_check.specs.Head.{Holds, IsHead, IsHeadStep, IsDue, HeadTells, instance_so_far, rows_read};
 
 use crate::due::{Base, Head, HeadDue, HeadStep};
 use crate::numbers::{number_list, skill_set};
-use cert_format::{Expect, LineKind, Rest, fault_is_refused, read_line};
+use cert_format::{Expect, LineKind, LineNumbers, fault_is_refused, read_line};
 use crew_instance::{BuildFault, Builder, Name, Task, Team};
 use dossier_terms::Reason;
 use field_table::LineWords;
@@ -27,7 +27,7 @@ fn out_of_memory(fault: BuildFault) -> AllocError
 /// What is due where so many tasks are to come.
 fn due_tasks(alloc: Global, head: Box<Head>, more: u32) -> Result<HeadDue, AllocError>
     requires { (p : ℕ) × (p + more ≡ head.value.size.tasks) × IsHead head.value head.value.size.places head.value.size.places head.value.size.teams p }
-    ensures { IfOk result (λ due. IsDue (tasks_due head.value.size more (parts_of head.value.builder head.value.size.places)) due) }
+    ensures { IfOk result (λ due. IsDue (tasks_due head.value.size more (instance_so_far head.value.builder head.value.size.places)) due) }
 {
     if more > 0 {
         return Ok(HeadDue::Task {
@@ -53,7 +53,7 @@ fn due_tasks(alloc: Global, head: Box<Head>, more: u32) -> Result<HeadDue, Alloc
 /// What is due where so many teams are to come.
 fn due_teams(alloc: Global, head: Box<Head>, more: u32) -> Result<HeadDue, AllocError>
     requires { (p : ℕ) × (p + more ≡ head.value.size.teams) × IsHead head.value head.value.size.places head.value.size.places p 0 }
-    ensures { IfOk result (λ due. IsDue (teams_due head.value.size more (parts_of head.value.builder head.value.size.places)) due) }
+    ensures { IfOk result (λ due. IsDue (teams_due head.value.size more (instance_so_far head.value.builder head.value.size.places)) due) }
 {
     if more > 0 {
         return Ok(HeadDue::Team {
@@ -68,7 +68,7 @@ fn due_teams(alloc: Global, head: Box<Head>, more: u32) -> Result<HeadDue, Alloc
 /// What is due where so many rows of travel times are to come.
 fn due_travels(alloc: Global, head: Box<Head>, more: u32) -> Result<HeadDue, AllocError>
     requires { (p : ℕ) × (p + more ≡ head.value.size.places) × IsHead head.value head.value.size.places p 0 0 }
-    ensures { IfOk result (λ due. IsDue (travels_due head.value.size more (parts_of head.value.builder (head.value.size.places - more))) due) }
+    ensures { IfOk result (λ due. IsDue (travels_due head.value.size more (instance_so_far head.value.builder (head.value.size.places - more))) due) }
 {
     if more > 0 {
         return Ok(HeadDue::Travel {
@@ -83,7 +83,7 @@ fn due_travels(alloc: Global, head: Box<Head>, more: u32) -> Result<HeadDue, All
 /// What is due where so many places are to come.
 fn due_places(alloc: Global, head: Box<Head>, more: u32) -> Result<HeadDue, AllocError>
     requires { (p : ℕ) × (p + more ≡ head.value.size.places) × IsHead head.value p 0 0 0 }
-    ensures { IfOk result (λ due. IsDue (places_due head.value.size more (parts_of head.value.builder 0)) due) }
+    ensures { IfOk result (λ due. IsDue (places_due head.value.size more (instance_so_far head.value.builder 0)) due) }
 {
     if more > 0 {
         return Ok(HeadDue::Place {
@@ -97,7 +97,7 @@ fn due_places(alloc: Global, head: Box<Head>, more: u32) -> Result<HeadDue, Allo
 
 /// The line `crew dossier 1`.
 pub fn form_line(words: LineWords<'_>) -> HeadStep
-    ensures { IsStep HeadDue.Form words.entry result }
+    ensures { IsHeadStep HeadDue.Form words.entry result }
 {
     fault_is_refused();
     match read_line(Expect::Form, words) {
@@ -108,7 +108,7 @@ pub fn form_line(words: LineWords<'_>) -> HeadStep
 
 /// The line `size`.
 pub fn size_line(alloc: Global, words: LineWords<'_>) -> Result<HeadStep, AllocError>
-    ensures { IfOk result (IsStep HeadDue.Size words.entry) }
+    ensures { IfOk result (IsHeadStep HeadDue.Size words.entry) }
 {
     fault_is_refused();
     let kind = match read_line(Expect::Size, words) {
@@ -134,7 +134,7 @@ fn add_place(
     name: Name,
 ) -> Result<HeadStep, AllocError>
     requires { Holds (HeadDue.Place head more) }
-    ensures { IfOk result (Tells (after_place head.value.size more (parts_of head.value.builder 0) name)) }
+    ensures { IfOk result (HeadTells (after_place head.value.size more (instance_so_far head.value.builder 0) name)) }
 {
     let held = &mut *head;
     match held.builder.place(name) {
@@ -153,7 +153,7 @@ pub fn place_line(
     words: LineWords<'_>,
 ) -> Result<HeadStep, AllocError>
     requires { Holds (HeadDue.Place head more) }
-    ensures { IfOk result (IsStep (HeadDue.Place head more) words.entry) }
+    ensures { IfOk result (IsHeadStep (HeadDue.Place head more) words.entry) }
 {
     fault_is_refused();
     let kind = match read_line(Expect::Place, words) {
@@ -171,7 +171,7 @@ fn set_row(
     alloc: Global,
     builder: &mut Builder,
     place: u32,
-    times: &Rest<'_>,
+    times: &LineNumbers<'_>,
 ) -> Result<(), AllocError>
     requires place { place < length builder.old.places }
     requires count { length times.now ≡ length builder.old.places }
@@ -190,11 +190,11 @@ fn add_travel(
     alloc: Global,
     mut head: Box<Head>,
     more: u32,
-    times: &Rest<'_>,
+    times: &LineNumbers<'_>,
 ) -> Result<HeadStep, AllocError>
     requires held { Holds (HeadDue.Travel head more) }
     requires times { (row : List ℕ) × (times.now ≡ map pos row) × IsTravel head.value.size.places row }
-    ensures { IfOk result (λ step. (row : List ℕ) → times.now ≡ map pos row → Tells (after_travel head.value.size more (parts_of head.value.builder (rows_read head.value more)) row) step) }
+    ensures { IfOk result (λ step. (row : List ℕ) → times.now ≡ map pos row → HeadTells (after_travel head.value.size more (instance_so_far head.value.builder (rows_read head.value more)) row) step) }
 {
     let held = &mut *head;
     let from = held.builder.places() as u32 - 1 - more;
@@ -210,7 +210,7 @@ pub fn travel_line(
     words: LineWords<'_>,
 ) -> Result<HeadStep, AllocError>
     requires { Holds (HeadDue.Travel head more) }
-    ensures { IfOk result (IsStep (HeadDue.Travel head more) words.entry) }
+    ensures { IfOk result (IsHeadStep (HeadDue.Travel head more) words.entry) }
 {
     fault_is_refused();
     let places = head.size.places;
@@ -234,7 +234,7 @@ fn add_team(
 ) -> Result<HeadStep, AllocError>
     requires held { Holds (HeadDue.Team head more) }
     requires home { team.home < head.value.size.places }
-    ensures { IfOk result (Tells (after_team head.value.size more (parts_of head.value.builder head.value.size.places) team (IsTrue rises))) }
+    ensures { IfOk result (HeadTells (after_team head.value.size more (instance_so_far head.value.builder head.value.size.places) team (IsTrue rises))) }
 {
     let held = &mut *head;
     match held.builder.team(team) {
@@ -254,7 +254,7 @@ pub fn team_line(
     words: LineWords<'_>,
 ) -> Result<HeadStep, AllocError>
     requires { Holds (HeadDue.Team head more) }
-    ensures { IfOk result (IsStep (HeadDue.Team head more) words.entry) }
+    ensures { IfOk result (IsHeadStep (HeadDue.Team head more) words.entry) }
 {
     fault_is_refused();
     let places = head.size.places;
@@ -294,7 +294,7 @@ fn add_task(
     requires held { Holds (HeadDue.Task head more) }
     requires place { task.place < head.value.size.places }
     requires teams { IsTeamCount task.teams }
-    ensures { IfOk result (Tells (after_task head.value.size more (parts_of head.value.builder head.value.size.places) task (IsTrue rises))) }
+    ensures { IfOk result (HeadTells (after_task head.value.size more (instance_so_far head.value.builder head.value.size.places) task (IsTrue rises))) }
 {
     let held = &mut *head;
     match held.builder.task(task) {
@@ -314,7 +314,7 @@ pub fn task_line(
     words: LineWords<'_>,
 ) -> Result<HeadStep, AllocError>
     requires { Holds (HeadDue.Task head more) }
-    ensures { IfOk result (IsStep (HeadDue.Task head more) words.entry) }
+    ensures { IfOk result (IsHeadStep (HeadDue.Task head more) words.entry) }
 {
     fault_is_refused();
     let places = head.size.places;

@@ -3,7 +3,7 @@
 #![tactic(auto)]
 
 ghost use Rattle.std.specs.Prelude.{IfOk};
-ghost use Rattle.head_check.specs.Head.{Holds, IsLineDue, IsStep};
+ghost use Rattle.head_check.specs.Head.{Holds, IsLineDue, IsHeadStep};
 
 mod due;
 mod head;
@@ -19,7 +19,7 @@ use std::alloc::{AllocError, Global};
 pub fn judge_head(alloc: Global, due: HeadDue, words: LineWords<'_>) -> Result<HeadStep, AllocError>
     requires due { IsLineDue due }
     requires holds { Holds due }
-    ensures { IfOk result (IsStep due words.entry) }
+    ensures { IfOk result (IsHeadStep due words.entry) }
 {
     match due {
         HeadDue::Form => Ok(form_line(words)),

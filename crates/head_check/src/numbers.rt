@@ -5,13 +5,13 @@ ghost use Rattle.crew_terms.specs.declared.TheConstants.{LAST_MINUTE, MOST_TEAMS
 ghost use Rattle.dossier_terms.specs.Dossier.{mask_of};
 ghost use Rattle.head_check.specs.Numbers.{AreBelow, naturals};
 
-use cert_format::Rest;
+use cert_format::LineNumbers;
 use crew_terms::MOST_TEAMS_PER_TASK;
 use smallvec::SmallVec;
 use std::alloc::{AllocError, Global};
 
 /// The number at a place, which is a minute, a skill or a team.
-pub fn number_at(numbers: &Rest<'_>, n: usize) -> u32
+pub fn number_at(numbers: &LineNumbers<'_>, n: usize) -> u32
     requires place { n < length numbers.now }
     requires range { AreBelow (LAST_MINUTE + 1) numbers.now }
     ensures { slice_index_or numbers.now n (pos 0) ≡ pos result }
@@ -20,7 +20,7 @@ pub fn number_at(numbers: &Rest<'_>, n: usize) -> u32
 }
 
 /// The set of the skills that are listed, a bit for each; None exactly where they don't rise strictly.
-pub fn skill_set(skills: &Rest<'_>) -> Option<u64>
+pub fn skill_set(skills: &LineNumbers<'_>) -> Option<u64>
     requires { AreBelow SKILLS skills.now }
     ensures { let ss = naturals skills.now in MatchOption result (IsStrictlyIncreasing ss → ⊥) (λ set. IsStrictlyIncreasing ss × (set ≡ mask_of ss)) }
 {
@@ -38,7 +38,7 @@ pub fn skill_set(skills: &Rest<'_>) -> Option<u64>
 }
 
 /// The numbers at the end of a line, copied out of it.
-pub(crate) fn number_list(alloc: Global, numbers: &Rest<'_>) -> Result<Vec<u32>, AllocError>
+pub(crate) fn number_list(alloc: Global, numbers: &LineNumbers<'_>) -> Result<Vec<u32>, AllocError>
     requires { AreBelow (LAST_MINUTE + 1) numbers.now }
     ensures { IfOk result (λ list. list.items ≡ naturals numbers.now) }
 {
@@ -52,7 +52,7 @@ pub(crate) fn number_list(alloc: Global, numbers: &Rest<'_>) -> Result<Vec<u32>,
 /// The numbers of teams, copied out of a line. As many as a task may need take no memory of their own.
 pub fn team_list(
     alloc: Global,
-    teams: &Rest<'_>,
+    teams: &LineNumbers<'_>,
 ) -> Result<SmallVec<u32, MOST_TEAMS_PER_TASK>, AllocError>
     requires { AreBelow MOST_TEAMS teams.now }
     ensures { IfOk result (λ list. list.items ≡ naturals teams.now) }

@@ -6,7 +6,7 @@ use Rattle.crew_terms.specs.Limits.{Limits, IsPermittedVisit, tasks_in}
 use Rattle.dossier_terms.specs.Dossier.{Potentials, phi_in}
 use Rattle.crew_terms.specs.Minutes.{first_minute, minute_count, IsMinuteOf}
 use Rattle.node_limits.specs.Minutes.{AreMinutes, HasNoMinute}
-use Rattle.potentials.specs.Table.{Row, phi}
+use Rattle.potentials.specs.Table.{PotentialRow, phi}
 use Rattle.leaf_check.specs.Keys.{AreCounted, IsNextKey, IsRowDue, has_minutes}
 use Rattle.leaf_check.specs.Reader.{below_next}
 use Rattle.leaf_check.proofs.Listed.{row_new, row_other}
@@ -54,12 +54,12 @@ passed_over law n k from None h j t a b visit = let e : true ≡ false = sym (ma
 passed_over law n k from (Some i) h j t a b visit = let e : true ≡ false = sym (may_begin law n k j t visit) ∙ h.3 j a b in cc
 
 -- before a team's first task
-pub none_yet : Law → (n : Limits) (k : ℕ) (next : Option ℕ) (kept : List Row) (table : Potentials) → IsNextKey (has_minutes n k) (tasks_in n) 0 next
+pub none_yet : Law → (n : Limits) (k : ℕ) (next : Option ℕ) (kept : List PotentialRow) (table : Potentials) → IsNextKey (has_minutes n k) (tasks_in n) 0 next
     → (j t : ℕ) → j < below_next n next → IsPermittedVisit n k j t → phi kept j t ≡ phi_in n k table j t
 none_yet law n k next kept table h j t b visit = absurd (passed_over law n k 0 next h j t (omega arith) b visit)
 
 -- after one more row
-module _ (law : Law) (n : Limits) (k : ℕ) (table : Potentials) (j : ℕ) (js : List ℕ) (row : List ℤ) (old new : List Row) (first : ℕ)
+module _ (law : Law) (n : Limits) (k : ℕ) (table : Potentials) (j : ℕ) (js : List ℕ) (row : List ℤ) (old new : List PotentialRow) (first : ℕ)
     (due : IsRowDue (has_minutes n k) (tasks_in n) table.phi j js)
     (so : (i t : ℕ) → i < j → IsPermittedVisit n k i t → phi old i t ≡ phi_in n k table i t)
     (counts : AreCounted n k j first (length row))

@@ -8,14 +8,14 @@ use Rattle.crew_terms.specs.Leaf.{Prices as TaskPrices, Proves, bound_of, reward
 use Rattle.crew_terms.specs.Plan.{unassigned_count}
 use Rattle.dossier_terms.specs.declared.Reason.TheVariants.{Bound, Potential, Worth as LowWorth}
 use Rattle.dossier_terms.specs.Dossier.{Leaf, Potentials, phi_in, prices_of, worths_of}
-use Rattle.dossier_terms.specs.Reading.{Reading, Said, More as Goes, No as Refuses, Extras, Worths, Phis, limits_of, leaf_done, LeafSite}
+use Rattle.dossier_terms.specs.Reading.{Reading, Answer, More as Goes, No as Refuses, Extras, Worths, Phis, limits_of, leaf_done, LeafSite}
 use Rattle.dossier_terms.specs.Rules.{Holds, Fails, HoldsOfAll, FailsAt, On}
 use Rattle.dossier_terms.specs.Table.{Says, after_extra, after_phi, after_table, extra_row, phi_row, price_row, worth_row}
 use Rattle.potentials.specs.Table.{phi}
 use Rattle.potentials.specs.Rules.{IsLocalVerdict}
 use Rattle.potentials.specs.declared.rules.LocalVerdict.TheVariants as verdicts
 use Rattle.leaf_check.specs.Keys.{IsRowDue, has_minutes}
-use Rattle.leaf_check.specs.Reader.{HasRead, HasPotentials, StandsFor, AtPrices, AtExtras, AtWorths, AtPhis, LeafTells, TellsMore, TellsDone, TellsNo, priced_leaf}
+use Rattle.leaf_check.specs.Reader.{HasReadLeaf, HasPotentials, StandsFor, AtPrices, AtExtras, AtWorths, AtPhis, LeafTells, TellsMore, TellsDone, TellsNo, priced_leaf}
 use Rattle.crew_terms.specs.Words.{Words}
 use Rattle.leaf_check.specs.declared.reader.LeafDue.{LeafDue}
 use Rattle.leaf_check.specs.declared.reader.LeafDue.TheVariants as due
@@ -24,7 +24,7 @@ use Rattle.leaf_check.specs.declared.reader.LeafStep.{LeafStep}
 use Rattle.leaf_check.specs.declared.reader.LeafStep.TheVariants.{More, Done, No}
 
 -- what some rules tell is told by the rules that they are the rest of
-pub tells_rest : (a : LeafSite) (Rest Rules : Said → Type 0) (step : LeafStep) (new : LeafReader) → ((said : Said) → Rest said → Rules said) → LeafTells a Rest step new → LeafTells a Rules step new
+pub tells_rest : (a : LeafSite) (Rest Rules : Answer → Type 0) (step : LeafStep) (new : LeafReader) → ((said : Answer) → Rest said → Rules said) → LeafTells a Rest step new → LeafTells a Rules step new
 tells_rest a Rest Rules step new f (TellsMore next says stands is) = TellsMore next (f (Goes next) says) stands is
 tells_rest a Rest Rules step new f (TellsDone leaf says is) = TellsDone leaf (f (Goes (leaf_done a leaf)) says) is
 tells_rest a Rest Rules step new f (TellsNo reason says is) = TellsNo reason (f (Refuses reason) says) is
@@ -32,27 +32,27 @@ tells_rest a Rest Rules step new f (TellsNo reason says is) = TellsNo reason (f 
 -- ---- a line is due
 
 pub extra_due : (a : LeafSite) (n : Limits) (r : LeafReader) (prices : List ℤ) (rows : List (List ℤ)) (j : ℕ) (js all : List ℕ) → limits_of a ≡ n → r.due ≡ due.Extra j
-    → HasRead n r (priced_leaf prices rows) → all ≡ j ∷ js → IsRowDue (has_required n) (tasks_in n) rows j js → LeafTells a (after_extra a prices rows all) More r
+    → HasReadLeaf n r (priced_leaf prices rows) → all ≡ j ∷ js → IsRowDue (has_required n) (tasks_in n) rows j js → LeafTells a (after_extra a prices rows all) More r
 extra_due a n r prices rows j js all e line read keys row =
     subst (λ ks. LeafTells a (after_extra a prices rows ks) More r) (sym keys)
     (TellsMore (Extras a prices rows j js) (On refl)
-    (AtExtras prices rows j js line (subst (λ m. HasRead m r (priced_leaf prices rows)) (sym e) read) (subst (λ m. IsRowDue (has_required m) (tasks_in m) rows j js) (sym e) row) refl) refl)
+    (AtExtras prices rows j js line (subst (λ m. HasReadLeaf m r (priced_leaf prices rows)) (sym e) read) (subst (λ m. IsRowDue (has_required m) (tasks_in m) rows j js) (sym e) row) refl) refl)
 
 pub worth_due : (a : LeafSite) (n : Limits) (r : LeafReader) (leaf : Leaf) (team left : ℕ) → limits_of a ≡ n → r.due ≡ due.Worth team → length leaf.tables ≡ team
-    → HasRead n r leaf → team + suc left ≡ teams_in n → LeafTells a (after_table a leaf (suc left)) More r
+    → HasReadLeaf n r leaf → team + suc left ≡ teams_in n → LeafTells a (after_table a leaf (suc left)) More r
 worth_due a n r leaf team left e line count read teams =
     TellsMore (Worths a leaf.prices leaf.extras leaf.tables left) (On refl)
-    (AtWorths leaf left (line ∙ ap due.Worth (sym count)) (subst (λ m. HasRead m r leaf) (sym e) read) (ap (λ k. k + suc left) count ∙ teams ∙ ap teams_in (sym e)) refl) refl
+    (AtWorths leaf left (line ∙ ap due.Worth (sym count)) (subst (λ m. HasReadLeaf m r leaf) (sym e) read) (ap (λ k. k + suc left) count ∙ teams ∙ ap teams_in (sym e)) refl) refl
 
 pub phi_due : (a : LeafSite) (n : Limits) (r : LeafReader) (leaf : Leaf) (team left : ℕ) (table : Potentials) (j : ℕ) (js all : List ℕ) → limits_of a ≡ n → r.due ≡ due.Phi team j → length leaf.tables ≡ team
-    → HasRead n r leaf → team + suc left ≡ teams_in n → HasPotentials n r team table j → all ≡ j ∷ js → IsRowDue (has_minutes n team) (tasks_in n) table.phi j js
+    → HasReadLeaf n r leaf → team + suc left ≡ teams_in n → HasPotentials n r team table j → all ≡ j ∷ js → IsRowDue (has_minutes n team) (tasks_in n) table.phi j js
     → LeafTells a (after_phi a leaf.prices leaf.extras leaf.tables left table.worth table.phi all) More r
 phi_due a n r leaf team left table j js all e line count read teams potentials keys row =
     subst (λ ks. LeafTells a (after_phi a leaf.prices leaf.extras leaf.tables left table.worth table.phi ks) More r) (sym keys)
     (TellsMore (Phis a leaf.prices leaf.extras leaf.tables left table.worth table.phi j js) (On refl)
     (AtPhis leaf left table j js
     (line ∙ ap (λ k. due.Phi k j) (sym count))
-    (subst (λ m. HasRead m r leaf) (sym e) read)
+    (subst (λ m. HasReadLeaf m r leaf) (sym e) read)
     (ap (λ k. k + suc left) count ∙ teams ∙ ap teams_in (sym e))
     (subst (λ k. HasPotentials (limits_of a) r k table j) (sym count) (subst (λ m. HasPotentials m r team table j) (sym e) potentials))
     (subst (λ k. IsRowDue (has_minutes (limits_of a) k) (tasks_in (limits_of a)) table.phi j js) (sym count) (subst (λ m. IsRowDue (has_minutes m team) (tasks_in m) table.phi j js) (sym e) row))
@@ -60,14 +60,14 @@ phi_due a n r leaf team left table j js all e line count read teams potentials k
 
 -- where teams are left
 pub worth_due_for : (a : LeafSite) (n : Limits) (r : LeafReader) (leaf : Leaf) (team left : ℕ) → limits_of a ≡ n → r.due ≡ due.Worth team → length leaf.tables ≡ team
-    → HasRead n r leaf → team + left ≡ teams_in n → team < teams_in n → LeafTells a (after_table a leaf left) More r
+    → HasReadLeaf n r leaf → team + left ≡ teams_in n → team < teams_in n → LeafTells a (after_table a leaf left) More r
 worth_due_for a n r leaf team zero e line count read teams less = absurd (omega arith)
 worth_due_for a n r leaf team (suc left) e line count read teams less = worth_due a n r leaf team left e line count read teams
 
 -- ---- the end of a leaf
 
 -- the bound of the kept prices and worths is the one of the leaf
-pub bound_at : (a : LeafSite) (n : Limits) (r : LeafReader) (leaf : Leaf) (worths : List ℤ) → limits_of a ≡ n → HasRead n r leaf → length leaf.tables ≡ teams_in n → length r.worths.items ≡ teams_in n
+pub bound_at : (a : LeafSite) (n : Limits) (r : LeafReader) (leaf : Leaf) (worths : List ℤ) → limits_of a ≡ n → HasReadLeaf n r leaf → length leaf.tables ≡ teams_in n → length r.worths.items ≡ teams_in n
     → worths ≡ r.worths.items → bound_of n r.prices worths ≡ bound_of (limits_of a) (prices_of (limits_of a) leaf) (worths_of leaf)
 bound_at a n r leaf worths e read count all is =
     ap (λ p. bound_of n p worths) read.prices
@@ -108,7 +108,7 @@ abbrev pub with_table : Leaf → Potentials → Leaf
 with_table leaf table = record { prices = leaf.prices; extras = leaf.extras; tables = leaf.tables ++ table ∷ [] }
 
 pub read_table : (n : Limits) (r : LeafReader) (leaf : Leaf) (table : Potentials) (team : ℕ) → length leaf.tables ≡ team → team < length r.worths.items
-    → get_or r.worths.items team (pos 0) ≡ table.worth → HasRead n r leaf → HasRead n r (with_table leaf table)
+    → get_or r.worths.items team (pos 0) ≡ table.worth → HasReadLeaf n r leaf → HasReadLeaf n r (with_table leaf table)
 read_table n r leaf table team count short worth read = record {
   prices = read.prices;
   worths =
@@ -121,7 +121,7 @@ read_table n r leaf table team count short worth read = record {
 }
 
 module _ (a : LeafSite) (n : Limits) (r : LeafReader) (leaf : Leaf) (team left : ℕ) (table : Potentials) (worth : ℤ) (e : limits_of a ≡ n) (count : length leaf.tables ≡ team)
-    (read : HasRead n r leaf) (potentials : HasPotentials n r team table (tasks_in n)) (is : worth ≡ table.worth) where
+    (read : HasReadLeaf n r leaf) (potentials : HasPotentials n r team table (tasks_in n)) (is : worth ≡ table.worth) where
   -- the rules at the kept potentials are those at the potentials of the table
   to_table : (j t : ℕ) → IsPermittedVisit n team j t → phi r.table j t ≡ phi_in n team table j t
   to_table j t v = potentials.phi j t v.known v
@@ -129,7 +129,7 @@ module _ (a : LeafSite) (n : Limits) (r : LeafReader) (leaf : Leaf) (team left :
   from_table : (j t : ℕ) → IsPermittedVisit n team j t → phi_in n team table j t ≡ phi r.table j t
   from_table j t v = sym (to_table j t v)
 
-  abbrev pub Rules : Limits → ℕ → Said → Type 0
+  abbrev pub Rules : Limits → ℕ → Answer → Type 0
   Rules m k = after_phi a leaf.prices leaf.extras leaf.tables left table.worth table.phi []
 
   potential_to : (j : ℕ) → HoldsPotential n r.prices team (phi r.table) j → HoldsPotential n (prices_of n leaf) team (phi_in n team table) j
@@ -192,30 +192,30 @@ at_price a r new s ws step e (AtWorths leaf left line read teams is) told = othe
 at_price a r new s ws step e (AtPhis leaf left table j js line read teams potentials row is) told = other_line r due.Price (due.Phi (length leaf.tables) j) e line (λ f. cc)
 
 pub at_extra : (a : LeafSite) (n : Limits) (r new : LeafReader) (s : Reading) (ws : Words) (step : LeafStep) (task : ℕ) → limits_of a ≡ n → r.due ≡ due.Extra task → StandsFor a r s
-    → ((prices : List ℤ) (rows : List (List ℤ)) (js : List ℕ) → HasRead n r (priced_leaf prices rows) → IsRowDue (has_required n) (tasks_in n) rows task js → LeafTells a (extra_row a prices rows task js ws) step new)
+    → ((prices : List ℤ) (rows : List (List ℤ)) (js : List ℕ) → HasReadLeaf n r (priced_leaf prices rows) → IsRowDue (has_required n) (tasks_in n) rows task js → LeafTells a (extra_row a prices rows task js ws) step new)
     → LeafTells a (Says s ws) step new
 at_extra a n r new s ws step task l e (AtPrices line is) told = other_line r (due.Extra task) due.Price e line (λ f. cc)
 at_extra a n r new s ws step task l e (AtExtras prices rows j js line read row is) told =
     let same : j ≡ task = (let f = line in let g = e in cc) in
     subst (λ s. LeafTells a (Says s ws) step new) (sym (is ∙ ap (λ i. Extras a prices rows i js) same))
-    (told prices rows js (subst (λ m. HasRead m r (priced_leaf prices rows)) l read)
+    (told prices rows js (subst (λ m. HasReadLeaf m r (priced_leaf prices rows)) l read)
     (subst (λ i. IsRowDue (has_required n) (tasks_in n) rows i js) same (subst (λ m. IsRowDue (has_required m) (tasks_in m) rows j js) l row)))
 at_extra a n r new s ws step task l e (AtWorths leaf left line read teams is) told = other_line r (due.Extra task) (due.Worth (length leaf.tables)) e line (λ f. cc)
 at_extra a n r new s ws step task l e (AtPhis leaf left table j js line read teams potentials row is) told = other_line r (due.Extra task) (due.Phi (length leaf.tables) j) e line (λ f. cc)
 
 pub at_worth : (a : LeafSite) (n : Limits) (r new : LeafReader) (s : Reading) (ws : Words) (step : LeafStep) (team : ℕ) → limits_of a ≡ n → r.due ≡ due.Worth team → StandsFor a r s
-    → ((leaf : Leaf) (left : ℕ) → HasRead n r leaf → length leaf.tables ≡ team → team + suc left ≡ teams_in n → LeafTells a (worth_row a leaf.prices leaf.extras leaf.tables left ws) step new)
+    → ((leaf : Leaf) (left : ℕ) → HasReadLeaf n r leaf → length leaf.tables ≡ team → team + suc left ≡ teams_in n → LeafTells a (worth_row a leaf.prices leaf.extras leaf.tables left ws) step new)
     → LeafTells a (Says s ws) step new
 at_worth a n r new s ws step team l e (AtPrices line is) told = other_line r (due.Worth team) due.Price e line (λ f. cc)
 at_worth a n r new s ws step team l e (AtExtras prices rows j js line read row is) told = other_line r (due.Worth team) (due.Extra j) e line (λ f. cc)
 at_worth a n r new s ws step team l e (AtWorths leaf left line read teams is) told =
     let same : length leaf.tables ≡ team = (let f = line in let g = e in cc) in
     subst (λ s. LeafTells a (Says s ws) step new) (sym is)
-    (told leaf left (subst (λ m. HasRead m r leaf) l read) same (ap (λ k. k + suc left) (sym same) ∙ teams ∙ ap teams_in l))
+    (told leaf left (subst (λ m. HasReadLeaf m r leaf) l read) same (ap (λ k. k + suc left) (sym same) ∙ teams ∙ ap teams_in l))
 at_worth a n r new s ws step team l e (AtPhis leaf left table j js line read teams potentials row is) told = other_line r (due.Worth team) (due.Phi (length leaf.tables) j) e line (λ f. cc)
 
 pub at_phi : (a : LeafSite) (n : Limits) (r new : LeafReader) (s : Reading) (ws : Words) (step : LeafStep) (team task : ℕ) → limits_of a ≡ n → r.due ≡ due.Phi team task → StandsFor a r s
-    → ((leaf : Leaf) (left : ℕ) (table : Potentials) (js : List ℕ) → HasRead n r leaf → length leaf.tables ≡ team → team + suc left ≡ teams_in n → HasPotentials n r team table task
+    → ((leaf : Leaf) (left : ℕ) (table : Potentials) (js : List ℕ) → HasReadLeaf n r leaf → length leaf.tables ≡ team → team + suc left ≡ teams_in n → HasPotentials n r team table task
     → IsRowDue (has_minutes n team) (tasks_in n) table.phi task js → LeafTells a (phi_row a leaf.prices leaf.extras leaf.tables left table.worth table.phi task js ws) step new)
     → LeafTells a (Says s ws) step new
 at_phi a n r new s ws step team task l e (AtPrices line is) told = other_line r (due.Phi team task) due.Price e line (λ f. cc)
@@ -228,6 +228,6 @@ at_phi a n r new s ws step team task l e (AtPhis leaf left table j js line read 
     let p : HasPotentials n r k table j = subst (λ m. HasPotentials m r k table j) l potentials in
     let q : IsRowDue (has_minutes n k) (tasks_in n) table.phi j js = subst (λ m. IsRowDue (has_minutes m k) (tasks_in m) table.phi j js) l row in
     subst (λ s. LeafTells a (Says s ws) step new) (sym (is ∙ ap (λ i. Phis a leaf.prices leaf.extras leaf.tables left table.worth table.phi i js) here))
-    (told leaf left table js (subst (λ m. HasRead m r leaf) l read) same (ap (λ k. k + suc left) (sym same) ∙ teams ∙ ap teams_in l)
+    (told leaf left table js (subst (λ m. HasReadLeaf m r leaf) l read) same (ap (λ k. k + suc left) (sym same) ∙ teams ∙ ap teams_in l)
     (subst (HasPotentials n r team table) here (subst (λ k. HasPotentials n r k table j) same p))
     (subst (λ i. IsRowDue (has_minutes n team) (tasks_in n) table.phi i js) here (subst (λ k. IsRowDue (has_minutes n k) (tasks_in n) table.phi j js) same q)))

@@ -8,7 +8,7 @@ use Rattle.potentials.specs.Table.{IsTableOf, phi}
 use Rattle.dossier_terms.specs.declared.Reason.{Reason}
 use Rattle.dossier_terms.specs.Dossier.{Leaf, Potentials, phi_in, prices_of, worths_of}
 use Rattle.crew_terms.specs.Minutes.{minute_count}
-use Rattle.dossier_terms.specs.Reading.{Reading, Said, More as Goes, No as Refuses, Prices, Extras, Worths, Phis, limits_of, leaf_done, LeafSite}
+use Rattle.dossier_terms.specs.Reading.{Reading, Answer, More as Goes, No as Refuses, Prices, Extras, Worths, Phis, limits_of, leaf_done, LeafSite}
 use Rattle.dossier_terms.specs.Table.{Says}
 use Rattle.leaf_check.specs.Keys.{IsRowDue, has_minutes}
 use Rattle.leaf_check.specs.Prices.{ArePricesIn}
@@ -39,7 +39,7 @@ pub record IsReady (n : Limits) (r : LeafReader) : Type 0 where
 -- ---- what a reader keeps of a leaf
 
 -- the prices and the worths are those of the leaf so far
-pub record HasRead (n : Limits) (r : LeafReader) (leaf : Leaf) : Type 0 where
+pub record HasReadLeaf (n : Limits) (r : LeafReader) (leaf : Leaf) : Type 0 where
   pub prices : r.prices ≡ prices_of n leaf
   pub worths : take (length leaf.tables) r.worths.items ≡ worths_of leaf
 
@@ -62,17 +62,17 @@ pub data StandsFor (a : LeafSite) (r : LeafReader) (s : Reading) : Type 0 where
   AtPrices : (line : r.due ≡ due.Price) (is : s ≡ Prices a) → StandsFor a r s
   AtExtras : (prices : List ℤ) (rows : List (List ℤ)) (j : ℕ) (js : List ℕ)
       (line : r.due ≡ due.Extra j)
-      (read : HasRead (limits_of a) r (priced_leaf prices rows))
+      (read : HasReadLeaf (limits_of a) r (priced_leaf prices rows))
       (row : IsRowDue (has_required (limits_of a)) (tasks_in (limits_of a)) rows j js)
       (is : s ≡ Extras a prices rows j js) → StandsFor a r s
   AtWorths : (leaf : Leaf) (left : ℕ)
       (line : r.due ≡ due.Worth (length leaf.tables))
-      (read : HasRead (limits_of a) r leaf)
+      (read : HasReadLeaf (limits_of a) r leaf)
       (teams : length leaf.tables + suc left ≡ teams_in (limits_of a))
       (is : s ≡ Worths a leaf.prices leaf.extras leaf.tables left) → StandsFor a r s
   AtPhis : (leaf : Leaf) (left : ℕ) (table : Potentials) (j : ℕ) (js : List ℕ)
       (line : r.due ≡ due.Phi (length leaf.tables) j)
-      (read : HasRead (limits_of a) r leaf)
+      (read : HasReadLeaf (limits_of a) r leaf)
       (teams : length leaf.tables + suc left ≡ teams_in (limits_of a))
       (potentials : HasPotentials (limits_of a) r (length leaf.tables) table j)
       (row : IsRowDue (has_minutes (limits_of a) (length leaf.tables)) (tasks_in (limits_of a)) table.phi j js)
@@ -88,11 +88,11 @@ pub record IsGoalAt (a : LeafSite) (n : Limits) (goal : Goal) : Type 0 where
   pub is_closed : goal.is_closed ≡ a.is_closed
 
 -- the step is what the rules say, and the reader stands for the state that they lead to
-pub data LeafTells (a : LeafSite) (Rules : Said → Type 0) (step : LeafStep) (new : LeafReader) : Type 0 where
+pub data LeafTells (a : LeafSite) (Rules : Answer → Type 0) (step : LeafStep) (new : LeafReader) : Type 0 where
   TellsMore : (next : Reading) (says : Rules (Goes next)) (stands : StandsFor a new next) (is : step ≡ More) → LeafTells a Rules step new
   TellsDone : (leaf : Leaf) (says : Rules (Goes (leaf_done a leaf))) (is : step ≡ Done) → LeafTells a Rules step new
   TellsNo : (reason : Reason) (says : Rules (Refuses reason)) (is : step ≡ No reason) → LeafTells a Rules step new
 
 -- the step is what the table says of the line, at each state that the reader stands for
-abbrev pub IsJudged : Limits → Goal → Words → LeafReader → LeafReader → LeafStep → Type 0
-IsJudged n goal words old new step = (a : LeafSite) (s : Reading) → IsGoalAt a n goal → StandsFor a old s → LeafTells a (Says s words) step new
+abbrev pub IsLeafStep : Limits → Goal → Words → LeafReader → LeafReader → LeafStep → Type 0
+IsLeafStep n goal words old new step = (a : LeafSite) (s : Reading) → IsGoalAt a n goal → StandsFor a old s → LeafTells a (Says s words) step new

@@ -1,10 +1,10 @@
 -- the potentials that a reader keeps
 use Rattle.std.specs.Prelude.{◌≤◌, ◌<◌, ◌+◌, ℕ, List, length}
 use Rattle.crew_terms.specs.Instance.{Instance, task_of}
-use Rattle.potentials.specs.Table.{Row, IsTableOf}
+use Rattle.potentials.specs.Table.{PotentialRow, IsTableOf}
 
 -- the table has a potential of task j at each of so many minutes from the first on
-pub record HasRoomAt (kept : List Row) (j first count : ℕ) : Type 0 where
+pub record HasRoomAt (kept : List PotentialRow) (j first count : ℕ) : Type 0 where
   pub instance : Instance
   pub table : IsTableOf instance kept
   pub known : j < length instance.tasks

@@ -8,7 +8,7 @@ ghost use Rattle.crew_terms.specs.Minutes.{required_teams};
 ghost use Rattle.potentials.specs.Prices.{with_rho};
 ghost use Rattle.leaf_check.specs.Prices.{ArePricesIn, SamePairsBut};
 
-use cert_format::Rest;
+use cert_format::LineNumbers;
 use crew_terms::Pair;
 use node_limits::Limits;
 use potentials::Prices;
@@ -32,7 +32,7 @@ fn set_if_required(
     limits: &Limits<'_>,
     k: u32,
     j: u32,
-    given: &Rest<'_>,
+    given: &LineNumbers<'_>,
     read: usize,
 ) -> usize
     requires prices { ArePricesIn limits.now.limits prices.old }
@@ -53,7 +53,7 @@ fn set_if_required(
 }
 
 /// Sets the prices of the required pairs of task `j` to the given numbers, by team.
-pub fn set_extras(prices: &mut Prices, limits: &Limits<'_>, j: u32, given: &Rest<'_>)
+pub fn set_extras(prices: &mut Prices, limits: &Limits<'_>, j: u32, given: &LineNumbers<'_>)
     requires prices { ArePricesIn limits.now.limits prices.old }
     requires task { j < tasks_in limits.now.limits }
     requires range { AllByRecursion IsPrice given.now }
@@ -82,7 +82,7 @@ fn clear_pairs(prices: &mut Prices, limits: &Limits<'_>, j: u32)
 }
 
 /// Sets the price of each task to the given number, and the price of each pair to 0.
-pub fn set_prices(prices: &mut Prices, limits: &Limits<'_>, given: &Rest<'_>)
+pub fn set_prices(prices: &mut Prices, limits: &Limits<'_>, given: &LineNumbers<'_>)
     requires prices { ArePricesIn limits.now.limits prices.old }
     requires range { AllByRecursion IsPrice given.now }
     requires count { length given.now ≡ tasks_in limits.now.limits }

@@ -6,7 +6,7 @@ ghost use Rattle.crew_terms.specs.Minutes.{minute_count};
 ghost use Rattle.dossier_terms.specs.Reading.{Prices as PriceDue, LeafSite};
 ghost use Rattle.dossier_terms.specs.Table.{after_extra, after_phi, after_table, extra_row, phi_row, price_row, worth_row};
 ghost use Rattle.leaf_check.specs.Keys.{AreLeft, IsRowDue, has_minutes};
-ghost use Rattle.leaf_check.specs.Reader.{HasPotentials, HasRead, IsGoalAt, IsJudged, IsReady, StandsFor, LeafTells, below_next, priced_leaf};
+ghost use Rattle.leaf_check.specs.Reader.{HasPotentials, HasReadLeaf, IsGoalAt, IsLeafStep, IsReady, StandsFor, LeafTells, below_next, priced_leaf};
 
 use crate::keys::{counted_minutes, next_open, next_priced, required_count};
 use crate::prices::{set_extras, set_prices};
@@ -100,7 +100,7 @@ impl LeafReader {
     pub fn line(&mut self, limits: &Limits<'_>, goal: Goal, words: LineWords<'_>) -> LeafStep
         requires { IsReady limits.now.limits self.old }
         ensures ready { IsReady limits.now.limits self.new }
-        ensures judged { IsJudged limits.now.limits goal words.entry self.old self.new result }
+        ensures judged { IsLeafStep limits.now.limits goal words.entry self.old self.new result }
     {
         match self.due {
             LeafDue::Price => self.price_line(limits, goal, words),
@@ -141,7 +141,7 @@ impl LeafReader {
         requires task { task < tasks_in limits.now.limits }
         ensures ready { IsReady limits.now.limits self.new }
         ensures tells { (a : LeafSite) (prices : List ℤ) (rows : List (List ℤ)) (js : List ℕ) → IsGoalAt a limits.now.limits goal
-            → HasRead limits.now.limits self.old (priced_leaf prices rows)
+            → HasReadLeaf limits.now.limits self.old (priced_leaf prices rows)
             → IsRowDue (has_required limits.now.limits) (tasks_in limits.now.limits) rows task js
             → LeafTells a (extra_row a prices rows task js words.entry) result self.new }
     {
@@ -164,7 +164,7 @@ impl LeafReader {
         requires next { IfSome next (λ j. j < tasks_in limits.now.limits) }
         ensures ready { IsReady limits.now.limits self.new }
         ensures tells { (a : LeafSite) (prices : List ℤ) (rows : List (List ℤ)) (js : List ℕ) → IsGoalAt a limits.now.limits goal
-            → HasRead limits.now.limits self.old (priced_leaf prices rows)
+            → HasReadLeaf limits.now.limits self.old (priced_leaf prices rows)
             → AreLeft (has_required limits.now.limits) (tasks_in limits.now.limits) rows next js
             → LeafTells a (after_extra a prices rows js) result self.new }
     {
@@ -189,7 +189,7 @@ impl LeafReader {
         requires team { team < teams_in limits.now.limits }
         ensures ready { IsReady limits.now.limits self.new }
         ensures tells { (a : LeafSite) (leaf : Leaf) (left : ℕ) → IsGoalAt a limits.now.limits goal
-            → HasRead limits.now.limits self.old leaf → length leaf.tables ≡ team → team + suc left ≡ teams_in limits.now.limits
+            → HasReadLeaf limits.now.limits self.old leaf → length leaf.tables ≡ team → team + suc left ≡ teams_in limits.now.limits
             → LeafTells a (worth_row a leaf.prices leaf.extras leaf.tables left words.entry) result self.new }
     {
         fault_is_refused();
@@ -220,7 +220,7 @@ impl LeafReader {
         requires minutes { 0 < minute_count limits.now.limits team task }
         ensures ready { IsReady limits.now.limits self.new }
         ensures tells { (a : LeafSite) (leaf : Leaf) (left : ℕ) (table : Potentials) (js : List ℕ) → IsGoalAt a limits.now.limits goal
-            → HasRead limits.now.limits self.old leaf → length leaf.tables ≡ team → team + suc left ≡ teams_in limits.now.limits
+            → HasReadLeaf limits.now.limits self.old leaf → length leaf.tables ≡ team → team + suc left ≡ teams_in limits.now.limits
             → HasPotentials limits.now.limits self.old team table task
             → IsRowDue (has_minutes limits.now.limits team) (tasks_in limits.now.limits) table.phi task js
             → LeafTells a (phi_row a leaf.prices leaf.extras leaf.tables left table.worth table.phi task js words.entry) result self.new }
@@ -259,7 +259,7 @@ impl LeafReader {
         requires next { IfSome next (λ j. (j < tasks_in limits.now.limits) × (0 < minute_count limits.now.limits team j)) }
         ensures ready { IsReady limits.now.limits self.new }
         ensures tells { (a : LeafSite) (leaf : Leaf) (left : ℕ) (table : Potentials) (js : List ℕ) → IsGoalAt a limits.now.limits goal
-            → HasRead limits.now.limits self.old leaf → length leaf.tables ≡ team → team + suc left ≡ teams_in limits.now.limits
+            → HasReadLeaf limits.now.limits self.old leaf → length leaf.tables ≡ team → team + suc left ≡ teams_in limits.now.limits
             → HasPotentials limits.now.limits self.old team table (below_next limits.now.limits next)
             → AreLeft (has_minutes limits.now.limits team) (tasks_in limits.now.limits) table.phi next js
             → LeafTells a (after_phi a leaf.prices leaf.extras leaf.tables left table.worth table.phi js) result self.new }
@@ -279,7 +279,7 @@ impl LeafReader {
         requires team { team < teams_in limits.now.limits }
         ensures ready { IsReady limits.now.limits self.new }
         ensures tells { (a : LeafSite) (leaf : Leaf) (left : ℕ) (table : Potentials) → IsGoalAt a limits.now.limits goal
-            → HasRead limits.now.limits self.old leaf → length leaf.tables ≡ team → team + suc left ≡ teams_in limits.now.limits
+            → HasReadLeaf limits.now.limits self.old leaf → length leaf.tables ≡ team → team + suc left ≡ teams_in limits.now.limits
             → HasPotentials limits.now.limits self.old team table (tasks_in limits.now.limits)
             → LeafTells a (after_phi a leaf.prices leaf.extras leaf.tables left table.worth table.phi []) result self.new }
     {
@@ -304,7 +304,7 @@ impl LeafReader {
         requires teams { teams ≤ teams_in limits.now.limits }
         ensures ready { IsReady limits.now.limits self.new }
         ensures tells { (a : LeafSite) (leaf : Leaf) (left : ℕ) → IsGoalAt a limits.now.limits goal
-            → HasRead limits.now.limits self.old leaf → length leaf.tables ≡ teams → teams + left ≡ teams_in limits.now.limits
+            → HasReadLeaf limits.now.limits self.old leaf → length leaf.tables ≡ teams → teams + left ≡ teams_in limits.now.limits
             → LeafTells a (after_table a leaf left) result self.new }
     {
         if teams < limits.instance().teams() {
@@ -318,7 +318,7 @@ impl LeafReader {
     fn judge_bound(&self, limits: &Limits<'_>, goal: Goal) -> LeafStep
         requires { IsReady limits.now.limits self.now }
         ensures { (a : LeafSite) (leaf : Leaf) → IsGoalAt a limits.now.limits goal
-            → HasRead limits.now.limits self.now leaf → length leaf.tables ≡ teams_in limits.now.limits
+            → HasReadLeaf limits.now.limits self.now leaf → length leaf.tables ≡ teams_in limits.now.limits
             → LeafTells a (after_table a leaf 0) result self.now }
     {
         let proved = bound(limits, &self.prices, &self.worths);

@@ -4,11 +4,11 @@ ghost use Rattle.crew_terms.specs.Instance.{Instance as Planned};
 ghost use Rattle.potentials.specs.Table.{IsTableOf, phi};
 ghost use Rattle.leaf_check.specs.Rows.{HasRoomAt};
 
-use cert_format::Rest;
+use cert_format::LineNumbers;
 use potentials::Table;
 
 /// Sets the potentials of task `j` at the minutes from `first` on to the given numbers.
-pub fn set_potentials(table: &mut Table, j: u32, first: u32, given: &Rest<'_>)
+pub fn set_potentials(table: &mut Table, j: u32, first: u32, given: &LineNumbers<'_>)
     requires room { HasRoomAt table.old j first (length given.now) }
     requires minutes { first + length given.now < 2 ^ 32 }
     ensures given { (m : ℕ) → m < length given.now → phi table.new j (first + m) ≡ slice_index_or given.now m (pos 0) }

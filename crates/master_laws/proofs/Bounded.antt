@@ -14,7 +14,7 @@ use Rattle.search_terms.specs.Rows.{Rows, number, row_of, basic_of, last, IsSolu
 use Rattle.search_terms.specs.Opening.{required_pairs, variables, places, place_at, cost}
 use Rattle.search_terms.specs.Pivot.{IsImproving, IsBounding}
 use Rattle.master_laws.proofs.Ring.{minus_times, assoc, swap, positive, not_negative}
-use Rattle.master_laws.proofs.Totals.{total-one, total-front}
+use Rattle.crew_terms.specs.Totals.{total-one, total-front}
 use Rattle.master_laws.proofs.Entering.{spread_at, spike, spike-same, spike-other, product_plus, product_spread, product_spike}
 use Rattle.master_laws.proofs.Costs.{IsCosted}
 use Rattle.search_terms.specs.declared.TheConstants.{VALUE}

@@ -8,7 +8,7 @@ use Rattle.crew_terms.specs.Total.{total}
 use Rattle.search_terms.specs.declared.Place.{Place}
 use Rattle.search_terms.specs.declared.Place.TheVariants.{Unused, Shortage, Missed, Value}
 use Rattle.search_terms.specs.Opening.{places, basics, basic_at}
-use Rattle.master_laws.proofs.Totals.{total-same, total-front}
+use Rattle.crew_terms.specs.Totals.{total-same, total-front}
 use Rattle.master_laws.proofs.Positions.{count}
 use Rattle.master_laws.proofs.Apart.{basics_are, missed_from, teams_of}
 use Rattle.master_laws.proofs.Below.{below}

@@ -15,7 +15,8 @@ use Rattle.search_terms.specs.Rows.{Rows, number, row_of, basic_of, last, AreBas
 use Rattle.search_terms.specs.Opening.{variables, places, places_where, one_if}
 use Rattle.search_terms.specs.Shares.{Share, distance}
 use Rattle.master_laws.proofs.Ring.{assoc, swap, scale_sum, scale_diff, cancel_zero, not_negative, cancel_up_to}
-use Rattle.master_laws.proofs.Totals.{total-same, total-front, total-scale}
+use Rattle.crew_terms.specs.Totals.{total-same, total-front}
+use Rattle.master_laws.proofs.Totals.{total-scale}
 use Rattle.master_laws.proofs.Duals.{no_route}
 use Rattle.master_laws.proofs.Basic.{IsBasicSolution}
 use Rattle.master_laws.proofs.Known.{variable_at, amount}

@@ -13,7 +13,8 @@ use Rattle.search_terms.specs.Opening.{places, openers, opener, basic_at, place_
 use Rattle.search_terms.specs.MasterRun.{MasterRun}
 use Rattle.search_terms.specs.MasterRun.MasterRun.{Opens, Pivots, Enters}
 use Rattle.master_laws.proofs.Ring.{minus_times, swap, scale_diff}
-use Rattle.master_laws.proofs.Totals.{total-same, total-scale, total-minus, total-zero, total-swap, lt_or_last}
+use Rattle.crew_terms.specs.Totals.{total-same, total-zero, total-swap, lt_or_last}
+use Rattle.master_laws.proofs.Totals.{total-scale, total-minus}
 use Rattle.master_laws.proofs.Solutions.{solves_before}
 use Rattle.master_laws.proofs.Entering.{AreWithin, folded, stand_in, solves_folded, product_plus, product_scaled, product_spread}
 use Rattle.master_laws.proofs.Runs.{of_run}

@@ -17,7 +17,7 @@ use Rattle.search_terms.specs.Duals.{AreDuals, AreUpToPenalty, IsUpTo, best_rewa
 use Rattle.search_terms.specs.Shares.{IsRouteIn, IsFractional, choice_value}
 use Rattle.master_laws.proofs.Ring.{positive}
 use Rattle.master_laws.proofs.Opened.{basic_opening}
-use Rattle.master_laws.proofs.Totals.{lt_or_last}
+use Rattle.crew_terms.specs.Totals.{lt_or_last}
 use Rattle.master_laws.proofs.Positions.{count, openers_count, opener_basic, opener_last, basic_position}
 use Rattle.master_laws.proofs.Apart.{basics_apart, basic_one}
 use Rattle.master_laws.proofs.Costs.{costed_run}
@@ -32,7 +32,7 @@ use Rattle.master_laws.proofs.Choice.{same_parts}
 use Rattle.master_laws.proofs.Strong.{Solved, fractional, choice_value_is}
 use Rattle.master_laws.proofs.Standing.{prices_at, worths_at, prices_stand, worths_stand}
 use Rattle.search_terms.specs.declared.TheConstants.{BIG_M, RIGHT, VALUE}
-use Rattle.search_terms.specs.BasicChoice.{AreParts, HasParts, choice_of}
+use Rattle.search_terms.specs.BasicChoice.{AreWholeParts, HasParts, choice_of}
 
 pub duals_stand : (n : Limits) (t : Rows) → (prices : Prices) × AreDuals n (value_row t) prices
 duals_stand n t = (prices_at n (value_row t), prices_stand n (value_row t))
@@ -70,7 +70,7 @@ value_of n routes made t p run o legal d =
     value_by_duals n routes t p (worths_at n (value_row t)) (whole_of t) (parts_by t c) (optimum_of n routes made t p run o d) d (λ i lt. legal i no_route lt)
     (summed_run n _ routes made t (basic_opening n) run) (basic_solution t f c)
 
-solved : (n : Limits) (routes : List Route) (made : ℕ) (t : Rows) (whole : ℕ) (x : ℕ → ℕ) (run : IsMasterRun n routes made t) → IsOptimal t → All (IsRouteIn n) routes → AreParts n routes t whole x
+solved : (n : Limits) (routes : List Route) (made : ℕ) (t : Rows) (whole : ℕ) (x : ℕ → ℕ) (run : IsMasterRun n routes made t) → IsOptimal t → All (IsRouteIn n) routes → AreWholeParts n routes t whole x
     → Solved n routes t (prices_at n (value_row t)) (worths_at n (value_row t)) (whole_of t) (parts_by t (cofactors (length t.rows) (row_numbers t) (feasible_of n routes made t run).basic.positive)) whole x
 solved n routes made t whole x run o legal a =
     let f = feasible_of n routes made t run in
@@ -90,13 +90,13 @@ solved n routes made t whole x run o legal a =
       some = a.some;
     }
 
-pub fractional_of : (n : Limits) (routes : List Route) (made : ℕ) (t : Rows) (whole : ℕ) (x : ℕ → ℕ) → IsMasterRun n routes made t → IsOptimal t → All (IsRouteIn n) routes → AreParts n routes t whole x
+pub fractional_of : (n : Limits) (routes : List Route) (made : ℕ) (t : Rows) (whole : ℕ) (x : ℕ → ℕ) → IsMasterRun n routes made t → IsOptimal t → All (IsRouteIn n) routes → AreWholeParts n routes t whole x
     → IsFractional n (choice_of n routes whole x)
 fractional_of n routes made t whole x run o legal a =
     fractional n routes t (prices_at n (value_row t)) (worths_at n (value_row t)) (whole_of t) (parts_by t (cofactors (length t.rows) (row_numbers t) (feasible_of n routes made t run).basic.positive)) whole x
     (solved n routes made t whole x run o legal a)
 
-pub choice_value_of : (n : Limits) (routes : List Route) (made : ℕ) (t : Rows) (whole : ℕ) (x : ℕ → ℕ) → IsMasterRun n routes made t → IsOptimal t → All (IsRouteIn n) routes → AreParts n routes t whole x
+pub choice_value_of : (n : Limits) (routes : List Route) (made : ℕ) (t : Rows) (whole : ℕ) (x : ℕ → ℕ) → IsMasterRun n routes made t → IsOptimal t → All (IsRouteIn n) routes → AreWholeParts n routes t whole x
     → number (value_row t) VALUE *ℤ choice_value n (choice_of n routes whole x) ≡ number (value_row t) RIGHT *ℤ pos whole
 choice_value_of n routes made t whole x run o legal a =
     choice_value_is n routes t (prices_at n (value_row t)) (worths_at n (value_row t)) (whole_of t) (parts_by t (cofactors (length t.rows) (row_numbers t) (feasible_of n routes made t run).basic.positive)) whole x
@@ -111,7 +111,7 @@ above_of n (suc zero) j e = absurd (cc)
 above_of n (suc (suc i)) j e = omega arith
 
 -- some whole number of parts makes all shares whole
-pub parts_stand : (n : Limits) (routes : List Route) (made : ℕ) (t : Rows) → IsMasterRun n routes made t → (whole : ℕ) × ((x : ℕ → ℕ) × AreParts n routes t whole x)
+pub parts_stand : (n : Limits) (routes : List Route) (made : ℕ) (t : Rows) → IsMasterRun n routes made t → (whole : ℕ) × ((x : ℕ → ℕ) × AreWholeParts n routes t whole x)
 parts_stand n routes made t run =
     let f = feasible_of n routes made t run in
     let c = cofactors (length t.rows) (row_numbers t) f.basic.positive in

@@ -13,7 +13,8 @@ use Rattle.search_terms.specs.Opening.{places, basic_at, openers, opener, openin
 use Rattle.search_terms.specs.MasterRun.{MasterRun}
 use Rattle.search_terms.specs.MasterRun.MasterRun.{Opens, Pivots, Enters}
 use Rattle.master_laws.proofs.Ring.{assoc, scale_sum}
-use Rattle.master_laws.proofs.Totals.{total-same, total-scale, total-plus, total-minus, lt_or_last}
+use Rattle.crew_terms.specs.Totals.{total-same, total-plus, lt_or_last}
+use Rattle.master_laws.proofs.Totals.{total-scale, total-minus}
 use Rattle.master_laws.proofs.Solutions.{by_row, spread}
 use Rattle.master_laws.proofs.Entering.{AreWithin, row_entered, number_entered, count_entered}
 use Rattle.master_laws.proofs.Unique.{cancel_same}

@@ -12,7 +12,8 @@ use Rattle.search_terms.specs.Opening.{places, place_at, basic_at, openers, open
 use Rattle.search_terms.specs.MasterRun.{MasterRun}
 use Rattle.search_terms.specs.MasterRun.MasterRun.{Opens, Pivots, Enters}
 use Rattle.master_laws.proofs.Ring.{assoc, scale_sum, scale_diff}
-use Rattle.master_laws.proofs.Totals.{total-same, total-scale, total-plus, total-minus, total-one}
+use Rattle.crew_terms.specs.Totals.{total-same, total-plus, total-one}
+use Rattle.master_laws.proofs.Totals.{total-scale, total-minus}
 use Rattle.master_laws.proofs.Solutions.{by_row, spread}
 use Rattle.master_laws.proofs.Entering.{AreWithin, number_entered, count_entered}
 use Rattle.master_laws.proofs.Unique.{cancel_same}

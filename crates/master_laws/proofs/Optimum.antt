@@ -17,7 +17,8 @@ use Rattle.search_terms.specs.Opening.{places, place_at, basic_at, openers, open
 use Rattle.search_terms.specs.Duals.{AreDuals, AreDualWorths, extras}
 use Rattle.search_terms.specs.MasterRun.{MasterRun}
 use Rattle.master_laws.proofs.Ring.{minus_times}
-use Rattle.master_laws.proofs.Totals.{total-same, total-zero, total-one, total-minus, total-swap}
+use Rattle.crew_terms.specs.Totals.{total-same, total-zero, total-one, total-swap}
+use Rattle.master_laws.proofs.Totals.{total-minus}
 use Rattle.master_laws.proofs.Runs.{of_run}
 use Rattle.master_laws.proofs.Positions.{count, openers_count, opener_basic, basic_position, wide_opening}
 use Rattle.master_laws.proofs.Costs.{opening_within}

@@ -8,7 +8,8 @@ use Rattle.crew_terms.specs.Total.{total}
 use Rattle.search_terms.specs.Rows.{Row, Rows, number, row_of, product, IsSolution, AreBasic}
 use Rattle.search_terms.specs.Pivot.{IsPivot, IsPivotAt, IsReplaced}
 use Rattle.master_laws.proofs.Ring.{assoc, scale_diff, cancel_zero}
-use Rattle.master_laws.proofs.Totals.{total-same, total-scale, total-minus}
+use Rattle.crew_terms.specs.Totals.{total-same}
+use Rattle.master_laws.proofs.Totals.{total-scale, total-minus}
 
 pub spread : (g z p a e b x : ℤ) → g *ℤ z ≡ (p *ℤ a) -ℤ (e *ℤ b) → g *ℤ (z *ℤ x) ≡ (p *ℤ (a *ℤ x)) -ℤ (e *ℤ (b *ℤ x))
 spread g z p a e b x h =

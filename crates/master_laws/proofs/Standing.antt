@@ -13,7 +13,7 @@ use Rattle.search_terms.specs.declared.Place.TheVariants.{Value, Unused, Shortag
 use Rattle.search_terms.specs.Rows.{Row}
 use Rattle.search_terms.specs.Opening.{places, basic_at, openers, opener, opens, opening_basis, basic_number, dual}
 use Rattle.search_terms.specs.Duals.{AreDuals, AreDualWorths}
-use Rattle.master_laws.proofs.Totals.{total-one, lt_or_last}
+use Rattle.crew_terms.specs.Totals.{total-one, lt_or_last}
 use Rattle.master_laws.proofs.Positions.{count, openers_count, opener_basic, opener_last, basic_position}
 use Rattle.master_laws.proofs.Apart.{basics_apart, basic_one}
 use Rattle.master_laws.proofs.Numbers.{by_duals}

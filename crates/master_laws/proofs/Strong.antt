@@ -16,7 +16,8 @@ use Rattle.search_terms.specs.Rows.{Rows, number, last, value_row}
 use Rattle.search_terms.specs.Opening.{places, one_if, teams_for}
 use Rattle.search_terms.specs.Shares.{Share, FractionalChoice, IsRouteIn, IsFractional, choice_value, shares_of, parts_of, weighed_visits, distance, task_gap, pair_gap, unassigned_of, visits_to}
 use Rattle.master_laws.proofs.Ring.{assoc, swap, scale_sum, scale_diff, positive, not_negative, times_up_to, cancel_up_to, cancel_positive}
-use Rattle.master_laws.proofs.Totals.{total-same, total-scale}
+use Rattle.crew_terms.specs.Totals.{total-same}
+use Rattle.master_laws.proofs.Totals.{total-scale}
 use Rattle.master_laws.proofs.Bounded.{total-not_negative}
 use Rattle.master_laws.proofs.Costs.{IsCosted}
 use Rattle.master_laws.proofs.Duals.{no_route}

@@ -11,7 +11,7 @@ use Rattle.search_terms.specs.Rows.{Rows, number, row_of, width, product, IsSolu
 use Rattle.search_terms.specs.Opening.{places, openers, opener, basic_at, place_at, opening, opening_basis, basic_number, route_number, visit_number}
 use Rattle.search_terms.specs.MasterRun.{MasterRun}
 use Rattle.search_terms.specs.MasterRun.MasterRun.{Opens, Pivots, Enters}
-use Rattle.master_laws.proofs.Totals.{total-same, total-zero}
+use Rattle.crew_terms.specs.Totals.{total-same, total-zero}
 use Rattle.master_laws.proofs.Solutions.{solves_before}
 use Rattle.master_laws.proofs.Entering.{folded, stand_in, solves_folded, product_plus, product_scaled, product_spread, spike, spike-other}
 use Rattle.master_laws.proofs.Runs.{of_run}

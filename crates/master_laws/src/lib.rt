@@ -13,7 +13,7 @@ ghost use Rattle.search_terms.specs.MasterRun.{IsMasterRun, IsRunOver};
 ghost use Rattle.search_terms.specs.Duals.{AreDuals, AreUpToPenalty, best_reward, extras, term_over};
 ghost use Rattle.search_terms.specs.Shares.{IsFractional, IsRouteIn, choice_value};
 ghost use Rattle.search_terms.specs.declared.TheConstants.{RIGHT, VALUE};
-ghost use Rattle.search_terms.specs.BasicChoice.{AreParts, choice_of};
+ghost use Rattle.search_terms.specs.BasicChoice.{AreWholeParts, choice_of};
 ghost use Rattle.search_terms.specs.declared.Place.{Place};
 
 /// A pivot keeps the vectors that solve the rows.
@@ -99,17 +99,17 @@ pub fn strong_duality()
 /// And the basic solution is a fractional choice of this value.
 pub fn optimal_choice()
     ensures fractional { (n : Limits) (routes : List Route) (made : ℕ) (t : Rows) (whole : ℕ) (x : ℕ → ℕ) →
-        IsMasterRun n routes made t → IsOptimal t → All (IsRouteIn n) routes → AreParts n routes t whole x →
+        IsMasterRun n routes made t → IsOptimal t → All (IsRouteIn n) routes → AreWholeParts n routes t whole x →
         IsFractional n (choice_of n routes whole x) }
     ensures value { (n : Limits) (routes : List Route) (made : ℕ) (t : Rows) (whole : ℕ) (x : ℕ → ℕ) →
-        IsMasterRun n routes made t → IsOptimal t → All (IsRouteIn n) routes → AreParts n routes t whole x →
+        IsMasterRun n routes made t → IsOptimal t → All (IsRouteIn n) routes → AreWholeParts n routes t whole x →
         number (value_row t) VALUE *ℤ choice_value n (choice_of n routes whole x) ≡ number (value_row t) RIGHT *ℤ pos whole }
 {}
 
 /// Some whole number of parts makes all these shares whole.
 pub fn parts_stand()
     ensures { (n : Limits) (routes : List Route) (made : ℕ) (t : Rows) → IsMasterRun n routes made t →
-        (whole : ℕ) × ((x : ℕ → ℕ) × AreParts n routes t whole x) }
+        (whole : ℕ) × ((x : ℕ → ℕ) × AreWholeParts n routes t whole x) }
 {}
 
 /// Two opening rows open with different variables, so that a price or an extra is the dual number of one row.

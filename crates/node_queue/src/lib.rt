@@ -7,8 +7,6 @@ ghost use Rattle.slab.specs.Slab.{ContainsKey};
 ghost use Rattle.node_queue.specs.Kept.{waits_in};
 ghost use Rattle.node_queue.specs.Waits.{IsLeast, found, keys_of, without};
 
-#[cfg(test)]
-mod tests;
 
 use slab::Slab;
 use std::alloc::{AllocError, Global};

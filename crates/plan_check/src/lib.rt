@@ -2,8 +2,6 @@
 #![tactic(auto)]
 
 mod check;
-#[cfg(test)]
-mod tests;
 mod visits;
 mod within;
 

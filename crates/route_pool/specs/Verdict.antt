@@ -9,10 +9,10 @@ abbrev pub IsNew : List Route → Route → Type 0
 IsNew pool route = All (λ (o : Route). o ≢ route) pool
 
 -- added where it is a route of its team and new, or else the first of the two that fails
-abbrev pub IsVerdict : Limits → List Route → Route → PoolVerdict → Type 0
-IsVerdict n pool r Added = IsRoute n r.team r.visits × IsNew pool r
-IsVerdict n pool r NotRoute = IsRoute n r.team r.visits → ⊥
-IsVerdict n pool r Repeated = IsRoute n r.team r.visits × Contains pool r
+abbrev pub IsPoolVerdict : Limits → List Route → Route → PoolVerdict → Type 0
+IsPoolVerdict n pool r Added = IsRoute n r.team r.visits × IsNew pool r
+IsPoolVerdict n pool r NotRoute = IsRoute n r.team r.visits → ⊥
+IsPoolVerdict n pool r Repeated = IsRoute n r.team r.visits × Contains pool r
 
 -- the pool has the route last where it was added, and else is as before
 abbrev pub pool_after : List Route → Route → List Route → PoolVerdict → Type 0

@@ -1,7 +1,7 @@
 // The pool: routes in their order, none of them twice.
 ghost use Rattle.std.specs.Prelude.{◌≡◌, ◌≢◌, ◌<◌, [], length, slice_index_or, AllPairs, IfOk, OnErr, IsTrue, ◌↔◌};
 ghost use Rattle.crew_terms.specs.Limits.{IsRoute, teams_in};
-ghost use Rattle.route_pool.specs.Verdict.{IsVerdict, pool_after};
+ghost use Rattle.route_pool.specs.Verdict.{IsPoolVerdict, pool_after};
 
 use crate::routes::Route;
 use indexmap::IndexSet;
@@ -64,7 +64,7 @@ impl Pool {
     /// addition. The pool is then as before.
     pub fn add(&mut self, limits: &Limits<'_>, route: Route) -> Result<PoolVerdict, AllocError>
         requires { route.team < teams_in limits.now.limits }
-        ensures verdict { IfOk result (IsVerdict limits.now.limits self.old route) }
+        ensures verdict { IfOk result (IsPoolVerdict limits.now.limits self.old route) }
         ensures pool { IfOk result (pool_after self.old route self.new) }
         ensures err { OnErr result (self.new ≡ self.old) }
     {

@@ -5,7 +5,7 @@ ghost use Rattle.route_pool.specs.Keys.{same_route, route_input};
 ghost use Rattle.route_pool.specs.KeyLaws.{same_route_equiv, same_route_per, same_route_fed};
 ghost use Rattle.route_pool.specs.Numbers.{AreNumbersOf};
 
-use cert_format::Rest;
+use cert_format::LineNumbers;
 use node_limits::Visit;
 use std::alloc::{AllocError, Global};
 use std::hash::{Hash, Hasher};
@@ -38,7 +38,7 @@ impl Route {
 
     /// The route of the team with the visits whose numbers stand at the end of its line: of each visit
     /// its task, and the minute at which it begins.
-    pub fn read(alloc: Global, team: u32, numbers: &Rest<'_>) -> Result<Route, AllocError>
+    pub fn read(alloc: Global, team: u32, numbers: &LineNumbers<'_>) -> Result<Route, AllocError>
         requires { (visits : List TeamVisit) × AreNumbersOf visits numbers.now }
         ensures { IfOk result (λ route. (visits : List TeamVisit) → AreNumbersOf visits numbers.now →
             route ≡ record { team = team; visits = visits }) }

@@ -8,13 +8,13 @@ use Rattle.crew_terms.specs.Rules.{IsInstance}
 use Rattle.crew_terms.specs.Plan.{Plan, unassigned_count}
 use Rattle.crew_terms.specs.Legal.{IsLegal}
 use Rattle.crew_terms.specs.Limits.{Limits, Route, IsLimits, root_limits, tasks_in, teams_in}
-use Rattle.crew_terms.specs.Leaf.{pi_of, rho_of, IsPrice}
+use Rattle.crew_terms.specs.Leaf.{pi_of, rho_of, IsPrice, zero_prices}
 use Rattle.crew_terms.specs.Tree.{Tree, IsSound}
 use Rattle.crew_terms.specs.declared.Side.{Side}
-use Rattle.search_terms.specs.Proven.{PricesProve, zero_prices}
+use Rattle.search_terms.specs.Proven.{PricesProve}
 use Rattle.search_terms.specs.SearchTree.{EachOpen, IfOpen}
 use Rattle.search_terms.specs.Ways.{limits_at, prices_at}
-use Rattle.search_terms.specs.Search.{State, best, IsStep, IsRun, Start, Then, IsStart, Improves, Stays, Betters, IsProved, IsBound}
+use Rattle.search_terms.specs.Search.{SearchState, best, IsSearchStep, IsRun, Start, Then, IsStart, Improves, Stays, Betters, IsProved, IsBound}
 use Rattle.search_laws.proofs.Inside.{shape_of}
 use Rattle.search_laws.proofs.Ways.{each_replaced, ways_from_each, shape_at, tasks_at}
 use Rattle.search_laws.proofs.Steps.{Stands, run_stands, state_sound, new_open}
@@ -26,13 +26,13 @@ abbrev pub RootIsLimits : Type 0
 RootIsLimits = (i : Instance) → IsInstance i → IsLimits (root_limits i)
 
 -- every legal plan leaves at least as many tasks unassigned as the plan and all open leaves prove
-pub proved_plans : TreeProves → (i : Instance) (budget : ℕ) (s : State) (l : ℕ) (p : Plan) → IsInstance i → IsRun i budget s → IsProved i s l → IsLegal i p → l ≤ unassigned_count p
+pub proved_plans : TreeProves → (i : Instance) (budget : ℕ) (s : SearchState) (l : ℕ) (p : Plan) → IsInstance i → IsRun i budget s → IsProved i s l → IsLegal i p → l ≤ unassigned_count p
 proved_plans law i budget s l p is run proved legal =
     let t = state_sound i budget s l (run_stands i budget s run) proved in
     law i t.0 l (best s) p is t.2 legal
 
-pub still_proved : TreeProves → RootIsLimits → (i : Instance) (budget : ℕ) (way : List Side) (pivots : ℕ) (columns more : List Route) (s t : State) (l : ℕ)
-    → IsInstance i → IsRun i budget s → IsStep i way pivots columns more s t → IsProved i s l → IsProved i t l
+pub still_proved : TreeProves → RootIsLimits → (i : Instance) (budget : ℕ) (way : List Side) (pivots : ℕ) (columns more : List Route) (s t : SearchState) (l : ℕ)
+    → IsInstance i → IsRun i budget s → IsSearchStep i way pivots columns more s t → IsProved i s l → IsProved i t l
 still_proved law root_law i budget way pivots columns more s t l is run step proved = record {
   plan = plan (run_stands i budget s run) step.plan;
   leaves = subst (λ u. EachOpen (λ n p. PricesProve n p l) (root_limits i) u) (sym step.tree)
@@ -53,8 +53,8 @@ still_proved law root_law i budget way pivots columns more s t l is run step pro
         let c = proved.plan in
         omega arith
 
-pub bound_rises : TreeProves → RootIsLimits → (i : Instance) (budget : ℕ) (way : List Side) (pivots : ℕ) (columns more : List Route) (s t : State) (b c : ℕ)
-    → IsInstance i → IsRun i budget s → IsStep i way pivots columns more s t → IsBound i s b → IsBound i t c → b ≤ c
+pub bound_rises : TreeProves → RootIsLimits → (i : Instance) (budget : ℕ) (way : List Side) (pivots : ℕ) (columns more : List Route) (s t : SearchState) (b c : ℕ)
+    → IsInstance i → IsRun i budget s → IsSearchStep i way pivots columns more s t → IsBound i s b → IsBound i t c → b ≤ c
 bound_rises law root_law i budget way pivots columns more s t b c is run step low high =
     high.greatest b (still_proved law root_law i budget way pivots columns more s t b is run step low.proved)
 
@@ -96,10 +96,10 @@ zero_proves n =
       );
     }
 
-start_proved : (i : Instance) (budget : ℕ) (s : State) → IsStart i budget s → IsProved i s 0
+start_proved : (i : Instance) (budget : ℕ) (s : SearchState) → IsStart i budget s → IsProved i s 0
 start_proved i budget s h = record { plan = omega arith; leaves = subst (λ t. EachOpen (λ n p. PricesProve n p 0) (root_limits i) t) (sym h.tree) (zero_proves (root_limits i)) }
 
 -- in every state the open leaves' prices have potentials
-pub run_proved : TreeProves → RootIsLimits → (i : Instance) (budget : ℕ) (s : State) → IsInstance i → IsRun i budget s → IsProved i s 0
+pub run_proved : TreeProves → RootIsLimits → (i : Instance) (budget : ℕ) (s : SearchState) → IsInstance i → IsRun i budget s → IsProved i s 0
 run_proved law root_law i budget s is (Start s' start) = start_proved i budget s' start
 run_proved law root_law i budget s is (Then r s' way pivots columns more run step) = still_proved law root_law i budget way pivots columns more r s' 0 is run step (run_proved law root_law i budget r is run)

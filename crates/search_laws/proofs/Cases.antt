@@ -21,16 +21,18 @@ use Rattle.crew_terms.specs.declared.Pair.{Pair}
 use Rattle.crew_terms.specs.declared.Pair.TheVariants.{Free, Forbidden, Required}
 use Rattle.crew_terms.specs.declared.Visit.{Visit}
 use Rattle.crew_terms.specs.Minutes.{required_teams}
-use Rattle.search_terms.specs.Choice.{IsDecided}
+use Rattle.crew_terms.specs.Decided.{IsDecided}
 use Rattle.search_terms.specs.Proven.{PricesProve}
 use Rattle.search_terms.specs.Shares.{visits_to}
 use Rattle.search_terms.specs.Closing.{minute_of, all_cost, IsStuck, ArePricedBy, StuckPrices, CrowdedPrices, ShortPrices, OpenPrices}
-use Rattle.search_laws.proofs.Totals.{total-same, total-le, total-plus, total-zero, total-one, total-front}
+use Rattle.crew_terms.specs.Totals.{total-same, total-le, total-plus, total-zero, total-one, total-front}
+use Rattle.crew_terms.specs.Nodes.{not_required}
+use Rattle.crew_terms.specs.Below.{any_below-some}
 use Rattle.search_laws.proofs.Scales.{times, times-zero, times-suc, times-add, times-of-zero, times-more}
 use Rattle.search_laws.proofs.Duality.{known_route, rewards_total}
 use Rattle.search_laws.proofs.Worths.{EarnsAtMost, routes_prove}
 use Rattle.search_laws.proofs.Required.{IsRequiredPlan}
-use Rattle.search_laws.proofs.Decided.{once, none, leaves_out, any_at}
+use Rattle.search_laws.proofs.Decided.{once, none, leaves_out}
 
 -- a bound that is all tasks' cost proves each number of tasks
 all_proved : (t l : ℕ) (b : ℤ) → l ≤ t → pos (t * D) ≤ℤ b → Proves b l
@@ -39,11 +41,6 @@ all_proved t (suc l) b le h = omega (arith, ints)
 
 required_test : (x : Pair) → x ≡ Required → is_required x ≡ true
 required_test x e = ap is_required e
-
-not_required : (x : Pair) → x ≢ Required → is_required x ≡ false
-not_required Free ne = refl
-not_required Forbidden ne = refl
-not_required Required ne = absurd (ne refl)
 
 tell_required : (x : Pair) → (x ≡ Required) ⊎ (x ≡ Required → ⊥)
 tell_required Free = inr (λ e. let f : Free ≡ Required = e in cc)
@@ -288,7 +285,7 @@ module _ (n : Limits) (is : IsInstance n.instance) (known : (k j : ℕ) → k < 
 
   reward_zero : OpenPrices n p → (k j : ℕ) → k < teams_in n → j < tasks_in n → pair_of n k j ≡ Required → reward p k j ≡ pos 0
   reward_zero priced k j b l e =
-      let some = any_at (teams_in n) (λ h. is_required (pair_of n h j)) k b (required_test (pair_of n k j) e) in
+      let some = any_below-some (teams_in n) (λ h. is_required (pair_of n h j)) k b (required_test (pair_of n k j) e) in
       let t = priced.tasks j l ∙ ap (λ x. cond x (pos 0) (pos (D / (task_of n.instance j).teams))) some in
       let x = zero_pair priced k j in
       omega (arith, ints)

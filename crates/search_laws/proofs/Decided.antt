@@ -7,7 +7,7 @@ use Rattle.crew_terms.specs.Limits.{Limits, IsRoute, GoesOn, IsPermittedVisit, I
 use Rattle.crew_terms.specs.declared.Pair.{Pair}
 use Rattle.crew_terms.specs.declared.Pair.TheVariants.{Free, Forbidden, Required}
 use Rattle.crew_terms.specs.declared.Visit.{Visit}
-use Rattle.search_terms.specs.Choice.{IsDecided, MayBegin}
+use Rattle.crew_terms.specs.Decided.{IsDecided, MayBegin}
 use Rattle.search_terms.specs.Shares.{visits_to}
 use Rattle.search_terms.specs.Closing.{minute_of, IsStuck, NoMinute, NoTime}
 use Rattle.search_laws.proofs.Worths.{positive}
@@ -20,14 +20,6 @@ visits-same v vs j e = let a = visits-cons v vs j in let b : cond {A = ℕ} (eqb
 
 pub visits-other : (v : Visit) (vs : List Visit) (j : ℕ) → v.task ≢ j → visits_to j (v ∷ vs) ≡ visits_to j vs
 visits-other v vs j ne = let a = visits-cons v vs j in let b : cond {A = ℕ} (eqb v.task j) 1 0 ≡ 0 = ap (λ (t : Bool). cond {A = ℕ} t 1 0) (ne_eqb v.task j ne) in omega arith
-
-pub any_at : (m : ℕ) (f : ℕ → Bool) (k : ℕ) → k < m → f k ≡ true → any_below m f ≡ true
-any_at zero f k h e = absurd (omega arith)
-any_at (suc m) f k h e = by (cases_lt k m) (any_at m f k)
-  where
-    by : (k < m) ⊎ (m ≤ k) → (k < m → f k ≡ true → any_below m f ≡ true) → any_below (suc m) f ≡ true
-    by (inl lt) rest = or_left (any_below m f) (f m) (rest lt e)
-    by (inr ge) rest = let s : k ≡ m = omega arith in or_right (any_below m f) (f m) (sym (ap f s) ∙ e)
 
 module _ (n : Limits) (is : IsInstance n.instance) (decided : IsDecided n) (k : ℕ) (below : k < teams_in n) where
   -- each visit is of a required pair, at the one minute

@@ -16,7 +16,7 @@ use Rattle.crew_terms.specs.declared.Pair.{Pair}
 use Rattle.crew_terms.specs.declared.Pair.TheVariants.{Free, Forbidden, Required}
 use Rattle.crew_terms.specs.declared.Visit.{Visit}
 use Rattle.search_terms.specs.Shares.{IsRouteIn, Share, FractionalChoice, IsFractional, unassigned_of, shares_of, parts_of, visits_to, weighed_visits, distance, task_gap, pair_gap, choice_value}
-use Rattle.search_laws.proofs.Totals.{total-same, total-le, total-plus, total-zero, total-one, total-swap}
+use Rattle.crew_terms.specs.Totals.{total-same, total-le, total-plus, total-zero, total-one, total-swap}
 use Rattle.search_laws.proofs.Scales.{times, times-zero, times-suc, times-add, times-plus, times-minus, times-le, times-of-zero, times-more, times-times, times-total, times-apart}
 
 -- ---- a route's rewards, task by task

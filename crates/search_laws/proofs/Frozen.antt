@@ -12,19 +12,11 @@ use Rattle.crew_terms.specs.Legal.{IsJob, KeepsFrozen}
 use Rattle.crew_terms.specs.Limits.{Limits, IsLimits, tasks_in, teams_in, window_of, pair_of, root_limits, root_window, root_pair, is_required, has_required}
 use Rattle.crew_terms.specs.Minutes.{required_teams}
 use Rattle.crew_terms.specs.declared.Pair.TheVariants.{Free, Forbidden, Required}
+use Rattle.crew_terms.specs.Nodes.{window_at_root, pair_at_root}
+use Rattle.crew_terms.specs.Below.{any_below-some}
 use Rattle.search_terms.specs.Inside.{IsInside}
 use Rattle.search_terms.specs.Closing.{minute_of, required_job}
-use Rattle.search_laws.proofs.Decided.{any_at}
 use Rattle.search_laws.proofs.Required.{IsRequiredPlan, RequiredAreListed, one_rising}
-
-window_at_root : (i : Instance) (j : ℕ) → j < length i.tasks → window_of (root_limits i) j ≡ root_window (task_of i j) (job_of i.frozen j)
-window_at_root i j l = get_or-map-range_with_len (λ j. root_window (task_of i j) (job_of i.frozen j)) 0 (length i.tasks) j j (0, 0) l (omega arith)
-
-pair_at_root : (i : Instance) (k j : ℕ) → k < length i.teams → j < length i.tasks → pair_of (root_limits i) k j ≡ root_pair (job_of i.frozen j) k
-pair_at_root i k j m l =
-    let row = λ (k : ℕ). map (λ j. root_pair (job_of i.frozen j) k) (range_with_len 0 (length i.tasks)) in
-    ap (λ pairs. slice_index_or pairs j Free) (get_or-map-range_with_len row 0 (length i.teams) k k [] m (omega arith))
-    ∙ get_or-map-range_with_len (λ j. root_pair (job_of i.frozen j) k) 0 (length i.tasks) j j Free l (omega arith)
 
 -- ---- a test of the teams of a job
 
@@ -94,7 +86,7 @@ module _ (listed : RequiredAreListed) (n : Limits) (is : IsInstance n.instance) 
       let one = (is.parts.tasks j no_task known).teams.some in
       let count = job_is.list.count in
       let c = first_in job.teams (omega arith) in
-      any_at (teams_in n) (λ k. is_required (pair_of n k j)) (get_or job.teams 0 0) (job_is.known _ c) (ap is_required (team_required _ c))
+      any_below-some (teams_in n) (λ k. is_required (pair_of n k j)) (get_or job.teams 0 0) (job_is.known _ c) (ap is_required (team_required _ c))
 
   pub frozen_job : required_job n j ≡ Some job
   frozen_job =

@@ -17,7 +17,8 @@ use Rattle.crew_terms.specs.declared.Side.TheVariants.{First, Second}
 use Rattle.crew_terms.specs.declared.TheConstants.{D}
 use Rattle.search_terms.specs.Inside.{IsInside, IsNode}
 use Rattle.search_terms.specs.Proven.{PricesProve}
-use Rattle.search_laws.proofs.Totals.{total-le}
+use Rattle.crew_terms.specs.Totals.{total-le}
+use Rattle.crew_terms.specs.Nodes.{required_is}
 
 -- ---- numbers that are proved
 
@@ -42,11 +43,6 @@ any_more (suc n) f g h e = by (or_cases (any_below n f) (f n) e) (any_more n f g
     by : (any_below n f ≡ true) ⊎ (f n ≡ true) → (any_below n f ≡ true → any_below n g ≡ true) → any_below (suc n) g ≡ true
     by (inl a) rest = or_left (any_below n g) (g n) (rest a)
     by (inr a) rest = or_right (any_below n g) (g n) (h n a)
-
-pub required_is : (p : Pair) → is_required p ≡ true → p ≡ Required
-required_is Free e = absurd (both_ways false refl e)
-required_is Forbidden e = absurd (both_ways false refl e)
-required_is Required e = refl
 
 -- n with other windows and pairs
 abbrev pub changed : Limits → List (ℕ × ℕ) → List (List Pair) → Limits

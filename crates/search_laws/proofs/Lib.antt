@@ -1,4 +1,3 @@
-pub mod Totals
 pub mod Scales
 pub mod Inside
 pub mod Ways

@@ -7,6 +7,7 @@ use Rattle.crew_terms.specs.Plan.{Plan, job_of}
 use Rattle.crew_terms.specs.Limits.{Limits, tasks_in, teams_in, pair_of}
 use Rattle.crew_terms.specs.Minutes.{IsListOf, required_teams}
 use Rattle.crew_terms.specs.declared.Pair.TheVariants.{Required}
+use Rattle.crew_terms.specs.Rising.{rises_at, rises_tail, above_head}
 use Rattle.search_terms.specs.Closing.{required_job, required_plan}
 
 -- the plan has the required jobs
@@ -25,16 +26,6 @@ abbrev pub RequiredAreListed : Type 0
 RequiredAreListed = (n : Limits) (j : ℕ) → IsListOf (λ k. (k < teams_in n) × (pair_of n k j ≡ Required)) (required_teams n j)
 
 -- ---- rising lists of the same numbers are one list
-
-rises_at : (xs : List ℕ) → IsStrictlyIncreasing xs → (i : ℕ) → suc i < length xs → get_or xs i 0 < get_or xs (suc i) 0
-rises_at xs r i h = let e : i + 1 ≡ suc i = omega arith in subst (λ z. get_or xs i 0 < get_or xs z 0) e (r i (omega arith))
-
-rises_tail : (x : ℕ) (xs : List ℕ) → IsStrictlyIncreasing (x ∷ xs) → IsStrictlyIncreasing xs
-rises_tail x xs r k h = let e : suc k ≡ k + 1 = omega arith in subst (λ z. get_or xs k 0 < get_or xs z 0) e (rises_at (x ∷ xs) r (suc k) (omega arith))
-
-above_head : (x : ℕ) (xs : List ℕ) → IsStrictlyIncreasing (x ∷ xs) → (i : ℕ) → i < length xs → x < get_or xs i 0
-above_head x xs r zero h = rises_at (x ∷ xs) r 0 (omega arith)
-above_head x xs r (suc i) h = let a = above_head x xs r i (omega arith) in let b : get_or xs i 0 < get_or xs (suc i) 0 = rises_at (x ∷ xs) r (suc i) (omega arith) in omega arith
 
 above : (x : ℕ) (xs : List ℕ) → IsStrictlyIncreasing (x ∷ xs) → (k : ℕ) → Contains xs k → x < k
 above x xs r k (i, l, e) = let a = above_head x xs r i l in let b : get_or xs i 0 ≡ get_or xs i k = get_same xs i 0 k l in omega arith

@@ -17,7 +17,7 @@ use Rattle.search_terms.specs.Earned as earned
 use Rattle.search_terms.specs.Earned.{Why, Loose, Overflowed, Spent, AreLegalOf, Kept, Left, RunIsSpent, RunOverflows, IsEarned}
 use Rattle.search_terms.specs.SearchTree.{SearchTree}
 use Rattle.search_terms.specs.Ways.{limits_at, prices_at, IsOpenAt, replaced}
-use Rattle.search_terms.specs.Search.{State, best, Becomes, Closes, Splits, IsSearchRun, Starts, Goes}
+use Rattle.search_terms.specs.Search.{SearchState, best, Becomes, Closes, Splits, IsSearchRun, Starts, Goes}
 use Rattle.search_terms.specs.Caused.{IsRunShown, AreRunsShown}
 use Rattle.search_laws.proofs.Potentials.{Told, tell_visit, tell_step, tell_lt, both, through}
 
@@ -117,7 +117,7 @@ runs_replaced columns n (SplitNode split first second) [] new o h k = elim o [ ]
 runs_replaced columns n (SplitNode split first second) (First ∷ way) new o h k = (h.0, runs_replaced columns (child n split.choice First) first way new o h.1 k, h.2)
 runs_replaced columns n (SplitNode split first second) (Second ∷ way) new o h k = (h.0, h.1, runs_replaced columns (child n split.choice Second) second way new o h.2 k)
 
-pub runs_shown : (i : Instance) (budget : ℕ) (kept pool : List Route) (s : State) → IsSearchRun i budget kept pool s → AreRunsShown pool (root_limits i) s.tree
+pub runs_shown : (i : Instance) (budget : ℕ) (kept pool : List Route) (s : SearchState) → IsSearchRun i budget kept pool s → AreRunsShown pool (root_limits i) s.tree
 runs_shown i budget kept pool s (Starts s' start) = subst (AreRunsShown kept (root_limits i)) (sym start.tree) tt
 runs_shown i budget kept pool s (Goes columns pool' r t way run step) =
     let before = runs_shown i budget kept columns r run in

@@ -7,7 +7,7 @@ use Rattle.crew_terms.specs.Tree.{Tree, Priced, IsSound, child}
 use Rattle.crew_terms.specs.declared.Side.TheVariants.{First, Second}
 use Rattle.search_terms.specs.Proven.{PricesProve}
 use Rattle.search_terms.specs.SearchTree.{SearchTree, SearchLeaf, OpenLeaf, ClosedLeaf, EachLeaf, EachOpen, IsTreeOf, IsClaimOf, closed_leaves}
-use Rattle.search_terms.specs.Search.{State, best, IsHandedOut, Whole, Untaken}
+use Rattle.search_terms.specs.Search.{SearchState, best, IsHandedOut, Whole, Untaken}
 use Rattle.search_laws.proofs.Inside.{proves_less}
 use Rattle.search_laws.proofs.Ways.{AreValid}
 
@@ -37,10 +37,10 @@ sound_tree (SplitNode split first second) n l u le opened closed_too valid =
 
 -- ---- what is handed out
 
-abbrev pub HandedOut : State → Limits → ℕ → ℕ → Type 0
+abbrev pub HandedOut : SearchState → Limits → ℕ → ℕ → Type 0
 HandedOut s n l u = (t : Tree) × IsHandedOut s t × IsSound t n l u
 
-pub handed_sound : (s : State) (n : Limits) (l : ℕ) → SoundTree s.tree n l (best s) → HandedOut s n l (best s)
+pub handed_sound : (s : SearchState) (n : Limits) (l : ℕ) → SoundTree s.tree n l (best s) → HandedOut s n l (best s)
 handed_sound s n l (t, has, sound) = (t, Whole has, sound)
 
 claim_counts : (leaf : SearchLeaf) (claim : Claim Priced) → IsClaimOf leaf claim → closed {S = Tree} (LeafNode claim) ≡ closed_leaves (LeafNode leaf)
@@ -58,7 +58,7 @@ tree_counts (SplitNode split first second) (LeafNode claim) h = elim h [ ]
 tree_counts (SplitNode split first second) (SplitNode choice low high) (e, h, k) =
     let a = tree_counts first low h in let b = tree_counts second high k in omega arith
 
-pub handed_counts : (s : State) (t : Tree) → IsHandedOut s t → splits t + closed t ≡ splits s.tree + closed_leaves s.tree
+pub handed_counts : (s : SearchState) (t : Tree) → IsHandedOut s t → splits t + closed t ≡ splits s.tree + closed_leaves s.tree
 handed_counts s t (Whole has) = tree_counts s.tree t has
 handed_counts s t (Untaken prices root none is) =
     let a = ap splits is in let b = ap closed is in let c = ap splits root in let d = ap closed_leaves root in omega arith

@@ -12,7 +12,7 @@ use Rattle.search_terms.specs.declared.TheConstants.{PIVOTS}
 use Rattle.search_terms.specs.Proven.{PricesProve}
 use Rattle.search_terms.specs.SearchTree.{SearchTree, OpenLeaf, ClosedLeaf, EachOpen, closed_leaves}
 use Rattle.search_terms.specs.Ways.{limits_at, prices_at}
-use Rattle.search_terms.specs.Search.{State, best, IsStart, IsStep, IsRun, Start, Then, Improves, Stays, Betters, Becomes, Closes, Splits, IsHandedOn, Found, Own, IsKeepable, IsProved, IsSearchRun, Starts, Goes}
+use Rattle.search_terms.specs.Search.{SearchState, best, IsStart, IsSearchStep, IsRun, Start, Then, Improves, Stays, Betters, Becomes, Closes, Splits, IsHandedOn, Found, Own, IsKeepable, IsProved, IsSearchRun, Starts, Goes}
 use Rattle.search_laws.proofs.Inside.{HasShape, child_proves, less_proved}
 use Rattle.search_laws.proofs.Ways.{AreValid, valid_replaced, each_replaced, count_replaced}
 use Rattle.search_laws.proofs.Sound.{IfClosed, EachClosed, SoundTree, sound_tree}
@@ -50,13 +50,13 @@ closed_weaker P Q f n (LeafNode (OpenLeaf p)) each = tt
 closed_weaker P Q f n (LeafNode (ClosedLeaf p)) each = f n p each
 closed_weaker P Q f n (SplitNode split first second) each = (closed_weaker P Q f (child n split.choice First) first each.0, closed_weaker P Q f (child n split.choice Second) second each.1)
 
-pub record Stands (i : Instance) (budget : ℕ) (s : State) : Type 0 where
+pub record Stands (i : Instance) (budget : ℕ) (s : SearchState) : Type 0 where
   pub plan : IsKeepable i s.plan
   pub closed : EachClosed (λ n p. PricesProve n p (best s)) (root_limits i) s.tree
   pub valid : AreValid (root_limits i) s.tree
   pub count : splits s.tree + closed_leaves s.tree + s.left ≡ budget
 
-stands_start : (i : Instance) (budget : ℕ) (s : State) → IsStart i budget s → Stands i budget s
+stands_start : (i : Instance) (budget : ℕ) (s : SearchState) → IsStart i budget s → Stands i budget s
 stands_start i budget s h = record {
   plan = h.plan;
   closed = subst (λ t. EachClosed (λ n p. PricesProve n p (best s)) (root_limits i) t) (sym h.tree) tt;
@@ -72,7 +72,7 @@ kept_plan : (i : Instance) (p q : Plan) → IsKeepable i p → Improves i p q �
 kept_plan i p q h (Stays same) = subst (IsKeepable i) (sym same) h
 kept_plan i p q h (Betters plan fewer) = plan
 
-stands_step : (i : Instance) (budget : ℕ) (way : List Side) (pivots : ℕ) (columns more : List Route) (s t : State) → Stands i budget s → IsStep i way pivots columns more s t → Stands i budget t
+stands_step : (i : Instance) (budget : ℕ) (way : List Side) (pivots : ℕ) (columns more : List Route) (s t : SearchState) → Stands i budget s → IsSearchStep i way pivots columns more s t → Stands i budget t
 stands_step i budget way pivots columns more s t h step =
     let root = root_limits i in
     let here = limits_at root s.tree way in
@@ -93,14 +93,14 @@ stands_step i budget way pivots columns more s t h step =
           omega arith;
     }
 
-pub run_stands : (i : Instance) (budget : ℕ) (s : State) → IsRun i budget s → Stands i budget s
+pub run_stands : (i : Instance) (budget : ℕ) (s : SearchState) → IsRun i budget s → Stands i budget s
 run_stands i budget s (Start s' start) = stands_start i budget s' start
 run_stands i budget s (Then r s' way pivots columns more run step) = stands_step i budget way pivots columns more r s' (run_stands i budget r run) step
 
-pub search_run : (i : Instance) (budget : ℕ) (kept pool : List Route) (s : State) → IsSearchRun i budget kept pool s → IsRun i budget s
+pub search_run : (i : Instance) (budget : ℕ) (kept pool : List Route) (s : SearchState) → IsSearchRun i budget kept pool s → IsRun i budget s
 search_run i budget kept pool s (Starts s' start) = Start s' start
 search_run i budget kept pool s (Goes columns pool' r s' way run step) = Then r s' way PIVOTS columns pool' (search_run i budget kept columns r run) step
 
 -- the tree of a state is sound with what every open leaf proves, and with what the plan leaves unassigned
-pub state_sound : (i : Instance) (budget : ℕ) (s : State) (l : ℕ) → Stands i budget s → IsProved i s l → SoundTree s.tree (root_limits i) l (best s)
+pub state_sound : (i : Instance) (budget : ℕ) (s : SearchState) (l : ℕ) → Stands i budget s → IsProved i s l → SoundTree s.tree (root_limits i) l (best s)
 state_sound i budget s l h proved = sound_tree s.tree (root_limits i) l (best s) proved.plan proved.leaves h.closed h.valid

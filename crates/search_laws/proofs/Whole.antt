@@ -10,21 +10,14 @@ use Rattle.crew_terms.specs.Rules.{IsInstance}
 use Rattle.crew_terms.specs.Limits.{Limits, IsLimits, IsWithin, IsPermittedVisit, tasks_in, teams_in, window_of, pair_of, is_required, has_required, any_below}
 use Rattle.crew_terms.specs.declared.Pair.TheVariants.{Free, Forbidden, Required}
 use Rattle.crew_terms.specs.Minutes.{required_teams}
-use Rattle.search_terms.specs.Choice.{IsDecided}
+use Rattle.crew_terms.specs.Decided.{IsDecided}
+use Rattle.crew_terms.specs.Nodes.{required_is}
+use Rattle.crew_terms.specs.Below.{any_below-some, some_below}
 use Rattle.search_terms.specs.Closing.{minute_of, IsStuck, NoMinute, NoTime}
-use Rattle.search_laws.proofs.Inside.{required_is}
 use Rattle.search_laws.proofs.Worths.{positive}
 use Rattle.search_laws.proofs.Potentials.{tell_visit, tell_follow}
-use Rattle.search_laws.proofs.Decided.{of_required, any_at}
+use Rattle.search_laws.proofs.Decided.{of_required}
 use Rattle.search_laws.proofs.Required.{IsRequiredPlan, RequiredAreListed, one_rising}
-
-pub any_found : (m : ℕ) (f : ℕ → Bool) → any_below m f ≡ true → (k : ℕ) × (k < m) × (f k ≡ true)
-any_found zero f e = absurd (both_ways false refl e)
-any_found (suc m) f e = by (or_cases (any_below m f) (f m) e) (any_found m f)
-  where
-    by : (any_below m f ≡ true) ⊎ (f m ≡ true) → (any_below m f ≡ true → (k : ℕ) × (k < m) × (f k ≡ true)) → (k : ℕ) × (k < suc m) × (f k ≡ true)
-    by (inl a) rest = let r = rest a in (r.0, omega (arith, r.1), r.2)
-    by (inr a) rest = (m, omega arith, a)
 
 -- a required pair is of a task
 pub known_required : (n : Limits) → IsLimits n → (k j : ℕ) → k < teams_in n → pair_of n k j ≡ Required → j < tasks_in n
@@ -75,7 +68,7 @@ module _ (listed : RequiredAreListed) (n : Limits) (is : IsInstance n.instance) 
     -- every legal plan of the node has these jobs
     same_job : (r : Plan) → IsLegal n.instance r → IsWithin n r → (j : ℕ) → j < tasks_in n → (o : Option Job) → job_of r j ≡ o → (b : Bool) → has_required n j ≡ b → job_of r j ≡ job_of q j
     same_job r legal within j b None e true f =
-        let x = any_found (teams_in n) (λ k. is_required (pair_of n k j)) f in
+        let x = some_below (teams_in n) (λ k. is_required (pair_of n k j)) f in
         let d = within.required x.0 j x.1 b (required_is (pair_of n x.0 j) x.2) in
         absurd (let g : None ≡ Some d.1.0 = sym e ∙ d.1.1 in cc)
     same_job r legal within j b None e false f = e ∙ sym (none_at j f b)
@@ -104,7 +97,7 @@ module _ (listed : RequiredAreListed) (n : Limits) (is : IsInstance n.instance) 
         let job_is = legal.feasible.jobs j job e in
         let l : 0 < length job.teams = let x = job_is.list.count in let y = (is.parts.tasks j no_task b).teams.some in omega arith in
         let d = does_required r legal within (get_or job.teams 0 0) j job.start (job, e, refl, (0, l, refl_at job.teams l)) in
-        absurd (both_ways (has_required n j) f (any_at (teams_in n) (λ k. is_required (pair_of n k j)) (get_or job.teams 0 0) d.0 (ap is_required d.2)))
+        absurd (both_ways (has_required n j) f (any_below-some (teams_in n) (λ k. is_required (pair_of n k j)) (get_or job.teams 0 0) d.0 (ap is_required d.2)))
       where
         refl_at : (xs : List ℕ) → 0 < length xs → get_or xs 0 (get_or xs 0 0) ≡ get_or xs 0 0
         refl_at [] h = absurd (omega arith)
@@ -132,7 +125,7 @@ module _ (listed : RequiredAreListed) (n : Limits) (is : IsInstance n.instance) 
       early = λ j job e. early j job e (cases_lt j (tasks_in n)) (cases_Bool (has_required n j));
       late = λ j job e. late j job e (cases_lt j (tasks_in n)) (cases_Bool (has_required n j));
       forbidden = λ k j t d e. (let f : Required ≡ Forbidden = sym (does_at k j t d).2 ∙ e in cc);
-      required = λ k j a b e. (minute_of n j, (record { start = minute_of n j; teams = required_teams n j }, job_at j (any_at (teams_in n) (λ h. is_required (pair_of n h j)) k a (ap is_required e)) b, refl, in_row j k a e));
+      required = λ k j a b e. (minute_of n j, (record { start = minute_of n j; teams = required_teams n j }, job_at j (any_below-some (teams_in n) (λ h. is_required (pair_of n h j)) k a (ap is_required e)) b, refl, in_row j k a e));
     }
       where
         start : (j : ℕ) (job : Job) → job_of q j ≡ Some job → (j < tasks_in n) ⊎ (tasks_in n ≤ j) → (has_required n j ≡ true) ⊎ (has_required n j ≡ false) → (job.start ≡ minute_of n j) × (j < tasks_in n)
@@ -205,4 +198,4 @@ module _ (listed : RequiredAreListed) (n : Limits) (is : IsInstance n.instance) 
           does_required_task : (k g : ℕ) → k < teams_in n → pair_of n k g ≡ Required → Does q k g (minute_of n g)
           does_required_task k g b z =
               let lt = known_required n limits k g b z in
-              (record { start = minute_of n g; teams = required_teams n g }, job_at g (any_at (teams_in n) (λ h. is_required (pair_of n h g)) k b (ap is_required z)) lt, refl, in_row g k b z)
+              (record { start = minute_of n g; teams = required_teams n g }, job_at g (any_below-some (teams_in n) (λ h. is_required (pair_of n h g)) k b (ap is_required z)) lt, refl, in_row g k b z)

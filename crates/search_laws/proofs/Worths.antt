@@ -9,7 +9,7 @@ use Rattle.crew_terms.specs.Leaf.{Prices, AreInRange, IsOnRequired, IsValidLeaf,
 use Rattle.crew_terms.specs.Total.{total}
 use Rattle.crew_terms.specs.declared.Visit.{Visit}
 use Rattle.search_terms.specs.Proven.{PricesProve}
-use Rattle.search_laws.proofs.Totals.{total-le}
+use Rattle.crew_terms.specs.Totals.{total-le}
 use Rattle.search_laws.proofs.Inside.{proves_more}
 use Rattle.search_laws.proofs.Potentials.{potential, greatest_worth, holds, reached}
 

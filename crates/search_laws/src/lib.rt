@@ -18,11 +18,12 @@ ghost use Rattle.crew_terms.specs.declared.Side.{Side};
 ghost use Rattle.crew_terms.specs.declared.TheConstants.{D};
 ghost use Rattle.crew_terms.specs.declared.Visit.{Visit};
 ghost use Rattle.search_terms.specs.Caused.{AreLooseShown, AreRunsShown, IsCaused, IsLooseShown, LooseProves};
-ghost use Rattle.search_terms.specs.Choice.{IsDecided, IsValidChoice};
+ghost use Rattle.search_terms.specs.Choice.{IsValidChoice};
+ghost use Rattle.crew_terms.specs.Decided.{IsDecided};
 ghost use Rattle.search_terms.specs.Closing.{AreRequiredVisits, AreStaffed, CrowdedPrices, HasNoPlan, HasOnePlan, IsCrowded, IsShort, IsStuck, NoneIsStuck, OpenPrices, ShortPrices, StuckPrices, required_plan};
 ghost use Rattle.search_terms.specs.Inside.{IsInside, IsNode};
 ghost use Rattle.search_terms.specs.Proven.{PricesProve};
-ghost use Rattle.search_terms.specs.Search.{Becomes, IsBound, IsHandedOut, IsKeepable, IsProved, IsRun, IsSearchRun, IsSearched, IsSplit, IsStep, Outcome, State, best};
+ghost use Rattle.search_terms.specs.Search.{Becomes, IsBound, IsHandedOut, IsKeepable, IsProved, IsRun, IsSearchRun, IsSearched, IsSplit, IsSearchStep, SearchOutcome, SearchState, best};
 ghost use Rattle.search_terms.specs.SearchTree.{ClosedLeaf, EachOpen, IsTreeOf, OpenLeaf, SearchTree, Split, causes, closed_leaves};
 ghost use Rattle.search_terms.specs.Shares.{FractionalChoice, IsFractional, IsLoose, choice_value, visits_to};
 ghost use Rattle.search_terms.specs.Ways.{CameFrom, IsOpenAt, StaysOpen, limits_at, prices_at, replaced};
@@ -91,7 +92,7 @@ pub fn search_nodes()
     ensures root { (i : Instance) → IsInstance i → IsNode (root_limits i) }
     ensures children { (n : Limits) (choice : Choice) (side : Side) → IsNode n → CanSplit n choice →
         IsNode (child n choice side) }
-    ensures search { (i : Instance) (budget : ℕ) (s : State) (way : List Side) → IsInstance i → IsRun i budget s →
+    ensures search { (i : Instance) (budget : ℕ) (s : SearchState) (way : List Side) → IsInstance i → IsRun i budget s →
         IsNode (limits_at (root_limits i) s.tree way) }
 {
     root_is_limits();
@@ -164,20 +165,20 @@ pub fn decided_cases()
 /// After any steps, whichever open leaves they took, the tree is sound with what the open leaves prove and what
 /// the plan leaves unassigned: with each number up to the bound, and so with the bound.
 pub fn run_is_sound()
-    ensures { (i : Instance) (budget : ℕ) (s : State) (l : ℕ) → IsRun i budget s → IsProved i s l →
+    ensures { (i : Instance) (budget : ℕ) (s : SearchState) (l : ℕ) → IsRun i budget s → IsProved i s l →
         (t : Tree) × IsTreeOf s.tree t × IsSound t (root_limits i) l (best s) }
 {}
 
 /// After any steps the plan is legal and packed, and splits, closed leaves and the steps that are left make the budget.
 pub fn run_keeps()
-    ensures plan { (i : Instance) (budget : ℕ) (s : State) → IsRun i budget s → IsKeepable i s.plan }
-    ensures count { (i : Instance) (budget : ℕ) (s : State) → IsRun i budget s →
+    ensures plan { (i : Instance) (budget : ℕ) (s : SearchState) → IsRun i budget s → IsKeepable i s.plan }
+    ensures count { (i : Instance) (budget : ℕ) (s : SearchState) → IsRun i budget s →
         splits s.tree + closed_leaves s.tree + s.left ≡ budget }
 {}
 
 /// After any steps no legal plan leaves fewer tasks unassigned than the bound.
 pub fn bound_holds()
-    ensures { (i : Instance) (budget : ℕ) (s : State) (b : ℕ) (p : Plan) → IsInstance i → IsRun i budget s → IsBound i s b →
+    ensures { (i : Instance) (budget : ℕ) (s : SearchState) (b : ℕ) (p : Plan) → IsInstance i → IsRun i budget s → IsBound i s b →
         IsLegal i p → b ≤ unassigned_count p }
 {
     root_tree_proves();
@@ -185,13 +186,13 @@ pub fn bound_holds()
 
 /// In a step the bound does not fall: what was proved stays proved. And the plan gets no worse.
 pub fn steps_improve()
-    ensures proved { (i : Instance) (budget : ℕ) (way : List Side) (pivots : ℕ) (columns more : List Route) (s t : State)
-        (l : ℕ) → IsInstance i → IsRun i budget s → IsStep i way pivots columns more s t → IsProved i s l → IsProved i t l }
-    ensures bound { (i : Instance) (budget : ℕ) (way : List Side) (pivots : ℕ) (columns more : List Route) (s t : State)
-        (b c : ℕ) → IsInstance i → IsRun i budget s → IsStep i way pivots columns more s t →
+    ensures proved { (i : Instance) (budget : ℕ) (way : List Side) (pivots : ℕ) (columns more : List Route) (s t : SearchState)
+        (l : ℕ) → IsInstance i → IsRun i budget s → IsSearchStep i way pivots columns more s t → IsProved i s l → IsProved i t l }
+    ensures bound { (i : Instance) (budget : ℕ) (way : List Side) (pivots : ℕ) (columns more : List Route) (s t : SearchState)
+        (b c : ℕ) → IsInstance i → IsRun i budget s → IsSearchStep i way pivots columns more s t →
         IsBound i s b → IsBound i t c → b ≤ c }
-    ensures best { (i : Instance) (way : List Side) (pivots : ℕ) (columns more : List Route) (s t : State) →
-        IsStep i way pivots columns more s t → best t ≤ best s }
+    ensures best { (i : Instance) (way : List Side) (pivots : ℕ) (columns more : List Route) (s t : SearchState) →
+        IsSearchStep i way pivots columns more s t → best t ≤ best s }
 {
     root_tree_proves();
     root_is_limits();
@@ -199,7 +200,7 @@ pub fn steps_improve()
 
 /// After any steps each open leaf's prices have worths and potentials in its node: they prove 0.
 pub fn leaves_have_potentials()
-    ensures { (i : Instance) (budget : ℕ) (s : State) → IsInstance i → IsRun i budget s → IsProved i s 0 }
+    ensures { (i : Instance) (budget : ℕ) (s : SearchState) → IsInstance i → IsRun i budget s → IsProved i s 0 }
 {
     root_tree_proves();
     root_is_limits();
@@ -233,22 +234,22 @@ pub fn ways_are_leaves()
 
 /// A run over a pool is a run.
 pub fn search_run_is_run()
-    ensures { (i : Instance) (budget : ℕ) (kept pool : List Route) (s : State) →
+    ensures { (i : Instance) (budget : ℕ) (kept pool : List Route) (s : SearchState) →
         IsSearchRun i budget kept pool s → IsRun i budget s }
 {}
 
 /// A search can hand out a tree that is sound with each number up to its bound.
 pub fn handed_out_is_sound()
-    ensures { (i : Instance) (budget : ℕ) (s : State) (l : ℕ) → IsRun i budget s → IsProved i s l →
+    ensures { (i : Instance) (budget : ℕ) (s : SearchState) (l : ℕ) → IsRun i budget s → IsProved i s l →
         (t : Tree) × IsHandedOut s t × IsSound t (root_limits i) l (best s) }
 {}
 
 /// The plan that a search hands out is legal and packed, and the splits and the closed leaves of its tree and the steps
 /// that are left make its budget.
 pub fn searched_outcomes()
-    ensures plan { (i : Instance) (budget : ℕ) (kept : List Route) (o : Outcome) (s : State) →
+    ensures plan { (i : Instance) (budget : ℕ) (kept : List Route) (o : SearchOutcome) (s : SearchState) →
         IsSearched i budget kept o s → IsKeepable i o.plan }
-    ensures count { (i : Instance) (budget : ℕ) (kept : List Route) (o : Outcome) (s : State) → IsSearched i budget kept o s →
+    ensures count { (i : Instance) (budget : ℕ) (kept : List Route) (o : SearchOutcome) (s : SearchState) → IsSearched i budget kept o s →
         splits o.tree + closed o.tree + s.left ≡ budget }
 {}
 
@@ -258,8 +259,8 @@ pub fn loose_splits_stay_shown()
     ensures new { (now pivots : ℕ) (columns : List Route) (n : Limits) (own handed : Prices) (split : Split)
         (is : IsSplit now pivots columns n own handed split) → IsLimits n → LooseProves n is.found split.cause.why →
         IsLooseShown n (SplitNode split (LeafNode (OpenLeaf handed)) (LeafNode (OpenLeaf handed))) split.cause.why }
-    ensures step { (i : Instance) (way : List Side) (pivots : ℕ) (columns more : List Route) (s t : State)
-        (step : IsStep i way pivots columns more s t) → IsInstance i →
+    ensures step { (i : Instance) (way : List Side) (pivots : ℕ) (columns more : List Route) (s t : SearchState)
+        (step : IsSearchStep i way pivots columns more s t) → IsInstance i →
         AreLooseShown (limits_at (root_limits i) s.tree way) step.new →
         AreLooseShown (root_limits i) s.tree → AreLooseShown (root_limits i) t.tree }
 {
@@ -268,13 +269,13 @@ pub fn loose_splits_stay_shown()
 
 /// The run of the master over the whole pool shows the overflow or the spent pivots for which a search split a node.
 pub fn runs_stay_shown()
-    ensures { (i : Instance) (budget : ℕ) (kept pool : List Route) (s : State) → IsSearchRun i budget kept pool s →
+    ensures { (i : Instance) (budget : ℕ) (kept pool : List Route) (s : SearchState) → IsSearchRun i budget kept pool s →
         AreRunsShown pool (root_limits i) s.tree }
 {}
 
 /// What a search hands out is caused, where its loose splits are shown.
 pub fn searches_are_caused()
-    ensures { (i : Instance) (budget : ℕ) (kept : List Route) (o : Outcome) (s : State) → IsSearched i budget kept o s →
+    ensures { (i : Instance) (budget : ℕ) (kept : List Route) (o : SearchOutcome) (s : SearchState) → IsSearched i budget kept o s →
         AreLooseShown (root_limits i) s.tree → IsCaused i budget kept o (causes s.tree) }
 {
     runs_stay_shown();

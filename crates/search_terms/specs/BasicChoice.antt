@@ -35,7 +35,7 @@ choice_of n routes whole x = record {
 }
 
 -- x are whole numbers of parts, for the routes and the unassigned shares
-pub record AreParts (n : Limits) (routes : List Route) (t : Rows) (whole : ℕ) (x : ℕ → ℕ) : Type 0 where
+pub record AreWholeParts (n : Limits) (routes : List Route) (t : Rows) (whole : ℕ) (x : ℕ → ℕ) : Type 0 where
   pub some : 1 ≤ whole
   pub of_routes : (i : ℕ) → i < length routes → HasParts t whole (length (places n) + i) (x (length (places n) + i))
   pub of_tasks : (i j : ℕ) → i < length (places n) → place_at (places n) i ≡ Unassigned j → HasParts t whole i (x i)

@@ -8,8 +8,8 @@ use Rattle.search_terms.specs.declared.TheConstants.{MARGIN, PIVOTS}
 use Rattle.search_terms.specs.Shares.{FractionalChoice, choice_value}
 use Rattle.search_terms.specs.Proven.{PricesProve}
 use Rattle.search_terms.specs.Earned.{Why, Loose, Overflowed, Spent, RunIsSpent, RunOverflows}
-use Rattle.search_terms.specs.SearchTree.{SearchTree, Cause, EachOpen, EachSplit, causes}
-use Rattle.search_terms.specs.Search.{State, Outcome, IsSearched}
+use Rattle.search_terms.specs.SearchTree.{SearchTree, SplitCause, EachOpen, EachSplit, causes}
+use Rattle.search_terms.specs.Search.{SearchState, SearchOutcome, IsSearched}
 
 -- the value of a choice, less a thousandth of a task, proves l
 abbrev pub NearlyProves : Limits → FractionalChoice → ℕ → Type 0
@@ -47,8 +47,8 @@ LooseProves n found (Overflowed fault) = Unit {0}
 LooseProves n found Spent = Unit {0}
 
 -- a run of the search made the outcome, with these causes of its splits in preorder, and each split shows its own
-pub record IsCaused (i : Instance) (budget : ℕ) (kept : List Route) (outcome : Outcome) (whys : List Cause) : Type 0 where
-  pub state : State
+pub record IsCaused (i : Instance) (budget : ℕ) (kept : List Route) (outcome : SearchOutcome) (whys : List SplitCause) : Type 0 where
+  pub state : SearchState
   pub searched : IsSearched i budget kept outcome state
   pub causes : whys ≡ causes state.tree
   pub loose : AreLooseShown (root_limits i) state.tree

@@ -10,7 +10,7 @@ use Rattle.crew_terms.specs.Leaf.{Prices, pi_of, rho_of}
 use Rattle.crew_terms.specs.declared.Pair.TheVariants.{Required}
 use Rattle.crew_terms.specs.declared.Visit.{Visit}
 use Rattle.crew_terms.specs.declared.TheConstants.{D}
-use Rattle.search_terms.specs.Choice.{MayBegin}
+use Rattle.crew_terms.specs.Decided.{MayBegin}
 use Rattle.search_terms.specs.Proven.{PricesProve}
 
 -- the one minute of a task in a decided node

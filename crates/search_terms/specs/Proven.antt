@@ -1,6 +1,6 @@
 -- what prices prove in a node
-use Rattle.std.specs.Prelude.{◌≤◌, ℕ, ℤ, pos, List, replicate}
-use Rattle.crew_terms.specs.Limits.{Limits, tasks_in, teams_in}
+use Rattle.std.specs.Prelude.{◌≤◌, ℕ, ℤ, List}
+use Rattle.crew_terms.specs.Limits.{Limits, tasks_in}
 use Rattle.crew_terms.specs.Leaf.{Prices}
 use Rattle.crew_terms.specs.Tree.{ProvesIn}
 
@@ -19,7 +19,3 @@ pub record IsProvedCount (n : Limits) (prices : Prices) (l : ℕ) : Type 0 where
   pub most : l ≤ tasks_in n
   pub proved : PricesProve n prices l
   pub greatest : (m : ℕ) → m ≤ tasks_in n → PricesProve n prices m → m ≤ l
-
--- 0 for each task and each pair
-abbrev pub zero_prices : Limits → Prices
-zero_prices n = record { pi = replicate (tasks_in n) (pos 0); rho = replicate (teams_in n) (replicate (tasks_in n) (pos 0)) }

@@ -9,14 +9,14 @@ use Rattle.crew_terms.specs.declared.Side.TheVariants.{First, Second}
 use Rattle.search_terms.specs.Earned.{Why}
 
 -- how many tasks the plan of the step left unassigned, and why it split the node
-pub record Cause : Type 0 where
+pub record SplitCause : Type 0 where
   pub now : ℕ
   pub why : Why
 
 -- how a node is split, and the cause
 pub record Split : Type 0 where
   pub choice : Choice
-  pub cause : Cause
+  pub cause : SplitCause
 
 -- a leaf with its prices: still open, or closed by them
 pub data SearchLeaf : Type 0 where
@@ -43,7 +43,7 @@ abbrev pub EachOpen : (Limits → Prices → Type 0) → Limits → SearchTree �
 EachOpen P n t = EachLeaf (IfOpen P) n t
 
 -- P holds of each split: of the limits of its node, of its cause, and of the tree from there on
-abbrev pub EachSplit : (Limits → Cause → SearchTree → Type 0) → Limits → SearchTree → Type 0
+abbrev pub EachSplit : (Limits → SplitCause → SearchTree → Type 0) → Limits → SearchTree → Type 0
 EachSplit P n (LeafNode leaf) = Unit {0}
 EachSplit P n (SplitNode split first second) = P n split.cause (SplitNode split first second)
     × EachSplit P (child n split.choice First) first × EachSplit P (child n split.choice Second) second
@@ -58,7 +58,7 @@ abbrev pub closed_leaves : SearchTree → ℕ
 closed_leaves t = leaf_sum closed_here t
 
 -- the causes of the splits in preorder: of each split, then of its first child, and then of its second
-abbrev pub causes : SearchTree → List Cause
+abbrev pub causes : SearchTree → List SplitCause
 causes (LeafNode leaf) = []
 causes (SplitNode split first second) = split.cause ∷ (causes first ++ causes second)
 

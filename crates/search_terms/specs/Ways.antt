@@ -16,13 +16,13 @@ limits_at n (SplitNode split first second) (First ∷ way) = limits_at (child n 
 limits_at n (SplitNode split first second) (Second ∷ way) = limits_at (child n split.choice Second) second way
 
 -- the prices of a leaf
-abbrev pub prices_of : SearchLeaf → Prices
-prices_of (OpenLeaf prices) = prices
-prices_of (ClosedLeaf prices) = prices
+abbrev pub leaf_prices : SearchLeaf → Prices
+leaf_prices (OpenLeaf prices) = prices
+leaf_prices (ClosedLeaf prices) = prices
 
 -- the prices at the end of the way, if it is a leaf
 abbrev pub prices_at : SearchTree → List Side → Prices
-prices_at (LeafNode leaf) way = prices_of leaf
+prices_at (LeafNode leaf) way = leaf_prices leaf
 prices_at (SplitNode split first second) [] = record { pi = []; rho = [] }
 prices_at (SplitNode split first second) (First ∷ way) = prices_at first way
 prices_at (SplitNode split first second) (Second ∷ way) = prices_at second way

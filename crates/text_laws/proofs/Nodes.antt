@@ -20,10 +20,10 @@ use Rattle.crew_terms.specs.declared.Choice.TheVariants as choices
 use Rattle.crew_terms.specs.declared.Side.{Side}
 use Rattle.crew_terms.specs.declared.Side.TheVariants.{First, Second}
 use Rattle.crew_terms.specs.declared.TheConstants.{LAST_MINUTE, MOST_NODES}
-use Rattle.dossier_terms.specs.Dossier.{Written, Leaf, Potentials, Rows, IsSigned, IsWorthNumber, IsWritten, IsWrittenClaim, Tables, AreWritten, tree_of}
+use Rattle.dossier_terms.specs.Dossier.{Written, Leaf, Potentials, AreRows, IsSigned, IsWorthNumber, IsWritten, IsWrittenClaim, Tables, AreWritten, tree_of}
 use Rattle.dossier_terms.specs.Lines.{node_lines, claim_lines, choice_line, leaf_lines, table_lines, tree_lines, rows_lines, extra_line, phi_line, end_line, counts_of}
+use Rattle.dossier_terms.specs.Counted.{leaves_of, depth_le, IsWide, price_wide, worth_wide, signed_wide}
 use Rattle.text_laws.specs.Texts.{AreLine}
-use Rattle.text_laws.proofs.Short.{IsWide}
 use Rattle.text_laws.proofs.Lists.{rec-append, rec_weaker}
 use Rattle.text_laws.proofs.Heads.{picked_few, picked_less, until_day, task_at}
 use Rattle.text_laws.proofs.Spellings.{tree_is_line, window_is_line, pair_is_line, bare_is_line, open_is_line, closed_is_line, price_is_line, extra_is_line, worth_is_line, phi_is_line, end_is_line}
@@ -81,15 +81,6 @@ instance_child n (choices.Pair k j) Second h = h
 
 -- ---- a leaf
 
-price_wide : (z : ℤ) → IsPrice z → IsWide z
-price_wide z h = let p = h.least in let q = h.most in record { least = omega (arith, ints); most = omega (arith, ints) }
-
-worth_wide : (z : ℤ) → IsWorthNumber z → IsWide z
-worth_wide z h = let p = h.least in let q = h.most in record { least = omega (arith, ints); most = omega (arith, ints) }
-
-signed_wide : (z : ℤ) → IsSigned z → IsWide z
-signed_wide z h = record { least = grind (arith, ints, h); most = grind (arith, ints, h) }
-
 chosen_le : (t : Bool) (stop first most : ℕ) → stop ≤ most → cond t (stop - first) 0 ≤ most
 chosen_le true stop first most h = omega arith
 chosen_le false stop first most h = omega arith
@@ -99,12 +90,12 @@ minutes_few : (n : Limits) (k j : ℕ) → IsInstance n.instance → minute_coun
 minutes_few n k j h = let until = until_day n.instance h k in chosen_le _ _ _ (LAST_MINUTE + 1) (omega arith)
 
 rows_good : (line : ℕ → List ℤ → Words) (In : ℤ → Type 0) (wants : ℕ → ℕ) (most : ℕ) → ((key : ℕ) (row : List ℤ) → key < most → length row ≡ wants key → AllByRecursion In row → AreLine (line key row))
-    → (keys : List ℕ) (rows : List (List ℤ)) → AllByRecursion (λ key. key < most) keys → Rows In wants keys rows → AllByRecursion AreLine (rows_lines line keys rows)
+    → (keys : List ℕ) (rows : List (List ℤ)) → AllByRecursion (λ key. key < most) keys → AreRows In wants keys rows → AllByRecursion AreLine (rows_lines line keys rows)
 rows_good line In wants most is [] rows h r = tt
 rows_good line In wants most is (key ∷ keys) [] h r = tt
 rows_good line In wants most is (key ∷ keys) (row ∷ rows) h r = (is key row h.0 r.0 r.1, rows_good line In wants most is keys rows h.1 r.2)
 
-phis_good : (n : Limits) (k : ℕ) (rows : List (List ℤ)) → IsInstance n.instance → Rows IsSigned (minute_count n k) (open_tasks n k) rows → AllByRecursion AreLine (rows_lines phi_line (open_tasks n k) rows)
+phis_good : (n : Limits) (k : ℕ) (rows : List (List ℤ)) → IsInstance n.instance → AreRows IsSigned (minute_count n k) (open_tasks n k) rows → AllByRecursion AreLine (rows_lines phi_line (open_tasks n k) rows)
 phis_good n k rows h r = rows_good phi_line IsSigned (minute_count n k) (tasks_in n)
     (λ j row l count each. phi_is_line j row (omega (arith, h.parts.few_tasks)) (omega (arith, minutes_few n k j h)) (rec_weaker IsSigned IsWide signed_wide row each))
     (open_tasks n k) rows (picked_less (tasks_in n) _) r
@@ -116,7 +107,7 @@ tables_good n k (t ∷ ts) h w = (
   rec-append AreLine (rows_lines phi_line (open_tasks n k) t.phi) (table_lines n (suc k) ts) (phis_good n k t.phi h w.0.rows) (tables_good n (suc k) ts h w.1),
 )
 
-extras_good : (n : Limits) (rows : List (List ℤ)) → IsInstance n.instance → Rows IsPrice (λ j. length (required_teams n j)) (priced n) rows → AllByRecursion AreLine (rows_lines extra_line (priced n) rows)
+extras_good : (n : Limits) (rows : List (List ℤ)) → IsInstance n.instance → AreRows IsPrice (λ j. length (required_teams n j)) (priced n) rows → AllByRecursion AreLine (rows_lines extra_line (priced n) rows)
 extras_good n rows h r = rows_good extra_line IsPrice (λ j. length (required_teams n j)) (tasks_in n)
     (λ j row l count each.
     let few : length (required_teams n j) ≤ teams_in n = picked_few (teams_in n) _ in
@@ -150,16 +141,6 @@ nodes_good n (SplitNode choice first second) l u h day w s = (
 )
 
 -- ---- the numbers of a tree
-
-leaves_of : (t : Written) → closed t + left_open t ≡ splits t + 1
-leaves_of (LeafNode Bare) = refl
-leaves_of (LeafNode (Open leaf)) = refl
-leaves_of (LeafNode (Closed leaf)) = refl
-leaves_of (SplitNode choice first second) = let a = leaves_of first in let b = leaves_of second in omega arith
-
-depth_le : (t : Written) → depth t ≤ splits t
-depth_le (LeafNode claim) = omega arith
-depth_le (SplitNode choice first second) = let a = depth_le first in let b = depth_le second in omega arith
 
 pub tree_good : (i : Instance) (t : Written) (l u : ℕ) → IsInstance i → AreWritten (root_limits i) t → IsSound (tree_of (root_limits i) t) (root_limits i) l u
     → splits t + closed t ≤ MOST_NODES → AllByRecursion AreLine (tree_lines i t)

@@ -10,6 +10,7 @@ use Rattle.std.proofs.lemmas.Int.{ints}
 use Rattle.std.proofs.lemmas.Fmt.{decimal_by_steps, length-decimal-le}
 use Rattle.std.proofs.lemmas.List.Elements.{All-weaker, All-append, All-cons, All-nil, All-push, All-from_recursion}
 use Rattle.std.proofs.lemmas.List.Sums.{AllPass-from_list_all}
+use Rattle.dossier_terms.specs.Counted.{IsWide}
 use Rattle.crew_terms.specs.Name.{IsName, name_byte}
 use Rattle.crew_terms.specs.Words.{Words, line_of}
 use Rattle.crew_terms.specs.declared.TheConstants.{LONGEST_LINE}
@@ -77,11 +78,6 @@ number m n room l = let a = length-decimal-le 20 n (omega arith) (omega arith) (
 
 pub small_number : (m n : ℕ) → 4 ≤ m → n < 10000 → IsShort m (decimal n)
 small_number m n room l = let a = length-decimal-le 4 n (omega arith) (omega arith) (omega arith) in record { size = omega arith; high = high_digits n (omega arith) }
-
--- fits 64 bits, with a sign
-pub record IsWide (z : ℤ) : Type 0 where
-  pub least : negsuc 9223372036854775807 ≤ℤ z
-  pub most : z ≤ℤ pos 9223372036854775807
 
 pub signed_number : (z : ℤ) → IsWide z → IsShort 20 (signed_decimal z)
 signed_number (pos n) h = let p : pos n ≤ℤ pos 9223372036854775807 = h.most in let l : n < 18446744073709551616 = omega (arith, ints) in number 20 n (omega arith) l

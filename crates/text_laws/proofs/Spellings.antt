@@ -15,9 +15,10 @@ use Rattle.crew_terms.specs.declared.Visit.{Visit}
 use Rattle.dossier_terms.specs.declared.Size.{Size}
 use Rattle.crew_terms.specs.Limits.{Route}
 use Rattle.dossier_terms.specs.Lines.{form_line, size_line, place_line, travel_line, team_words, task_words, pool_line, route_line, visit_words, plan_line, do_line, tree_line, window_line, pair_line, bare_line, open_line, closed_line, price_line, extra_line, worth_line, phi_line, end_line}
+use Rattle.dossier_terms.specs.Counted.{IsWide, visits_length}
 use Rattle.text_laws.specs.Texts.{AreLine}
 use Rattle.text_laws.proofs.Lists.{rec-map}
-use Rattle.text_laws.proofs.Short.{IsShort, IsWide, short_line, fixed, number, small_number, signed_number, name}
+use Rattle.text_laws.proofs.Short.{IsShort, short_line, fixed, number, small_number, signed_number, name}
 
 -- fits 64 bits
 abbrev pub IsFew : ℕ → Type 0
@@ -89,12 +90,8 @@ visits_short : (vs : List Visit) → AllByRecursion IsSmall vs → AllByRecursio
 visits_short [] h = tt
 visits_short (v ∷ vs) h = (small_number 5 v.task (omega arith) h.0.task, (small_number 5 v.start (omega arith) h.0.start, visits_short vs h.1))
 
-visits_count : (vs : List Visit) → length (flat_map visit_words vs) ≡ 2 * length vs
-visits_count [] = refl
-visits_count (v ∷ vs) = let a = visits_count vs in omega arith
-
 pub route_is_line : (r : Route) → r.team < 10000 → length r.visits ≤ LAST_MINUTE + 1 → AllByRecursion IsSmall r.visits → AreLine (route_line r)
-route_is_line r team count h = short_line 5 (2 * LAST_MINUTE + 4) (codes "route") _ (omega arith) (omega (arith, visits_count r.visits))
+route_is_line r team count h = short_line 5 (2 * LAST_MINUTE + 4) (codes "route") _ (omega arith) (omega (arith, visits_length r.visits))
     (fixed 5 (codes "route") refl (omega arith), (small_number 5 r.team (omega arith) team, visits_short r.visits h))
 
 pub plan_is_line : (u l : ℕ) → IsFew u → IsFew l → AreLine (plan_line u l)

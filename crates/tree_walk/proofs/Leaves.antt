@@ -9,10 +9,11 @@ use Rattle.crew_terms.specs.declared.TreeCounts.{TreeCounts}
 use Rattle.node_limits.specs.Trail.{Trail, changed}
 use Rattle.tree_walk.specs.Splits.{second_of}
 use Rattle.crew_terms.specs.Tree.{CanSplit}
+use Rattle.crew_terms.specs.Nodes.{instance_below}
 use Rattle.tree_walk.specs.Way.{Walked, IsWay, IsAt, IsAtEnd, IsSomewhere, IsLeaf, LeavesLeaf, counts_in, innermost, branch_of, with_leaf}
 use Rattle.tree_walk.specs.declared.split.Branch.{Branch}
 use Rattle.tree_walk.proofs.Numbers.{leaf_counted, root_counted}
-use Rattle.tree_walk.proofs.Ways.{IsPast, limits_in, up, turned, risen, innermost_is, none_above, instance_below}
+use Rattle.tree_walk.proofs.Ways.{IsPast, limits_in, up, turned, risen, innermost_is, none_above}
 
 -- from each node where the walk may have stood, past a leaf of this kind, it came to a node whose tree is whole
 abbrev pub ComesPast : Bool → Trail → Walked → Trail → Walked → Type 0

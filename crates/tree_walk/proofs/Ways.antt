@@ -27,16 +27,6 @@ limits_in n b = child n b.choice b.side
 
 -- ---- instances
 
-pub instance_in : (n : Limits) (choice : Choice) (side : Side) → (child n choice side).instance ≡ n.instance
-instance_in n (choices.Window j cut) First = refl
-instance_in n (choices.Window j cut) Second = refl
-instance_in n (choices.Pair k j) First = refl
-instance_in n (choices.Pair k j) Second = refl
-
-pub instance_below : (root : Limits) (fs : List Above) → (limits_below root fs).instance ≡ root.instance
-instance_below root [] = refl
-instance_below root (f ∷ fs) = instance_in (limits_below root fs) (split_of f) (side_of f) ∙ instance_below root fs
-
 -- ---- a step
 
 -- the way to the parent

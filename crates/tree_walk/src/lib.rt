@@ -2,8 +2,6 @@
 #![tactic(auto)]
 
 mod split;
-#[cfg(test)]
-mod tests;
 mod walk;
 
 pub use crew_terms::TreeCounts;

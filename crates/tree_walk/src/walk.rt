@@ -66,7 +66,6 @@ impl Walk {
 
     /// Splits the node that is due, and goes into its first child. An `Err` changes nothing.
     pub fn enter(&mut self, limits: &mut Limits<'_>, choice: Choice) -> Result<(), AllocError>
-        requires somewhere { IsSomewhere limits.old self.old }
         requires split { CanSplit limits.old.limits choice }
         requires room { self.old.seen.splits + 1 < 2 ^ 32 }
         ensures ok { OnOk result (Enters choice limits.old self.old limits.new self.new) }

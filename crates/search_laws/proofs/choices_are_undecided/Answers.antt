@@ -2,7 +2,8 @@ use Rattle.std.proofs.Common.{arith}
 use Rattle.crew_terms.specs.Limits.{Limits}
 use Rattle.crew_terms.specs.declared.Choice.{Choice}
 use Rattle.crew_terms.specs.declared.Choice.TheVariants as choices
-use Rattle.search_terms.specs.Choice.{IsDecided, IsValidChoice}
+use Rattle.search_terms.specs.Choice.{IsValidChoice}
+use Rattle.crew_terms.specs.Decided.{IsDecided}
 use Rattle.search_laws.proofs.choices_are_undecided.Goals as goal
 
 undecided : (n : Limits) (choice : Choice) → IsValidChoice n choice → IsDecided n → ⊥

@@ -1,14 +1,14 @@
 use Rattle.std.proofs.Common.{◌≡◌, ◌<◌, ◌≤◌, ℕ, true, arith, ap}
 use Rattle.crew_terms.specs.Limits.{Limits, IsLimits, tasks_in, teams_in, pair_of, is_required, has_required}
+use Rattle.crew_terms.specs.Below.{any_below-some}
 use Rattle.search_terms.specs.Closing.{IsStuck, NoMinute, NoTime}
-use Rattle.search_laws.proofs.Decided.{any_at}
 use Rattle.search_laws.proofs.Whole.{known_required}
 use Rattle.search_laws.proofs.decided_cases.Goals as goal
 
 -- a stuck team has a required task
 stuck_at : (n : Limits) (k : ℕ) → IsLimits n → k < teams_in n → IsStuck n k → (j : ℕ) × (j < tasks_in n) × (has_required n j ≡ true)
-stuck_at n k is b (NoMinute j required none) = (j, known_required n is k j b required, any_at (teams_in n) (λ h. is_required (pair_of n h j)) k b (ap is_required required))
-stuck_at n k is b (NoTime j h first second other order neighbours late) = (j, known_required n is k j b first, any_at (teams_in n) (λ g. is_required (pair_of n g j)) k b (ap is_required first))
+stuck_at n k is b (NoMinute j required none) = (j, known_required n is k j b required, any_below-some (teams_in n) (λ h. is_required (pair_of n h j)) k b (ap is_required required))
+stuck_at n k is b (NoTime j h first second other order neighbours late) = (j, known_required n is k j b first, any_below-some (teams_in n) (λ g. is_required (pair_of n g j)) k b (ap is_required first))
 
 pub returns : goal.returns
 returns c = record {

@@ -5,9 +5,9 @@ use Rattle.crew_terms.specs.Plan.{Plan, Job, job_of, unassigned_count}
 use Rattle.crew_terms.specs.Legal.{IsLegal}
 use Rattle.crew_terms.specs.Limits.{Limits, IsWithin, has_required, tasks_in, teams_in, is_required, pair_of}
 use Rattle.crew_terms.specs.Leaf.{Prices}
+use Rattle.crew_terms.specs.Nodes.{required_is}
+use Rattle.crew_terms.specs.Below.{some_below}
 use Rattle.search_terms.specs.Proven.{PricesProve}
-use Rattle.search_laws.proofs.Inside.{required_is}
-use Rattle.search_laws.proofs.Whole.{any_found}
 use Rattle.search_laws.proofs.no_plan_is_left.Goals as goal
 
 -- a plan with a job leaves fewer than all tasks unassigned
@@ -31,7 +31,7 @@ some_job (o ∷ os) (suc j) job e l =
 no_plan : (n : Limits) (p : Prices) (q : Plan) (j : ℕ) → (PricesProve n p (tasks_in n) → IsLegal n.instance q → IsWithin n q → tasks_in n ≤ unassigned_count q)
     → PricesProve n p (tasks_in n) → j < tasks_in n → has_required n j ≡ true → IsLegal n.instance q → IsWithin n q → ⊥
 no_plan n p q j law proves below some legal within =
-    let x = any_found (teams_in n) (λ k. is_required (pair_of n k j)) some in
+    let x = some_below (teams_in n) (λ k. is_required (pair_of n k j)) some in
     let d = within.required x.0 j x.1 below (required_is (pair_of n x.0 j) x.2) in
     let w = legal.feasible.whole in
     let a = law proves legal within in

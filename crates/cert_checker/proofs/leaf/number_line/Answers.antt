@@ -9,8 +9,8 @@ use Rattle.node_limits.specs.Rest.{trail_over}
 use Rattle.leaf_check.specs.Reader.{StandsFor, LeafTells}
 use Rattle.leaf_check.specs.declared.reader.Goal.{Goal}
 use Rattle.leaf_check.specs.declared.reader.LeafStep.{LeafStep}
-use Rattle.cert_checker.specs.Due.{Awaits, IsInLeaf, IsNode, draft_of, site_of}
-use Rattle.cert_checker.specs.declared.due.Draft.{Draft}
+use Rattle.cert_checker.specs.Due.{Awaits, IsInLeaf, IsAtNode, draft_of, site_of}
+use Rattle.cert_checker.specs.declared.due.BegunDossier.{BegunDossier}
 use Rattle.cert_checker.specs.declared.due.TreeDraft.{TreeDraft}
 use Rattle.cert_checker.proofs.NodeRows.{taken_woke}
 use Rattle.cert_checker.proofs.LeafRows.{told_more, told_done, told_no, is_leaf, stays, goal_at, in_leaf, rested, rested_back}
@@ -40,7 +40,7 @@ told c reading fs step is leaf =
     let g : Goal = record { bound = draft.bound; unassigned = c.unassigned.result; is_closed = c.args.is_closed } in
     subst (λ s. LeafTells a (Says reading c.args.words) s c.line-step.new.self) is
     (c.line-step.ensures.judged a reading (goal_at tree c.wake-limits.result c.rest.result (woke c) c.rest.ensures.same c.rest.ensures.over c.args.is_closed g fs leaf.node
-    (ap (λ (d : Draft). d.bound) read) (c.unassigned.ensures ∙ ap (λ (d : Draft). unassigned_count d.plan) read) refl)
+    (ap (λ (d : BegunDossier). d.bound) read) (c.unassigned.ensures ∙ ap (λ (d : BegunDossier). unassigned_count d.plan) read) refl)
     (subst (λ r. StandsFor a r reading) (sym c.deref_mut-2.ensures.value) leaf.stands))
 
 pub returns-in-More : goal.returns-in-More
@@ -71,7 +71,7 @@ returns-in-Done d = λ reading awaited.
       t.1,
       subst (λ (x : TreeDraft). Awaits d.leave.result (node_done (draft_of x.draft.value) x.claimed fs (LeafNode claim))) (written_is c)
           (d.leave.ensures fs claim
-          (subst (λ (x : TreeDraft). IsNode x fs) (sym (written_is c)) (stays tree c.wake-limits.result c.rest.result (woke c) c.rest.ensures.same c.rest.ensures.over fs awaited.1.node)) (is_leaf closed t.0)),
+          (subst (λ (x : TreeDraft). IsAtNode x fs) (sym (written_is c)) (stays tree c.wake-limits.result c.rest.result (woke c) c.rest.ensures.same c.rest.ensures.over fs awaited.1.node)) (is_leaf closed t.0)),
     )
 
 pub returns-in-No : goal.returns-in-No

@@ -4,8 +4,8 @@ use Rattle.cert_format.specs.Lines.{IsNodeLine}
 use Rattle.dossier_terms.specs.Reading.{Nodes, No as Refuses, Above}
 use Rattle.crew_terms.specs.declared.Choice.TheVariants.{Window, Pair}
 use Rattle.dossier_terms.specs.Table.{node_row, after_bare, after_leaf, after_split}
-use Rattle.cert_checker.specs.Due.{IsNode, IsStep, Tells, draft_of}
-use Rattle.cert_checker.specs.declared.due.Draft.{Draft}
+use Rattle.cert_checker.specs.Due.{IsAtNode, IsStep, Tells, draft_of}
+use Rattle.cert_checker.specs.declared.due.BegunDossier.{BegunDossier}
 use Rattle.cert_checker.specs.declared.due.TreeDraft.{TreeDraft}
 use Rattle.cert_checker.specs.declared.due.Due.TheVariants.{Node as NodeDue}
 use Rattle.cert_checker.specs.declared.due.Step.TheVariants.{No}
@@ -22,14 +22,14 @@ returns-in-Err c =
     let ws = c.args.words in
     node_step c.args.tree c.args.reader ws (No c.reason.result) (λ fs node. subst (λ r. node_row b n fs ws (Refuses r)) (sym c.reason.ensures)
     (c.fault_is_refused.ensures (Nodes b n fs) ws c.in-Err.fault
-    (node_fault b n fs c.teams-teams.result c.tasks-tasks.result ws c.in-Err.fault (c.teams-teams.ensures.count ∙ ap (λ (d : Draft). length d.base.instance.teams) read) (c.tasks-tasks.ensures.count ∙ ap (λ (d : Draft). length d.base.instance.tasks) read) c.in-Err.ensures)))
+    (node_fault b n fs c.teams-teams.result c.tasks-tasks.result ws c.in-Err.fault (c.teams-teams.ensures.count ∙ ap (λ (d : BegunDossier). length d.base.instance.teams) read) (c.tasks-tasks.ensures.count ∙ ap (λ (d : BegunDossier). length d.base.instance.tasks) read) c.in-Err.ensures)))
 
 -- the task of a line `window`, and the team and the task of a line `pair`, are those of the instance
 pub split_line-requires-clause-known : goal.split_line-requires-clause-known
 split_line-requires-clause-known c =
     let read : c.deref-2.result.now ≡ c.args.tree.value.draft.value = c.deref-2.ensures ∙ ap (λ (x : TreeDraft). x.draft.value) c.deref.ensures in
     let h = subst (IsNodeLine c.teams-teams.result c.tasks-tasks.result c.args.words) c.in-Window.is c.in-Ok.ensures in
-    subst (λ x. c.in-Window.task < x) (c.tasks-tasks.ensures.count ∙ ap (λ (d : Draft). length d.base.instance.tasks) read) h.0
+    subst (λ x. c.in-Window.task < x) (c.tasks-tasks.ensures.count ∙ ap (λ (d : BegunDossier). length d.base.instance.tasks) read) h.0
 
 pub returns-in-Window : goal.returns-in-Window
 returns-in-Window c =
@@ -41,8 +41,8 @@ returns-in-Window c =
     let j = c.in-Window.task in
     let cut = c.in-Window.cut in
     let h = subst (IsNodeLine c.teams-teams.result c.tasks-tasks.result ws) c.in-Window.is c.in-Ok.ensures in
-    let task : j < length tree.draft.value.base.instance.tasks = subst (λ x. j < x) (c.tasks-tasks.ensures.count ∙ ap (λ (d : Draft). length d.base.instance.tasks) read) h.0 in
-    if_ok c.split_line.result (λ step. (fs : List Above) → IsNode tree fs → Tells (after_split b n fs (Window j cut)) step) (IsStep (NodeDue c.args.tree c.args.reader) ws)
+    let task : j < length tree.draft.value.base.instance.tasks = subst (λ x. j < x) (c.tasks-tasks.ensures.count ∙ ap (λ (d : BegunDossier). length d.base.instance.tasks) read) h.0 in
+    if_ok c.split_line.result (λ step. (fs : List Above) → IsAtNode tree fs → Tells (after_split b n fs (Window j cut)) step) (IsStep (NodeDue c.args.tree c.args.reader) ws)
     (λ step told. node_rest c.args.tree c.args.reader ws step (λ fs. after_split b n fs (Window j cut)) (λ fs said rest. window_says b n fs j cut ws said task h.1 h.2 rest) told)
     c.split_line.ensures
 
@@ -56,9 +56,9 @@ returns-in-Pair c =
     let k = c.in-Pair.team in
     let j = c.in-Pair.task in
     let h = subst (IsNodeLine c.teams-teams.result c.tasks-tasks.result ws) c.in-Pair.is c.in-Ok.ensures in
-    let team : k < length tree.draft.value.base.instance.teams = subst (λ x. k < x) (c.teams-teams.ensures.count ∙ ap (λ (d : Draft). length d.base.instance.teams) read) h.0 in
-    let task : j < length tree.draft.value.base.instance.tasks = subst (λ x. j < x) (c.tasks-tasks.ensures.count ∙ ap (λ (d : Draft). length d.base.instance.tasks) read) h.1 in
-    if_ok c.split_line-in-Pair.result (λ step. (fs : List Above) → IsNode tree fs → Tells (after_split b n fs (Pair k j)) step) (IsStep (NodeDue c.args.tree c.args.reader) ws)
+    let team : k < length tree.draft.value.base.instance.teams = subst (λ x. k < x) (c.teams-teams.ensures.count ∙ ap (λ (d : BegunDossier). length d.base.instance.teams) read) h.0 in
+    let task : j < length tree.draft.value.base.instance.tasks = subst (λ x. j < x) (c.tasks-tasks.ensures.count ∙ ap (λ (d : BegunDossier). length d.base.instance.tasks) read) h.1 in
+    if_ok c.split_line-in-Pair.result (λ step. (fs : List Above) → IsAtNode tree fs → Tells (after_split b n fs (Pair k j)) step) (IsStep (NodeDue c.args.tree c.args.reader) ws)
     (λ step told. node_rest c.args.tree c.args.reader ws step (λ fs. after_split b n fs (Pair k j)) (λ fs said rest. pair_says b n fs k j ws said team task h.2 rest) told)
     c.split_line-in-Pair.ensures
 
@@ -78,7 +78,7 @@ returns-in-LeafOpen c =
     let n = tree.claimed in
     let ws = c.args.words in
     let h = subst (IsNodeLine c.teams-teams.result c.tasks-tasks.result ws) c.in-LeafOpen.is c.in-Ok.ensures in
-    if_ok c.leaf_line.result (λ step. (fs : List Above) → IsNode tree fs → Tells (after_leaf b n fs false) step) (IsStep (NodeDue c.args.tree c.args.reader) ws)
+    if_ok c.leaf_line.result (λ step. (fs : List Above) → IsAtNode tree fs → Tells (after_leaf b n fs false) step) (IsStep (NodeDue c.args.tree c.args.reader) ws)
     (λ step told. node_rest c.args.tree c.args.reader ws step (λ fs. after_leaf b n fs false) (λ fs said rest. open_says b n fs ws said h rest) told)
     c.leaf_line.ensures
 
@@ -89,6 +89,6 @@ returns-in-LeafClosed c =
     let n = tree.claimed in
     let ws = c.args.words in
     let h = subst (IsNodeLine c.teams-teams.result c.tasks-tasks.result ws) c.in-LeafClosed.is c.in-Ok.ensures in
-    if_ok c.leaf_line-in-LeafClosed.result (λ step. (fs : List Above) → IsNode tree fs → Tells (after_leaf b n fs true) step) (IsStep (NodeDue c.args.tree c.args.reader) ws)
+    if_ok c.leaf_line-in-LeafClosed.result (λ step. (fs : List Above) → IsAtNode tree fs → Tells (after_leaf b n fs true) step) (IsStep (NodeDue c.args.tree c.args.reader) ws)
     (λ step told. node_rest c.args.tree c.args.reader ws step (λ fs. after_leaf b n fs true) (λ fs said rest. closed_says b n fs ws said h rest) told)
     c.leaf_line-in-LeafClosed.ensures

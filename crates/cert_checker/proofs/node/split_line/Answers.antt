@@ -8,7 +8,7 @@ use Rattle.crew_terms.specs.Branches.{InFirst}
 use Rattle.tree_walk.specs.Way.{Enters}
 use Rattle.cert_checker.specs.Due.{HasSplitLeft, draft_of}
 use Rattle.cert_checker.specs.declared.due.TreeDraft.{TreeDraft}
-use Rattle.cert_checker.proofs.NodeRows.{entered_at, limits_at, somewhere, taken_woke, written_back, room_above, room_at, split_no_room, split_refused, split_more}
+use Rattle.cert_checker.proofs.NodeRows.{entered_at, limits_at, taken_woke, written_back, room_above, room_at, split_no_room, split_refused, split_more}
 use Rattle.cert_checker.proofs.node.split_line.Goals as goal
 
 pub returns-then-not-has_split_room : goal.returns-then-not-has_split_room
@@ -26,12 +26,6 @@ returns-then-not-can_split c = λ fs node.
     (split_refused (draft_of tree.draft.value) tree.claimed fs c.args.choice n (limits_at tree c.wake-limits.result fs woke node)
     (room_at tree fs node (subst HasSplitLeft c.deref.ensures (c.has_split_room.ensures.0 c.if-not-has_split_room.false)))
     (λ is. both_ways c.can_split.result c.if-not-can_split.true (c.can_split.ensures.1 is)))
-
-pub enter-requires-clause-somewhere : goal.enter-requires-clause-somewhere
-enter-requires-clause-somewhere c =
-    let tree = c.args.tree.value in
-    let woke = taken_woke tree c.deref_mut-held.result.now c.deref_mut-draft.result.now c.take.result c.wake-limits.result c.deref_mut-held.ensures.value c.deref_mut-draft.ensures.value c.take.ensures.taken c.wake-limits.ensures in
-    somewhere tree c.deref_mut-held.result.now c.wake-limits.result c.deref_mut-held.ensures.value woke c.requires.node
 
 pub returns : goal.returns
 returns c = λ fs node.

@@ -1,4 +1,4 @@
-use Rattle.std.proofs.Common.{◌≡◌, ◌+◌, suc, ap, sym, subst, refl, ◌∙◌, arith, Some}
+use Rattle.std.proofs.Common.{◌≡◌, ◌+◌, suc, length, ap, sym, subst, refl, ◌∙◌, arith, Some}
 use Rattle.std.specs.Prelude.{slice_set}
 use Rattle.crew_terms.specs.Plan.{Job}
 use Rattle.crew_terms.specs.Verdict.{IsPlanOf}
@@ -6,24 +6,24 @@ use Rattle.crew_terms.specs.declared.TheConstants.{MOST_TEAMS}
 use Rattle.dossier_terms.specs.declared.Reason.TheVariants as reasons
 use Rattle.dossier_terms.specs.Reading.{Jobs, No as Refuses}
 use Rattle.dossier_terms.specs.Rules.{Holds, Fails}
-use Rattle.dossier_terms.specs.Table.{Says, after_job, job_row}
+use Rattle.dossier_terms.specs.Table.{IsDoLine, Says, after_job, job_row}
 use Rattle.cert_format.specs.Lines.{IsJobLine}
 use Rattle.head_check.specs.Numbers.{AreBelow, naturals}
 use Rattle.cert_checker.specs.Due.{IsBegun, Tells, draft_of}
-use Rattle.cert_checker.specs.declared.due.Draft.{Draft}
+use Rattle.cert_checker.specs.declared.due.BegunDossier.{BegunDossier}
 use Rattle.cert_checker.proofs.Steps.{tells_row}
-use Rattle.cert_checker.proofs.PlanRows.{below_from, naturals-pos, job_says, line_of_counts, plan_of_more}
+use Rattle.cert_checker.proofs.PlanRows.{below_from, naturals-pos, job_says, plan_of_more}
 use Rattle.cert_checker.proofs.plan.job_line.Goals as goal
 
 pub returns-then-task-from : goal.returns-then-task-from
 returns-then-task-from c = λ reading a.
     let h = subst (IsJobLine c.teams-teams.result c.tasks-tasks.result c.args.words) c.in-Job.is c.in-Ok.ensures in
-    let b : Draft = c.deref_mut-held.result.now in
+    let b : BegunDossier = c.deref_mut-held.result.now in
     let job : Job = record { start = c.in-Job.start; teams = h.0 } in
     let low = c.if-task-from.true in
-    subst (λ r. Says r c.args.words (Refuses reasons.Shape)) (sym (a.1 ∙ ap (λ (d : Draft). Jobs (draft_of d) c.args.more c.args.from) (sym c.deref_mut-held.ensures.value)))
+    subst (λ r. Says r c.args.words (Refuses reasons.Shape)) (sym (a.1 ∙ ap (λ (d : BegunDossier). Jobs (draft_of d) c.args.more c.args.from) (sym c.deref_mut-held.ensures.value)))
     (job_says (draft_of b) c.args.more c.args.from c.args.words (c.in-Job.task, job) (Refuses reasons.Shape)
-    (line_of_counts b.base.instance c.teams-teams.result c.tasks-tasks.result (c.in-Job.task, job) c.teams-teams.ensures.count c.tasks-tasks.ensures.count h.2) h.3
+    (subst (λ m. IsDoLine m (length b.base.instance.tasks) (c.in-Job.task, job)) c.teams-teams.ensures.count (subst (λ n. IsDoLine c.teams-teams.result n (c.in-Job.task, job)) c.tasks-tasks.ensures.count h.2)) h.3
     (Fails (λ le. absurd (omega arith)) refl))
 
 pub team_list-requires : goal.team_list-requires
@@ -36,11 +36,11 @@ team_list-requires c =
 pub judge_job-requires : goal.judge_job-requires
 judge_job-requires c =
     let h = subst (IsJobLine c.teams-teams.result c.tasks-tasks.result c.args.words) c.in-Job.is c.in-Ok.ensures in
-    let b : Draft = c.deref_mut-held.result.now in
+    let b : BegunDossier = c.deref_mut-held.result.now in
     let i = b.base.instance in
     let job : Job = record { start = c.in-Job.start; teams = h.0 } in
     let listed : c.as_slice.result.now ≡ h.0 = c.as_slice.ensures ∙ c.in_ok-teams.ensures ∙ ap naturals h.1 ∙ naturals-pos h.0 in
-    let line = line_of_counts i c.teams-teams.result c.tasks-tasks.result (c.in-Job.task, job) c.teams-teams.ensures.count c.tasks-tasks.ensures.count h.2 in
+    let line = subst (λ m. IsDoLine m (length i.tasks) (c.in-Job.task, job)) c.teams-teams.ensures.count (subst (λ n. IsDoLine c.teams-teams.result n (c.in-Job.task, job)) c.tasks-tasks.ensures.count h.2) in
     let begun = subst IsBegun (sym c.deref_mut-held.ensures.value) c.requires.1.0 in record {
       plan = subst (IsPlanOf i) (sym (c.in_ok-assign.ensures.ok ∙ ap (λ ks. slice_set b.plan c.in-Job.task (Some (record job { teams = ks }))) listed))
           (plan_of_more i b.plan c.in-Job.task c.in-Job.start h.0 begun.plan line.task line.teams);
@@ -50,15 +50,15 @@ judge_job-requires c =
 pub returns : goal.returns
 returns c = λ reading a.
     let h = subst (IsJobLine c.teams-teams.result c.tasks-tasks.result c.args.words) c.in-Job.is c.in-Ok.ensures in
-    let b : Draft = c.deref_mut-held.result.now in
+    let b : BegunDossier = c.deref_mut-held.result.now in
     let i = b.base.instance in
     let job : Job = record { start = c.in-Job.start; teams = h.0 } in
     let listed : c.as_slice.result.now ≡ h.0 = c.as_slice.ensures ∙ c.in_ok-teams.ensures ∙ ap naturals h.1 ∙ naturals-pos h.0 in
-    let line = line_of_counts i c.teams-teams.result c.tasks-tasks.result (c.in-Job.task, job) c.teams-teams.ensures.count c.tasks-tasks.ensures.count h.2 in
+    let line = subst (λ m. IsDoLine m (length i.tasks) (c.in-Job.task, job)) c.teams-teams.ensures.count (subst (λ n. IsDoLine c.teams-teams.result n (c.in-Job.task, job)) c.tasks-tasks.ensures.count h.2) in
     let plan : c.assign.new.self ≡ slice_set b.plan c.in-Job.task (Some job) = c.in_ok-assign.ensures.ok ∙ ap (λ ks. slice_set b.plan c.in-Job.task (Some (record job { teams = ks }))) listed in
     let next : c.in-Job.task + 1 ≡ suc c.in-Job.task = omega arith in
     let rules = after_job (record (draft_of b) { plan = c.assign.new.self }) c.args.more (c.in-Job.task + 1) in
-    subst (λ r. Tells (Says r c.args.words) c.judge_job.result) (sym (a.1 ∙ ap (λ (d : Draft). Jobs (draft_of d) c.args.more c.args.from) (sym c.deref_mut-held.ensures.value)))
+    subst (λ r. Tells (Says r c.args.words) c.judge_job.result) (sym (a.1 ∙ ap (λ (d : BegunDossier). Jobs (draft_of d) c.args.more c.args.from) (sym c.deref_mut-held.ensures.value)))
     (tells_row rules (job_row (draft_of b) c.args.more c.args.from c.args.words) c.judge_job.result
     (λ said rest. job_says (draft_of b) c.args.more c.args.from c.args.words (c.in-Job.task, job) said line h.3
     (Holds c.if-task-from.false

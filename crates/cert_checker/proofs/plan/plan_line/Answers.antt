@@ -3,7 +3,7 @@ use Rattle.cert_format.specs.Lines.{IsPlanLine}
 use Rattle.dossier_terms.specs.Reading.{Plans, jobs_due, Begun}
 use Rattle.dossier_terms.specs.Table.{Says}
 use Rattle.cert_checker.specs.Due.{Awaits, IsBegun, Tells, draft_of}
-use Rattle.cert_checker.specs.declared.due.Draft.{Draft as Kept}
+use Rattle.cert_checker.specs.declared.due.BegunDossier.{BegunDossier as Kept}
 use Rattle.cert_checker.specs.declared.due.Step.TheVariants.{More}
 use Rattle.cert_checker.proofs.PlanRows.{plan_more}
 use Rattle.cert_checker.proofs.plan.plan_line.Goals as goal

@@ -1,20 +1,20 @@
 use Rattle.std.proofs.Common.{◌≡◌, ◌<◌, length, ap, sym, subst, refl, ◌∙◌, arith}
 use Rattle.crew_terms.specs.Limits.{root_limits, teams_in, Route}
 use Rattle.dossier_terms.specs.Reading.{Routes}
-use Rattle.dossier_terms.specs.Table.{Says}
-use Rattle.cert_format.specs.Lines.{IsRouteLine}
+use Rattle.dossier_terms.specs.Table.{IsRouteLine, Says}
+use Rattle.cert_format.specs.Lines.{IsRouteOf}
 use Rattle.node_limits.specs.Rest.{trail_over}
 use Rattle.node_limits.specs.Trail.{Trail}
 use Rattle.route_pool.specs.Numbers.{AreNumbersOf}
-use Rattle.route_pool.specs.Verdict.{IsVerdict, pool_after}
+use Rattle.route_pool.specs.Verdict.{IsPoolVerdict, pool_after}
 use Rattle.cert_checker.specs.Due.{IsBegun, IsRoot, Tells, draft_of}
-use Rattle.cert_checker.specs.declared.due.Draft.{Draft}
-use Rattle.cert_checker.proofs.PoolRows.{rest_is_root, root_woke, route_of_counts, route_numbers, route_judged}
+use Rattle.cert_checker.specs.declared.due.BegunDossier.{BegunDossier}
+use Rattle.cert_checker.proofs.PoolRows.{rest_is_root, root_woke, route_numbers, route_judged}
 use Rattle.cert_checker.proofs.pool.route_line.Goals as goal
 
 pub read-requires : goal.read-requires
 read-requires c =
-    let h = subst (IsRouteLine c.teams-teams.result c.tasks-tasks.result c.args.words) c.in-Route.is c.in-Ok.ensures in
+    let h = subst (IsRouteOf c.teams-teams.result c.tasks-tasks.result c.args.words) c.in-Route.is c.in-Ok.ensures in
     let route : Route = record { team = c.in-Route.team; visits = h.0 } in
     let count = c.tasks-tasks.ensures.count in
     let few = c.tasks-tasks.ensures.limits.parts.few_tasks in
@@ -22,14 +22,14 @@ read-requires c =
 
 pub add-requires : goal.add-requires
 add-requires c =
-    let h = subst (IsRouteLine c.teams-teams.result c.tasks-tasks.result c.args.words) c.in-Route.is c.in-Ok.ensures in
+    let h = subst (IsRouteOf c.teams-teams.result c.tasks-tasks.result c.args.words) c.in-Route.is c.in-Ok.ensures in
     let route : Route = record { team = c.in-Route.team; visits = h.0 } in
     let i = c.deref_mut-held.result.now.base.instance in
     let count = c.tasks-tasks.ensures.count in
     let few = c.tasks-tasks.ensures.limits.parts.few_tasks in
     let numbers = subst (AreNumbersOf h.0) (sym h.1) (route_numbers c.teams-teams.result c.tasks-tasks.result route (omega arith) h.2) in
     let read : c.in_ok-route.route ≡ route = c.in_ok-route.ensures h.0 numbers in
-    let fits = route_of_counts i c.teams-teams.result c.tasks-tasks.result route c.teams-teams.ensures.count count h.2 in
+    let fits = subst (λ m. IsRouteLine m (length i.tasks) route) c.teams-teams.ensures.count (subst (λ n. IsRouteLine c.teams-teams.result n route) count h.2) in
     subst (λ (t : Trail). c.in_ok-route.route.team < teams_in t.limits) (sym c.wake-limits.ensures)
     (subst (λ (r : Route). r.team < length i.teams) (sym read) fits.team)
 
@@ -46,25 +46,25 @@ judge_route-requires c =
 
 pub returns : goal.returns
 returns c = λ reading kept.
-    let h = subst (IsRouteLine c.teams-teams.result c.tasks-tasks.result c.args.words) c.in-Route.is c.in-Ok.ensures in
+    let h = subst (IsRouteOf c.teams-teams.result c.tasks-tasks.result c.args.words) c.in-Route.is c.in-Ok.ensures in
     let route : Route = record { team = c.in-Route.team; visits = h.0 } in
     let b = c.deref_mut-held.result.now in
     let same : b ≡ c.args.draft.value = c.deref_mut-held.ensures.value in
-    let root : IsRoot b.base.instance b.limits = subst (λ (d : Draft). IsRoot d.base.instance d.limits) (sym same) kept.0.root in
-    let due : reading ≡ Routes (draft_of b) c.args.more = kept.1 ∙ ap (λ (d : Draft). Routes (draft_of d) c.args.more) (sym same) in
+    let root : IsRoot b.base.instance b.limits = subst (λ (d : BegunDossier). IsRoot d.base.instance d.limits) (sym same) kept.0.root in
+    let due : reading ≡ Routes (draft_of b) c.args.more = kept.1 ∙ ap (λ (d : BegunDossier). Routes (draft_of d) c.args.more) (sym same) in
     let i = b.base.instance in
     let count = c.tasks-tasks.ensures.count in
     let few = c.tasks-tasks.ensures.limits.parts.few_tasks in
     let numbers = subst (AreNumbersOf h.0) (sym h.1) (route_numbers c.teams-teams.result c.tasks-tasks.result route (omega arith) h.2) in
     let read : c.in_ok-route.route ≡ route = c.in_ok-route.ensures h.0 numbers in
-    let fits = route_of_counts i c.teams-teams.result c.tasks-tasks.result route c.teams-teams.ensures.count count h.2 in
+    let fits = subst (λ m. IsRouteLine m (length i.tasks) route) c.teams-teams.ensures.count (subst (λ n. IsRouteLine c.teams-teams.result n route) count h.2) in
     let woke : c.wake-limits.result ≡ trail_over i b.limits = c.wake-limits.ensures ∙ ap (trail_over i) c.take.ensures.taken in
     let limits = (root_woke i b.limits c.wake-limits.result root woke).0 in
-    let verdict : IsVerdict (root_limits i) b.pool route c.in_ok-verdict.verdict =
-    subst (λ r. IsVerdict (root_limits i) b.pool r c.in_ok-verdict.verdict) read
-    (subst (λ n. IsVerdict n b.pool c.in_ok-route.route c.in_ok-verdict.verdict) limits c.in_ok-verdict.ensures.verdict) in
+    let verdict : IsPoolVerdict (root_limits i) b.pool route c.in_ok-verdict.verdict =
+    subst (λ r. IsPoolVerdict (root_limits i) b.pool r c.in_ok-verdict.verdict) read
+    (subst (λ n. IsPoolVerdict n b.pool c.in_ok-route.route c.in_ok-verdict.verdict) limits c.in_ok-verdict.ensures.verdict) in
     let pool : pool_after b.pool route c.add.new.self c.in_ok-verdict.verdict =
     subst (λ r. pool_after b.pool r c.add.new.self c.in_ok-verdict.verdict) read c.in_ok-verdict.ensures.pool in
-    let after : Draft = record b { limits = c.rest.result; pool = c.add.new.self } in
+    let after : BegunDossier = record b { limits = c.rest.result; pool = c.add.new.self } in
     subst (λ r. Tells (Says r c.args.words) c.judge_route.result) (sym due)
     (route_judged (draft_of b) c.args.more c.args.words route c.add.new.self c.in_ok-verdict.verdict after c.judge_route.result fits h.3 verdict pool refl c.judge_route.ensures)

@@ -2,7 +2,7 @@ use Rattle.std.proofs.Common.{◌≡◌, ◌≤◌, ◌+◌, ◌++◌, map}
 use Rattle.std.specs.Fmt.{decimal}
 use Rattle.crew_terms.specs.declared.TheConstants.{SKILLS}
 use Rattle.arrayvec.specs.ArrayVec.{array_vec_len}
-use Rattle.cert_format.specs.Parts.{text_of}
+use Rattle.cert_format.specs.Parts.{part_word}
 use Rattle.cert_format.specs.declared.instance_out.TheConstants.{MOST_PARTS}
 use Rattle.cert_format.proofs.Heads.{skills_below}
 use Rattle.cert_format.proofs.instance_out.push_skills.Given as goal
@@ -10,5 +10,5 @@ use Rattle.cert_format.proofs.instance_out.push_skills.Given as goal
 abbrev pub invariant-loop-s : goal.invariant-loop-s
 invariant-loop-s l = record {
   room : array_vec_len l.line + SKILLS ≤ MOST_PARTS + l.s;
-  so_far : map text_of l.line.items ≡ map text_of l.fn.line.items ++ map decimal (skills_below l.skills l.s);
+  so_far : map part_word l.line.items ≡ map part_word l.fn.line.items ++ map decimal (skills_below l.skills l.s);
 }

@@ -1,5 +1,5 @@
 use Rattle.std.proofs.Common.{◌≡◌, ◌<◌, ◌+◌, ◌++◌, ◌∷◌, [], List, ℕ, suc, length, get_or, ap, sym, ◌∙◌, arith}
-use Rattle.cert_format.specs.Parts.{text_of}
+use Rattle.cert_format.specs.Parts.{part_word}
 use Rattle.cert_format.specs.declared.lines_out.Part.{Part}
 use Rattle.cert_format.proofs.Fronts.{joined, gap_later}
 use Rattle.cert_format.proofs.lines_out.gather.Goals as goal
@@ -18,5 +18,5 @@ loop-part-preserved c =
     let i = c.loop-part.part-index in
     let split = c.in-Some.ensures.cases.0 in
     let below : i + 1 < length parts = (let l = ap length split in let t = c.loop-part-test.true in omega arith) in
-    two_steps _ _ _ _ _ _ _ c.loop-part.invariant (gap_later text_of parts i (omega arith)) (ap text_of (next_part parts _ _ i _ split)) c.in_ok-add_byte.ensures c.in_ok-add_part-2.ensures
-    ∙ sym (joined text_of parts (i + 1) _ below)
+    two_steps _ _ _ _ _ _ _ c.loop-part.invariant (gap_later part_word parts i (omega arith)) (ap part_word (next_part parts _ _ i _ split)) c.in_ok-add_byte.ensures c.in_ok-add_part-2.ensures
+    ∙ sym (joined part_word parts (i + 1) _ below)

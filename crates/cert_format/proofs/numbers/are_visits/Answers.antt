@@ -3,10 +3,11 @@ use Rattle.std.proofs.lemmas.Int.{ints}
 use Rattle.std.proofs.lemmas.Bool.{cases_eq}
 use Rattle.std.specs.Fmt.{decimal}
 use Rattle.std.proofs.lemmas.List.{get_or-drop}
+use Rattle.dossier_terms.specs.Counted.{visits_length}
 use Rattle.crew_terms.specs.declared.TheConstants.{LAST_MINUTE}
 use Rattle.cert_format.proofs.Accepted.{cast, number_field, last_below}
 use Rattle.cert_format.proofs.Fields.{number_spelled}
-use Rattle.cert_format.proofs.Visits.{SpellsVisit, length-visits, visit_at, visits_all}
+use Rattle.cert_format.proofs.Visits.{SpellsVisit, visit_at, visits_all}
 use Rattle.cert_format.proofs.numbers.are_visits.Goals as goal
 
 pub returns-then-not-is_in : goal.returns-then-not-is_in
@@ -17,7 +18,7 @@ returns-then-not-is_in c = λ vs s.
     let pairs = c.requires.pairs.1 in
     let count = c.count.ensures in
     let until = c.loop-n-test.true in
-    let few : n < length vs = (let e = ap length s.spelled in omega (arith, e, length-visits vs, length-drop from ws)) in
+    let few : n < length vs = (let e = ap length s.spelled in omega (arith, e, visits_length vs, length-drop from ws)) in
     let at = visit_at c.args.tasks vs s.known s.starts n few in
     let word : get_or ws (from + 2 * n) [] ≡ decimal at.visit.task = sym (get_or-drop from ws (2 * n) []) ∙ ap (λ xs. get_or xs (2 * n) []) s.spelled ∙ at.first in
     let high = to_z w64 (of_z w64 (to_z w64 c.args.tasks -ℤ pos 1)) in
@@ -33,7 +34,7 @@ returns-then-not-is_in-2 c = λ vs s.
     let pairs = c.requires.pairs.1 in
     let count = c.count.ensures in
     let until = c.loop-n-test.true in
-    let few : n < length vs = (let e = ap length s.spelled in omega (arith, e, length-visits vs, length-drop from ws)) in
+    let few : n < length vs = (let e = ap length s.spelled in omega (arith, e, visits_length vs, length-drop from ws)) in
     let at = visit_at c.args.tasks vs s.known s.starts n few in
     let next : from + 2 * n + 1 ≡ from + (2 * n + 1) = omega arith in
     let word : get_or ws (from + 2 * n + 1) [] ≡ decimal at.visit.start =

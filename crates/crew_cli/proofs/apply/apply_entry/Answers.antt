@@ -1,10 +1,10 @@
 use Rattle.std.proofs.Common.{subst, sym, refl, ◌∙◌, arith}
 use Rattle.std.proofs.lemmas.Bool.{false≢true}
 use Rattle.crew_io.specs.Io.{Appended}
+use Rattle.crew_io.specs.Appends.{appended_none}
 use Rattle.day_terms.specs.Refusal.{refusal_of}
 use Rattle.crew_cli.specs.Rounds.{rounds_text}
 use Rattle.crew_cli.proofs.Applies.{accepted_is_none, refusal_known, no_round, plan_applied}
-use Rattle.crew_cli.proofs.Said.{appended_none}
 use Rattle.crew_cli.proofs.apply.apply_entry.Goals as goal
 
 pub returns-in-Err-clause-applied : goal.returns-in-Err-clause-applied

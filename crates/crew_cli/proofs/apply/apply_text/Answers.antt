@@ -1,6 +1,6 @@
 use Rattle.std.proofs.Common.{None, subst}
 use Rattle.crew_cli.specs.Applied.{IsDay}
-use Rattle.crew_cli.specs.Run.{Says}
+use Rattle.crew_cli.specs.Run.{StatusSays}
 use Rattle.crew_cli.specs.declared.run.Command.TheVariants as command
 use Rattle.crew_cli.proofs.Said.{on_err}
 use Rattle.crew_cli.proofs.Applies.{refused_not_fine}
@@ -19,4 +19,4 @@ returns-clause-says g c =
 pub returns-clause-refused : goal.returns-clause-refused
 returns-clause-refused g c = λ is fine.
     let w = returns-clause-says g c in
-    refused_not_fine c.args.text.now w.0 c.one_reading.ensures.of_day (subst (λ s. Says command.Apply s None c.args.text.now w.0) is w.2) fine
+    refused_not_fine c.args.text.now w.0 c.one_reading.ensures.of_day (subst (λ s. StatusSays command.Apply s None c.args.text.now w.0) is w.2) fine

@@ -1,11 +1,11 @@
 use Rattle.std.proofs.Common.{◌≡◌, ◌≤◌, ◌-◌}
-use Rattle.crew_cli.specs.Input.{IsOpen}
+use Rattle.crew_cli.specs.Input.{CanGoOn}
 use Rattle.crew_cli.proofs.Said.{HasSaidOf}
 use Rattle.crew_cli.proofs.check.check_all.Given as goal
 
 abbrev pub invariant-dossiers : goal.invariant-dossiers
 invariant-dossiers g l = record {
-  going : IsOpen l.reader l.checker;
+  going : CanGoOn l.reader l.checker;
   so_far : HasSaidOf (g.S.Source.left l.fn.src) (g.K.Sink.got l.fn.out) l.reader (g.S.Source.left l.src) (g.K.Sink.got l.out) l.checker.lines;
   source_later : g.S.Source.faults l.fn.src ≤ g.S.Source.faults l.src;
   sink_later : g.K.Sink.faults l.fn.out ≤ g.K.Sink.faults l.out;

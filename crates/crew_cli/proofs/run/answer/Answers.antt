@@ -1,7 +1,7 @@
 use Rattle.std.proofs.Common.{◌≡◌, ◌⊎◌, subst, sym}
 use Rattle.std.specs.Prelude.{IfSome}
 use Rattle.crew_io.specs.Io.{Rose}
-use Rattle.crew_cli.specs.Run.{OfBytes, Says, IsFine}
+use Rattle.crew_cli.specs.Run.{OfBytes, StatusSays, IsFine}
 use Rattle.crew_cli.specs.declared.run.Command.{Command}
 use Rattle.crew_cli.specs.declared.status.Status.TheVariants as status
 use Rattle.crew_cli.proofs.Top.{check_says, check_complete, apply_part}
@@ -14,7 +14,7 @@ returns-in-Ok-clause-says g c =
     let got = g.K.Sink.got c.args.out.now in
     let later = g.K.Sink.got c.check.new.out in
     let e = c.in-Ok.ensures in
-    subst (λ (a : Command). OfBytes left got later (Says a c.in-Ok.status unseen)) (sym c.in-Check.is)
+    subst (λ (a : Command). OfBytes left got later (StatusSays a c.in-Ok.status unseen)) (sym c.in-Check.is)
     (check_says c.in-Ok.status left unseen got later e.done e.no e.interrupted e.front e.others)
 
 pub returns-in-Ok-clause-complete : goal.returns-in-Ok-clause-complete
@@ -33,7 +33,7 @@ returns-in-Ok-apply-clause-part g c =
     let unseen = g.S.Source.left c.apply.new.src in
     let got = g.K.Sink.got c.args.out.now in
     let later = g.K.Sink.got c.apply.new.out in
-    subst (λ (a : Command). OfBytes left got later (Says a status.WriteFault unseen)) (sym c.in-Apply.is)
+    subst (λ (a : Command). OfBytes left got later (StatusSays a status.WriteFault unseen)) (sym c.in-Apply.is)
     (apply_part c.in-Ok-apply.status left unseen got later c.in-Ok-apply.ensures.says)
 
 pub returns-in-Err-apply-clause-says : goal.returns-in-Err-apply-clause-says
@@ -42,7 +42,7 @@ returns-in-Err-apply-clause-says g c =
     let unseen = g.S.Source.left c.apply.new.src in
     let got = g.K.Sink.got c.args.out.now in
     let later = g.K.Sink.got c.apply.new.out in
-    subst (λ (a : Command). OfBytes left got later (Says a status.Memory unseen)) (sym c.in-Apply.is) c.in-Err-apply.ensures.memory
+    subst (λ (a : Command). OfBytes left got later (StatusSays a status.Memory unseen)) (sym c.in-Apply.is) c.in-Err-apply.ensures.memory
 
 pub returns-in-Err-apply-clause-part : goal.returns-in-Err-apply-clause-part
 returns-in-Err-apply-clause-part g c =
@@ -50,5 +50,5 @@ returns-in-Err-apply-clause-part g c =
     let unseen = g.S.Source.left c.apply.new.src in
     let got = g.K.Sink.got c.args.out.now in
     let later = g.K.Sink.got c.apply.new.out in
-    subst (λ (a : Command). OfBytes left got later (Says a status.WriteFault unseen)) (sym c.in-Apply.is)
+    subst (λ (a : Command). OfBytes left got later (StatusSays a status.WriteFault unseen)) (sym c.in-Apply.is)
     (apply_part status.Memory left unseen got later c.in-Err-apply.ensures.memory)

@@ -4,11 +4,11 @@ use Rattle.std.proofs.lemmas.Int.{to_z-of_z}
 use Rattle.std.specs.Int.{w128}
 use Rattle.crew_num.specs.declared.exact.Op.TheVariants.{Sub}
 use Rattle.crew_num.specs.declared.exact.Overflow.{Overflow}
-use Rattle.crew_num.specs.Exact.{IsFirstOf, IsInRange, IsOverflow, fault}
+use Rattle.crew_num.specs.Exact.{IsFirstOf, FitsI128, IsOverflow, fault}
 use Rattle.crew_num.specs.Exact.IsFirstOf.{Rest}
 use Rattle.crew_num.proofs.exact.cross.Goals as goal
 
-at_difference : (p a e b x y : ℤ) (f : Overflow) → x ≡ p *ℤ a → IsInRange (p *ℤ a) → y ≡ e *ℤ b → IsInRange (e *ℤ b)
+at_difference : (p a e b x y : ℤ) (f : Overflow) → x ≡ p *ℤ a → FitsI128 (p *ℤ a) → y ≡ e *ℤ b → FitsI128 (e *ℤ b)
     → f ≡ fault Sub (to_z w128 (of_z w128 x)) (to_z w128 (of_z w128 y)) → IsOverflow f → IsOverflow f × IsFirstOf p a e b f
 at_difference p a e b x y f ex h ey k is leaves =
     let one : to_z w128 (of_z w128 x) ≡ p *ℤ a = ap (λ z. to_z w128 (of_z w128 z)) ex ∙ to_z-of_z w128 (p *ℤ a) h in

@@ -5,7 +5,7 @@ use Rattle.dossier_terms.specs.Rules.{Holds, On}
 use Rattle.cert_format.specs.Lines.{IsFormLine}
 use Rattle.cert_format.specs.declared.kinds.LineKind.{LineKind}
 use Rattle.cert_format.specs.declared.kinds.LineKind.TheVariants as kinds
-use Rattle.head_check.specs.Head.{reading_of, IsStep}
+use Rattle.head_check.specs.Head.{reading_of, IsHeadStep}
 use Rattle.head_check.specs.declared.due.HeadDue.TheVariants.{Form, Size}
 use Rattle.head_check.specs.declared.due.HeadStep.TheVariants.{More, No}
 use Rattle.head_check.proofs.Steps.{says_step}
@@ -20,4 +20,4 @@ returns-in-Ok c = says_step Form c.args.words (More Size) (Holds (form_is c.args
 
 pub returns-in-Err : goal.returns-in-Err
 returns-in-Err c =
-    subst (λ r. IsStep Form c.args.words (No r)) (sym c.reason.ensures) (says_step Form c.args.words (No _) (c.fault_is_refused.ensures (reading_of Form) c.args.words c.in-Err.fault c.in-Err.ensures) tt)
+    subst (λ r. IsHeadStep Form c.args.words (No r)) (sym c.reason.ensures) (says_step Form c.args.words (No _) (c.fault_is_refused.ensures (reading_of Form) c.args.words c.in-Err.fault c.in-Err.ensures) tt)

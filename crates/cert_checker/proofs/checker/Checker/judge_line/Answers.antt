@@ -2,7 +2,7 @@ use Rattle.std.proofs.Common.{◌+◌, ap, subst, sym, arith}
 use Rattle.crew_terms.specs.Words.{words_of}
 use Rattle.cert_checker.specs.Checked.{IsJudged}
 use Rattle.cert_checker.specs.Due.{IsStep}
-use Rattle.cert_checker.specs.Kept.{IsSettled, state_in}
+use Rattle.cert_checker.specs.Kept.{IsSettled, kept_state}
 use Rattle.cert_checker.proofs.Judged.{judged, settles}
 use Rattle.cert_checker.proofs.checker.Checker.judge_line.Goals as goal
 
@@ -19,6 +19,6 @@ pub returns-clause-judged : goal.returns-clause-judged
 returns-clause-judged c = λ reading reached awaits.
     let step = subst (λ ws. IsStep c.args.due ws c.in_ok-step.step) c.split-words.ensures c.in_ok-step.ensures in
     subst (λ state. IsJudged c.args.self.now.lines reading (words_of c.args.line.now) c.settle.result (record { lines = c.self.inside.lines + 1; at = state })) (sym c.settle.ensures.kept)
-    (subst (λ n. IsJudged n reading (words_of c.args.line.now) c.settle.result (record { lines = c.self.inside.lines + 1; at = state_in (c.self.inside.lines + 1) c.in_ok-step.step })) (ap (λ v. v.lines) c.self.view_is)
+    (subst (λ n. IsJudged n reading (words_of c.args.line.now) c.settle.result (record { lines = c.self.inside.lines + 1; at = kept_state (c.self.inside.lines + 1) c.in_ok-step.step })) (ap (λ v. v.lines) c.self.view_is)
     (judged c.self.inside.lines reading (words_of c.args.line.now) c.in_ok-step.step c.settle.result
     reached (step reading awaits) c.one_answer.ensures c.settle.ensures.said))

@@ -2,7 +2,7 @@ use Rattle.std.proofs.Common.{◌∙◌, length, ap}
 use Rattle.std.specs.Prelude.{◌^◌, ℕ, bit_or}
 use Rattle.crew_terms.specs.Rules.{IsTeam}
 use Rattle.crew_terms.specs.declared.Team.{Team}
-use Rattle.day_terms.specs.State.{State, with_team}
+use Rattle.day_terms.specs.State.{DayState, with_changed_team}
 use Rattle.flight_changes.proofs.Skills.{with_skill, with_skill_fits}
 use Rattle.flight_changes.proofs.Keyed.{found_all}
 use Rattle.flight_changes.proofs.Known.{team_changed, team_stands}
@@ -23,5 +23,5 @@ pub returns : goal.returns
 returns c =
     let old = c.team-old.result in
     let change : Team → Team = λ t. record t { skills = bit_or t.skills (2 ^ c.args.skill) } in
-    let put : ℕ → State = λ skills. with_team c.args.self.now old.name (λ _. record old { skills = skills }) in
+    let put : ℕ → DayState = λ skills. with_changed_team c.args.self.now old.name (λ _. record old { skills = skills }) in
     c.put_team.ensures ∙ ap put (with_skill old.skills c.args.skill c.requires.range) ∙ team_changed c.args.self.now c.team-old.ensures.limits c.args.team.now old c.team-old.ensures.team change

@@ -4,7 +4,7 @@ use Rattle.std.proofs.lemmas.List.Elements.{All-push}
 use Rattle.crew_terms.specs.Rules.{IsTask}
 use Rattle.crew_terms.specs.declared.TheConstants.{MOST_TASKS}
 use Rattle.crew_terms.specs.declared.Task.{Task}
-use Rattle.day_terms.specs.State.{State, has_task}
+use Rattle.day_terms.specs.State.{DayState, has_task}
 use Rattle.flight_changes.specs.Kept.{kept}
 use Rattle.flight_changes.specs.Limits.{IsState}
 use Rattle.flight_changes.proofs.Keyed.{Hold, hold_added}
@@ -40,6 +40,6 @@ invariant_of-self-2 c =
 
 pub returns-clause-ok : goal.returns-clause-ok
 returns-clause-ok c =
-    let add : State → State = λ s. record s { tasks = s.tasks ++ c.args.task ∷ [] } in
-    let with : List Task → State = λ ts. record (kept c.self.inside) { tasks = ts } in
+    let add : DayState → DayState = λ s. record s { tasks = s.tasks ++ c.args.task ∷ [] } in
+    let with : List Task → DayState = λ ts. record (kept c.self.inside) { tasks = ts } in
     ap with (holds c).values ∙ ap add c.self.view_is

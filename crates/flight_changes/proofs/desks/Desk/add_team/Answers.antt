@@ -4,7 +4,7 @@ use Rattle.std.proofs.lemmas.List.Elements.{All-push}
 use Rattle.crew_terms.specs.Rules.{IsTeam}
 use Rattle.crew_terms.specs.declared.TheConstants.{MOST_TEAMS}
 use Rattle.crew_terms.specs.declared.Team.{Team}
-use Rattle.day_terms.specs.State.{State, has_team}
+use Rattle.day_terms.specs.State.{DayState, has_team}
 use Rattle.flight_changes.specs.Kept.{kept}
 use Rattle.flight_changes.specs.Limits.{IsState}
 use Rattle.flight_changes.proofs.Keyed.{Hold, hold_added}
@@ -34,6 +34,6 @@ invariant_of-self-2 c =
 
 pub returns-clause-ok : goal.returns-clause-ok
 returns-clause-ok c =
-    let add : State → State = λ s. record s { teams = s.teams ++ c.args.team ∷ [] } in
-    let with : List Team → State = λ ts. record (kept c.self.inside) { teams = ts } in
+    let add : DayState → DayState = λ s. record s { teams = s.teams ++ c.args.team ∷ [] } in
+    let with : List Team → DayState = λ ts. record (kept c.self.inside) { teams = ts } in
     ap with (holds c).values ∙ ap add c.self.view_is

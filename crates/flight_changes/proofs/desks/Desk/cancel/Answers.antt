@@ -3,7 +3,7 @@ use Rattle.std.proofs.lemmas.List.Elements.{All-filter}
 use Rattle.crew_terms.specs.Rules.{IsTask}
 use Rattle.crew_terms.specs.declared.Task.{Task}
 use Rattle.day_terms.specs.declared.Entry.TheVariants.{Cancel}
-use Rattle.day_terms.specs.State.{State, after_entry, is_task}
+use Rattle.day_terms.specs.State.{DayState, after_entry, is_task}
 use Rattle.flight_changes.specs.Kept.{kept}
 use Rattle.flight_changes.specs.Limits.{IsState}
 use Rattle.flight_changes.proofs.Keyed.{Hold, hold_removed}
@@ -29,5 +29,5 @@ invariant_of-self c =
 
 pub returns : goal.returns
 returns c =
-    let with : List Task → State = λ ts. record (kept c.self.inside) { tasks = ts } in
+    let with : List Task → DayState = λ ts. record (kept c.self.inside) { tasks = ts } in
     ap with (holds c).values ∙ ap (λ s. after_entry s (Cancel c.args.task.now)) c.self.view_is

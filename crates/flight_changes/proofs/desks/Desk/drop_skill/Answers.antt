@@ -3,7 +3,7 @@ use Rattle.std.specs.Prelude.{◌^◌, ℕ, bit_and}
 use Rattle.std.specs.Int.{bit_not, w64}
 use Rattle.crew_terms.specs.Rules.{IsTeam}
 use Rattle.crew_terms.specs.declared.Team.{Team}
-use Rattle.day_terms.specs.State.{State, with_team}
+use Rattle.day_terms.specs.State.{DayState, with_changed_team}
 use Rattle.flight_changes.proofs.Skills.{without_skill, without_skill_fits}
 use Rattle.flight_changes.proofs.Keyed.{found_all}
 use Rattle.flight_changes.proofs.Known.{team_changed, team_stands}
@@ -24,5 +24,5 @@ pub returns : goal.returns
 returns c =
     let old = c.team-old.result in
     let change : Team → Team = λ t. record t { skills = bit_and t.skills (bit_not w64 (2 ^ c.args.skill)) } in
-    let put : ℕ → State = λ skills. with_team c.args.self.now old.name (λ _. record old { skills = skills }) in
+    let put : ℕ → DayState = λ skills. with_changed_team c.args.self.now old.name (λ _. record old { skills = skills }) in
     c.put_team.ensures ∙ ap put (without_skill old.skills c.args.skill c.requires.range) ∙ team_changed c.args.self.now c.team-old.ensures.limits c.args.team.now old c.team-old.ensures.team change

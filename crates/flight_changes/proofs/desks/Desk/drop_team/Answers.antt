@@ -3,7 +3,7 @@ use Rattle.std.proofs.lemmas.List.Elements.{All-filter}
 use Rattle.crew_terms.specs.Rules.{IsTeam}
 use Rattle.crew_terms.specs.declared.Team.{Team}
 use Rattle.day_terms.specs.declared.Entry.TheVariants.{Sick}
-use Rattle.day_terms.specs.State.{State, after_entry, is_team}
+use Rattle.day_terms.specs.State.{DayState, after_entry, is_team}
 use Rattle.flight_changes.specs.Kept.{kept}
 use Rattle.flight_changes.specs.Limits.{IsState}
 use Rattle.flight_changes.proofs.Keyed.{Hold, hold_removed}
@@ -29,5 +29,5 @@ invariant_of-self c =
 
 pub returns : goal.returns
 returns c =
-    let with : List Team → State = λ ts. record (kept c.self.inside) { teams = ts } in
+    let with : List Team → DayState = λ ts. record (kept c.self.inside) { teams = ts } in
     ap with (holds c).values ∙ ap (λ s. after_entry s (Sick c.args.team.now)) c.self.view_is

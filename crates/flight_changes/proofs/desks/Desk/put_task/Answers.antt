@@ -2,7 +2,7 @@ use Rattle.std.proofs.Common.{List, is_some, length, map, arith, sym, ap, subst,
 use Rattle.std.proofs.lemmas.List.{length-map}
 use Rattle.crew_terms.specs.Rules.{IsTask}
 use Rattle.crew_terms.specs.declared.Task.{Task}
-use Rattle.day_terms.specs.State.{State, has_task, is_task, with_task}
+use Rattle.day_terms.specs.State.{DayState, has_task, is_task, with_changed_task}
 use Rattle.flight_changes.specs.Kept.{kept}
 use Rattle.flight_changes.specs.Limits.{IsState}
 use Rattle.flight_changes.proofs.Keyed.{Hold, hold_written, is_there, some_copied_mut}
@@ -35,5 +35,5 @@ invariant_of-self c =
 
 pub returns : goal.returns
 returns c =
-    let with : List Task → State = λ ts. record (kept c.self.inside) { tasks = ts } in
-    ap with (holds c).values ∙ ap (λ s. with_task s c.args.task.name (λ _. c.args.task)) c.self.view_is
+    let with : List Task → DayState = λ ts. record (kept c.self.inside) { tasks = ts } in
+    ap with (holds c).values ∙ ap (λ s. with_changed_task s c.args.task.name (λ _. c.args.task)) c.self.view_is

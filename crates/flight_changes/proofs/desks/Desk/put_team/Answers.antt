@@ -2,7 +2,7 @@ use Rattle.std.proofs.Common.{List, is_some, length, map, arith, sym, ap, subst,
 use Rattle.std.proofs.lemmas.List.{length-map}
 use Rattle.crew_terms.specs.Rules.{IsTeam}
 use Rattle.crew_terms.specs.declared.Team.{Team}
-use Rattle.day_terms.specs.State.{State, has_team, is_team, with_team}
+use Rattle.day_terms.specs.State.{DayState, has_team, is_team, with_changed_team}
 use Rattle.flight_changes.specs.Kept.{kept}
 use Rattle.flight_changes.specs.Limits.{IsState}
 use Rattle.flight_changes.proofs.Keyed.{Hold, hold_written, is_there, some_copied_mut}
@@ -35,5 +35,5 @@ invariant_of-self c =
 
 pub returns : goal.returns
 returns c =
-    let with : List Team → State = λ ts. record (kept c.self.inside) { teams = ts } in
-    ap with (holds c).values ∙ ap (λ s. with_team s c.args.team.name (λ _. c.args.team)) c.self.view_is
+    let with : List Team → DayState = λ ts. record (kept c.self.inside) { teams = ts } in
+    ap with (holds c).values ∙ ap (λ s. with_changed_team s c.args.team.name (λ _. c.args.team)) c.self.view_is

@@ -1,5 +1,5 @@
 use Rattle.std.proofs.Common.{◌≡◌, ◌∙◌, ap, map, subst, sym}
-use Rattle.day_terms.specs.State.{given_time, with_time}
+use Rattle.day_terms.specs.State.{given_time, with_time_between}
 use Rattle.flight_changes.specs.Kept.{given_of, kept}
 use Rattle.flight_changes.specs.Limits.{IsState}
 use Rattle.flight_changes.proofs.Times.{inserted, few_given}
@@ -27,4 +27,4 @@ invariant_of-self-2 c =
     }
 
 pub returns-clause-ok : goal.returns-clause-ok
-returns-clause-ok c = ap (λ t. record (kept c.self.inside) { times = t }) (at_end c) ∙ ap (λ s. with_time (with_time s c.args.from c.args.to c.args.minutes) c.args.to c.args.from c.args.minutes) c.self.view_is
+returns-clause-ok c = ap (λ t. record (kept c.self.inside) { times = t }) (at_end c) ∙ ap (λ s. with_time_between (with_time_between s c.args.from c.args.to c.args.minutes) c.args.to c.args.from c.args.minutes) c.self.view_is

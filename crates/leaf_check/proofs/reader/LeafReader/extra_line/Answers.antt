@@ -7,7 +7,7 @@ use Rattle.crew_terms.specs.Minutes.{required_teams}
 use Rattle.dossier_terms.specs.Reading.{No as Refuses, limits_of, Extras}
 use Rattle.dossier_terms.specs.Table.{AreNumbers, after_extra, extra_row}
 use Rattle.leaf_check.specs.Keys.{IsNextKey}
-use Rattle.leaf_check.specs.Reader.{HasRead, TellsNo, priced_leaf}
+use Rattle.leaf_check.specs.Reader.{HasReadLeaf, TellsNo, priced_leaf}
 use Rattle.leaf_check.specs.declared.reader.LeafReader.{LeafReader}
 use Rattle.leaf_check.proofs.Listed.{left_after}
 use Rattle.leaf_check.proofs.Lines.{extra_read}
@@ -31,7 +31,7 @@ returns-clause-tells c = λ a prices rows js g read row.
     let fits : AreNumbers IsPrice (length (required_teams (limits_of a) task)) vs = subst (λ m. AreNumbers IsPrice m vs) up h.1 in
     let r : LeafReader = record c.args.self.now { prices = c.set_extras.new.prices } in
     let set = c.set_extras.ensures in
-    let more : HasRead n r (priced_leaf prices (rows ++ vs ∷ [])) = record {
+    let more : HasReadLeaf n r (priced_leaf prices (rows ++ vs ∷ [])) = record {
       prices = more_prices n c.args.self.now.prices c.set_extras.new.prices prices rows task js vs read.prices row set.prices set.others set.given;
       worths = refl;
     } in

@@ -3,7 +3,7 @@ use Rattle.std.proofs.lemmas.Int.{to_z-of_z}
 use Rattle.std.specs.Prelude.{pos}
 use Rattle.std.proofs.lemmas.List.{get_or_default}
 use Rattle.crew_terms.specs.Limits.{tasks_in}
-use Rattle.leaf_check.specs.Reader.{HasPotentials, HasRead}
+use Rattle.leaf_check.specs.Reader.{HasPotentials, HasReadLeaf}
 use Rattle.leaf_check.specs.declared.reader.LeafReader.{LeafReader}
 use Rattle.leaf_check.proofs.Told.{read_table, team_low, team_worth, team_holds, with_table}
 use Rattle.leaf_check.proofs.reader.LeafReader.judge_team.Goals as goal
@@ -12,7 +12,7 @@ pub returns-in-Holds-clause-tells : goal.returns-in-Holds-clause-tells
 returns-in-Holds-clause-tells c = λ a leaf left table g read count teams potentials.
     let n = c.args.limits.now.limits in
     let r : LeafReader = record c.args.self.now { room = c.local.new.room } in
-    let kept : HasRead n r leaf = record { prices = read.prices; worths = read.worths } in
+    let kept : HasReadLeaf n r leaf = record { prices = read.prices; worths = read.worths } in
     let same : HasPotentials n r c.args.team table (tasks_in n) = record { worth = potentials.worth; phi = potentials.phi } in
     let team = c.args.team in
     let all = c.requires.ready.worths in
@@ -29,7 +29,7 @@ pub returns-in-Low-clause-tells : goal.returns-in-Low-clause-tells
 returns-in-Low-clause-tells c = λ a leaf left table g read count teams potentials.
     let n = c.args.limits.now.limits in
     let r : LeafReader = record c.args.self.now { room = c.local.new.room } in
-    let kept : HasRead n r leaf = record { prices = read.prices; worths = read.worths } in
+    let kept : HasReadLeaf n r leaf = record { prices = read.prices; worths = read.worths } in
     let same : HasPotentials n r c.args.team table (tasks_in n) = record { worth = potentials.worth; phi = potentials.phi } in
     let all = c.requires.ready.worths in
     let known = c.requires.team in
@@ -43,7 +43,7 @@ pub returns-in-Worth-clause-tells : goal.returns-in-Worth-clause-tells
 returns-in-Worth-clause-tells c = λ a leaf left table g read count teams potentials.
     let n = c.args.limits.now.limits in
     let r : LeafReader = record c.args.self.now { room = c.local.new.room } in
-    let kept : HasRead n r leaf = record { prices = read.prices; worths = read.worths } in
+    let kept : HasReadLeaf n r leaf = record { prices = read.prices; worths = read.worths } in
     let same : HasPotentials n r c.args.team table (tasks_in n) = record { worth = potentials.worth; phi = potentials.phi } in
     let all = c.requires.ready.worths in
     let known = c.requires.team in

@@ -7,7 +7,7 @@ use Rattle.crew_terms.specs.Minutes.{minute_count}
 use Rattle.dossier_terms.specs.Reading.{No as Refuses, limits_of, Phis}
 use Rattle.dossier_terms.specs.Table.{AreNumbers, after_phi, phi_row}
 use Rattle.leaf_check.specs.Keys.{AreCounted, IsNextKey, has_minutes}
-use Rattle.leaf_check.specs.Reader.{HasRead, HasPotentials, TellsNo, below_next}
+use Rattle.leaf_check.specs.Reader.{HasReadLeaf, HasPotentials, TellsNo, below_next}
 use Rattle.leaf_check.specs.declared.reader.LeafReader.{LeafReader}
 use Rattle.leaf_check.proofs.Listed.{left_after}
 use Rattle.leaf_check.proofs.Lines.{phi_read}
@@ -49,7 +49,7 @@ returns-clause-tells c = λ a leaf left table js g read count teams potentials r
     let counts : AreCounted n team task c.in-Some.first (length vs) = subst (AreCounted n team task c.in-Some.first) (sym h.1.count) c.in-Some.ensures.minutes in
     let next : IsNextKey (has_minutes n team) (tasks_in n) (suc task) c.next_open.result = subst (λ m. IsNextKey (has_minutes n team) (tasks_in n) m c.next_open.result) (add-one task) c.next_open.ensures in
     let more : Potentials = record { worth = table.worth; phi = table.phi ++ vs ∷ [] } in
-    let kept : HasRead n r leaf = record { prices = read.prices; worths = read.worths } in
+    let kept : HasReadLeaf n r leaf = record { prices = read.prices; worths = read.worths } in
     let holds : HasPotentials n r team more (below_next n c.next_open.result) = record {
       worth = potentials.worth;
       phi = λ i t l v. one_more c.minutes_are_permitted.ensures n team table task js vs old new c.in-Some.first row potentials.phi counts set.given set.others c.next_open.result next i t l v;

@@ -6,7 +6,7 @@ use Rattle.cert_format.specs.declared.kinds.Expect.TheVariants as expected
 use Rattle.crew_terms.specs.Minutes.{priced}
 use Rattle.dossier_terms.specs.Reading.{No as Refuses, limits_of, Prices}
 use Rattle.dossier_terms.specs.Table.{AreNumbers, after_extra, price_row}
-use Rattle.leaf_check.specs.Reader.{HasRead, LeafTells, TellsNo, priced_leaf}
+use Rattle.leaf_check.specs.Reader.{HasReadLeaf, LeafTells, TellsNo, priced_leaf}
 use Rattle.leaf_check.specs.declared.reader.LeafReader.{LeafReader}
 use Rattle.leaf_check.proofs.Listed.{left_first}
 use Rattle.leaf_check.proofs.Lines.{price_read}
@@ -29,7 +29,7 @@ returns-clause-tells c = λ a g.
     let fits : AreNumbers IsPrice (tasks_in (limits_of a)) vs = subst (λ m. AreNumbers IsPrice m vs) up h.0 in
     let r : LeafReader = record c.args.self.now { prices = c.set_prices.new.prices } in
     let set = c.set_prices.ensures in
-    let read : HasRead n r (priced_leaf vs []) = record { prices = first_prices n c.set_prices.new.prices vs set.prices set.tasks set.pairs; worths = refl } in
+    let read : HasReadLeaf n r (priced_leaf vs []) = record { prices = first_prices n c.set_prices.new.prices vs set.prices set.tasks set.pairs; worths = refl } in
     tells_rest a (after_extra a vs [] (priced (limits_of a))) (price_row a c.args.words) c.after_extra.result c.after_extra.new.self
     (λ said others. price_read a c.args.words vs said fits h.1 others)
     (subst (λ m. LeafTells a (after_extra a vs [] (priced m)) c.after_extra.result c.after_extra.new.self) (sym g.limits)

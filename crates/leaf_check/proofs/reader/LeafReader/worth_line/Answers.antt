@@ -9,7 +9,7 @@ use Rattle.crew_terms.specs.Minutes.{open_tasks}
 use Rattle.dossier_terms.specs.Reading.{No as Refuses, limits_of, Worths}
 use Rattle.dossier_terms.specs.Table.{after_phi, worth_row}
 use Rattle.leaf_check.specs.Keys.{has_minutes}
-use Rattle.leaf_check.specs.Reader.{HasRead, HasPotentials, LeafTells, TellsNo, below_next}
+use Rattle.leaf_check.specs.Reader.{HasReadLeaf, HasPotentials, LeafTells, TellsNo, below_next}
 use Rattle.leaf_check.specs.declared.reader.LeafReader.{LeafReader}
 use Rattle.leaf_check.proofs.Listed.{left_first}
 use Rattle.leaf_check.proofs.Lines.{worth_read}
@@ -38,7 +38,7 @@ returns-clause-tells c = λ a leaf left g read count teams.
     let short : team < length old.items = omega arith in
     let r : LeafReader = record c.args.self.now { worths = with_item old team v } in
     let table : Potentials = record { worth = worth; phi = [] } in
-    let kept : HasRead n r leaf = record { prices = read.prices; worths = more_worths leaf old.items team v count read.worths } in
+    let kept : HasReadLeaf n r leaf = record { prices = read.prices; worths = more_worths leaf old.items team v count read.worths } in
     let holds : HasPotentials n r team table (below_next n c.next_open.result) = record {
       worth = get_or-set_same old.items team v (pos 0) short ∙ is;
       phi = none_yet c.minutes_are_permitted.ensures n team c.next_open.result c.args.self.now.table table c.next_open.ensures;

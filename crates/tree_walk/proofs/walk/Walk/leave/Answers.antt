@@ -1,5 +1,6 @@
 use Rattle.std.proofs.Common.{ap, sym, ◌∙◌}
-use Rattle.tree_walk.proofs.Ways.{instance_in, second_is_split}
+use Rattle.crew_terms.specs.Nodes.{child_instance}
+use Rattle.tree_walk.proofs.Ways.{second_is_split}
 use Rattle.tree_walk.proofs.Leaves.{counted, split_above, same_instance, instance_at, turns, rises, ends}
 use Rattle.tree_walk.proofs.walk.Walk.leave.Goals as goal
 
@@ -23,7 +24,7 @@ returns-in-Some-second-clause-leaves c =
 pub returns-in-Some-second-clause-instance : goal.returns-in-Some-second-clause-instance
 returns-in-Some-second-clause-instance c =
     let above = split_above _ _ _ _ _ c.loop-branch.invariant c.in-Some.branch c.requires.somewhere (sym c.innermost.ensures ∙ c.in-Some.is) in
-    ap (λ t. t.limits.instance) c.narrow.ensures ∙ instance_in c.undo.new.self.limits c.in-Some-second.next.choice c.in-Some-second.next.side
+    ap (λ t. t.limits.instance) c.narrow.ensures ∙ child_instance c.undo.new.self.limits c.in-Some-second.next.choice c.in-Some-second.next.side
     ∙ above.instance c.undo.new.self c.undo.ensures.past ∙ sym (instance_at _ _ c.requires.somewhere)
 
 pub loop-branch-preserved : goal.loop-branch-preserved

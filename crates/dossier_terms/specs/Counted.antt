@@ -1,0 +1,50 @@
+-- laws of the numbers of trees, of the words of routes, and of numbers in their ranges
+use Rattle.std.proofs.Common.{◌≡◌, ◌≤◌, ◌+◌, ◌-◌, ◌*◌, ℕ, ℤ, List, [], ◌∷◌, length, refl, arith, length-append}
+use Rattle.std.specs.Prelude.{pos, negsuc, ◌≤ℤ◌}
+use Rattle.std.specs.List.{flat_map}
+use Rattle.std.proofs.lemmas.Int.{ints}
+use Rattle.crew_terms.specs.Branches.{LeafNode, SplitNode, Bare, Open, Closed, splits, closed, left_open, depth}
+use Rattle.crew_terms.specs.Leaf.{IsPrice}
+use Rattle.crew_terms.specs.Limits.{Route}
+use Rattle.crew_terms.specs.declared.Visit.{Visit}
+use Rattle.dossier_terms.specs.Dossier.{Written, IsWorthNumber, IsSigned}
+use Rattle.dossier_terms.specs.Lines.{visit_words, route_line}
+use Rattle.dossier_terms.specs.Table.{IsPairs}
+
+-- a tree has one leaf more than splits
+pub leaves_of : (t : Written) → closed t + left_open t ≡ splits t + 1
+leaves_of (LeafNode Bare) = refl
+leaves_of (LeafNode (Open leaf)) = refl
+leaves_of (LeafNode (Closed leaf)) = refl
+leaves_of (SplitNode choice first second) = let a = leaves_of first in let b = leaves_of second in omega arith
+
+-- it is no deeper than it has splits
+pub depth_le : (t : Written) → depth t ≤ splits t
+depth_le (LeafNode claim) = omega arith
+depth_le (SplitNode choice first second) = let a = depth_le first in let b = depth_le second in omega arith
+
+-- visits have two words each
+pub visits_length : (vs : List Visit) → length (flat_map visit_words vs) ≡ 2 * length vs
+visits_length [] = refl
+visits_length (v ∷ vs) = let a = visits_length vs in omega (arith, length-append (visit_words v) (flat_map visit_words vs))
+
+-- the words of a route have the shape of its line
+pub route_pairs : (r : Route) → 1 ≤ length r.visits → IsPairs (route_line r)
+route_pairs r some = let a = visits_length r.visits in (length r.visits - 1, omega arith)
+
+-- fits 64 bits, with a sign
+pub record IsWide (z : ℤ) : Type 0 where
+  pub least : negsuc 9223372036854775807 ≤ℤ z
+  pub most : z ≤ℤ pos 9223372036854775807
+
+-- a price does
+pub price_wide : (z : ℤ) → IsPrice z → IsWide z
+price_wide z h = let p = h.least in let q = h.most in record { least = omega (arith, ints); most = omega (arith, ints) }
+
+-- a worth does
+pub worth_wide : (z : ℤ) → IsWorthNumber z → IsWide z
+worth_wide z h = let p = h.least in let q = h.most in record { least = omega (arith, ints); most = omega (arith, ints) }
+
+-- a potential does
+pub signed_wide : (z : ℤ) → IsSigned z → IsWide z
+signed_wide z h = record { least = grind (arith, ints, h); most = grind (arith, ints, h) }

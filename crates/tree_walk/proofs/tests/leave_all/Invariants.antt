@@ -1,5 +1,0 @@
-use Rattle.tree_walk.specs.Way.{IsSomewhere}
-use Rattle.tree_walk.proofs.tests.leave_all.Given as goal
-
-abbrev pub invariant-loop-n : goal.invariant-loop-n
-invariant-loop-n l = IsSomewhere l.limits l.walk

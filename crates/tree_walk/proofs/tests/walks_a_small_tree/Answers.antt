@@ -1,6 +1,0 @@
-use Rattle.std.proofs.Common.{ap}
-use Rattle.tree_walk.proofs.Somewhere.{at_root}
-use Rattle.tree_walk.proofs.tests.walks_a_small_tree.Goals as goal
-
-pub split_window-requires : goal.split_window-requires
-split_window-requires g c = at_root _ _ c.new-walk.ensures (ap (λ t. t.past) c.in_ok-limits.ensures)
