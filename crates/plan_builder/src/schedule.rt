@@ -14,13 +14,16 @@ use crew_instance::{Instance, Plan, Turn, fill_turns, unassigned};
 use crew_terms::{MOST_TASKS, MOST_TEAMS};
 use std::alloc::{AllocError, Global};
 use std::marker::Model;
-use team_days::{free_teams_may_begin, is_free_in, other_days_stay};
+use team_days::{free_teams_may_begin, idle_in, is_free_in, other_days_stay};
 
 /// What a team does in a plan, in order.
 type Day = ArrayVec<Turn, MOST_TASKS>;
 
 /// Some of the teams.
 pub(crate) type Teams = ArrayVec<u32, MOST_TEAMS>;
+
+/// A skill that a team has and the task doesn't need counts as so many minutes of waiting.
+const COST_OF_A_SKILL: u32 = 30;
 
 /// A legal plan of an instance, with what each team does in order.
 #[derive(Drop)]
@@ -71,7 +74,11 @@ fn look_anew(plan: &Plan, teams: &[u32], days: &mut [Day])
 
 impl<'i> Schedule<'i> {
     /// The schedule of a legal plan.
-    pub(crate) fn new(alloc: Global, instance: &'i Instance, plan: Plan) -> Result<Schedule<'i>, AllocError>
+    pub(crate) fn new(
+        alloc: Global,
+        instance: &'i Instance,
+        plan: Plan,
+    ) -> Result<Schedule<'i>, AllocError>
         requires { IsLegal instance.now plan }
         ensures { IfOk result (λ s. s ≡ record { instance = instance.now; plan = plan }) }
     {
@@ -94,7 +101,8 @@ impl<'i> Schedule<'i> {
 
     /// How many tasks are unassigned.
     pub(crate) fn unassigned(&self) -> u32
-        ensures { result ≡ unassigned_count self.now.plan }
+        ensures count { result ≡ unassigned_count self.now.plan }
+        ensures legal { IsLegal self.now.instance self.now.plan }
     {
         unassigned(&self.plan)
     }
@@ -102,7 +110,8 @@ impl<'i> Schedule<'i> {
     /// Whether task `j` is unassigned.
     pub(crate) fn is_open(&self, j: u32) -> bool
         requires { j < length self.now.instance.tasks }
-        ensures { IsTrue result ↔ (job_of self.now.plan j ≡ None) }
+        ensures open { IsTrue result ↔ (job_of self.now.plan j ≡ None) }
+        ensures known { j < length self.now.plan }
     {
         self.plan.start(j).is_none()
     }
@@ -130,6 +139,19 @@ impl<'i> Schedule<'i> {
             }
         }
         free
+    }
+
+    /// What it costs to give team `k` task `j` at minute `t`: the minutes that it waits, and skills that others may need.
+    pub(crate) fn cost(&self, k: u32, j: u32, t: u32) -> i128
+        requires team { k < length self.now.instance.teams }
+        requires task { j < length self.now.instance.tasks }
+        requires window { t ≤ (task_of self.now.instance j).latest }
+    {
+        let idle = idle_in(self.instance, &self.days[k as usize], k, j, t);
+        let team = self.instance.team(k);
+        let task = self.instance.task(j);
+        let spare = (team.skills & !task.skills).count_ones();
+        i128::from(idle.saturating_add(spare.saturating_mul(COST_OF_A_SKILL)))
     }
 
     /// Has these teams begin task `j` at minute `t`, each of which can take it into its day.

@@ -1,4 +1,4 @@
-use Rattle.std.proofs.Common.{◌≡◌, ◌<◌, length}
+use Rattle.std.proofs.Common.{◌≡◌, length}
 use Rattle.plan_builder.specs.Schedules.{AreDays}
 use Rattle.plan_builder.proofs.schedule.days_of.Given as goal
 

@@ -1,4 +1,4 @@
-use Rattle.std.proofs.Common.{◌≡◌, ◌≤◌, ◌+◌, true, arith, ap, subst, sym, length, length-append, ◌∷◌, [], ℕ}
+use Rattle.std.proofs.Common.{◌≤◌, ◌+◌, arith, ap, subst, sym, length, length-append, ◌∷◌, [], ℕ}
 use Rattle.arrayvec.specs.ArrayVec.{ArrayVec}
 use Rattle.team_days.specs.Free.{IsFreeFor}
 use Rattle.plan_builder.specs.Schedules.{Schedule}
@@ -26,8 +26,8 @@ pub returns : goal.returns
 returns c =
     below_all (λ k. IsFreeFor c.args.self.now.instance c.args.self.now.plan k c.args.j c.args.t) c.loop-k.k c.loop-k.free.items
     (λ h free.
-        let l = free.known in
-        let m = c.loop-k-test.false in
-        let a = c.teams-k-end.ensures.count in
-        let b = ap (λ (s : Schedule). length s.instance.teams) c.self.view_is in
-        omega arith) c.loop-k.invariant.1
+    let l = free.known in
+    let m = c.loop-k-test.false in
+    let a = c.teams-k-end.ensures.count in
+    let b = ap (λ (s : Schedule). length s.instance.teams) c.self.view_is in
+    omega arith) c.loop-k.invariant.1
