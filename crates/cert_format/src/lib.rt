@@ -14,8 +14,6 @@ mod nodes;
 pub mod numbers;
 mod ranges;
 mod shape;
-#[cfg(test)]
-mod tests;
 
 use field_table::LineWords;
 pub use instance_out::write_instance;

@@ -3,8 +3,6 @@
 
 mod pool;
 mod routes;
-#[cfg(test)]
-mod tests;
 
 pub use node_limits::{Limits, Visit};
 pub use pool::{Pool, PoolVerdict};
