@@ -1,9 +1,10 @@
 // Lines that are written, and an instance as lines.
-use cert_format::{Part, put_line, write_instance};
+use cert_format::write_instance;
 use crew_fixtures::{gate_builder, task, team, text_of};
 use crew_instance::Instance;
 use crew_io::sink::{MemSink, WriteFault};
 use crew_terms::{Task, Team};
+use line_out::{Part, put_line};
 use std::alloc::Global;
 use std::test::Fail;
 

@@ -1,8 +1,10 @@
 // A line of words, written to a sink.
+#![tactic(auto)]
+
 ghost use Rattle.std.specs.Prelude.{◌≡◌, ◌≤◌, ◌++◌, [], ◌∷◌, map, OnOk, OnErr, IsErr};
 ghost use Rattle.crew_io.specs.Io.{Rose, Appended, AppendedPart};
 ghost use Rattle.crew_terms.specs.Words.{line_text};
-ghost use Rattle.cert_format.specs.Parts.{part_word};
+ghost use Rattle.line_out.specs.Parts.{part_word};
 
 use arrayvec::ArrayVec;
 use crew_io::sink::{Sink, WriteFault, put_all};

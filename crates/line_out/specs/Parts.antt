@@ -1,8 +1,8 @@
 -- the parts of a line that is written
 use Rattle.std.specs.Prelude.{ℕ, List}
 use Rattle.std.specs.Fmt.{decimal}
-use Rattle.cert_format.specs.declared.lines_out.Part.{Part}
-use Rattle.cert_format.specs.declared.lines_out.Part.TheVariants.{Word, Number}
+use Rattle.line_out.specs.declared.Part.{Part}
+use Rattle.line_out.specs.declared.Part.TheVariants.{Word, Number}
 
 -- the word that a part is
 abbrev pub part_word : Part → List ℕ

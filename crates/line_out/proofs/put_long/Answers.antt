@@ -2,14 +2,15 @@ use Rattle.std.proofs.Common.{◌++◌, ◌∷◌, [], List, ℕ, take, map, sym
 use Rattle.std.specs.List.{join_with_byte}
 use Rattle.std.proofs.lemmas.List.{take_all}
 use Rattle.crew_io.specs.Io.{Appended, AppendedPart}
-use Rattle.crew_io.specs.Appends.{appended_both}
 use Rattle.crew_terms.specs.Words.{line_text}
 use Rattle.std.proofs.lemmas.Result.{on_err_weaker}
-use Rattle.cert_format.specs.Parts.{part_word}
-use Rattle.cert_format.specs.declared.lines_out.Part.{Part}
-use Rattle.cert_format.specs.declared.lines_out.Part.TheVariants.{Number}
-use Rattle.cert_format.proofs.Fronts.{part_after, on_err, gap_after, gap_front, part_front, joined, feed_front, gap_later}
-use Rattle.cert_format.proofs.lines_out.put_long.Goals as goal
+use Rattle.line_out.specs.Parts.{part_word}
+use Rattle.line_out.specs.declared.Part.{Part}
+use Rattle.line_out.specs.declared.Part.TheVariants.{Number}
+use Rattle.crew_io.specs.Appends.{appended_both}
+use Rattle.line_out.specs.Fronts.{part_after, on_err}
+use Rattle.line_out.proofs.Joined.{gap_after, gap_front, part_front, joined, feed_front, gap_later}
+use Rattle.line_out.proofs.put_long.Goals as goal
 
 pub returns-in_err-put_all-clause-part : goal.returns-in_err-put_all-clause-part
 returns-in_err-put_all-clause-part g c =

@@ -1,9 +1,9 @@
 use Rattle.std.proofs.Common.{◌≡◌, take, map}
 use Rattle.std.specs.List.{join_with_byte}
 use Rattle.crew_io.specs.Io.{Appended}
-use Rattle.cert_format.specs.Parts.{part_word}
-use Rattle.cert_format.proofs.Fronts.{gap_after}
-use Rattle.cert_format.proofs.lines_out.put_long.Given as goal
+use Rattle.line_out.specs.Parts.{part_word}
+use Rattle.line_out.proofs.Joined.{gap_after}
+use Rattle.line_out.proofs.put_long.Given as goal
 
 abbrev pub invariant-loop-part : goal.invariant-loop-part
 invariant-loop-part g l = record {

@@ -1,8 +1,8 @@
 use Rattle.std.proofs.Common.{◌≡◌, ◌<◌, ◌+◌, ◌++◌, ◌∷◌, [], List, ℕ, suc, length, get_or, ap, sym, ◌∙◌, arith}
-use Rattle.cert_format.specs.Parts.{part_word}
-use Rattle.cert_format.specs.declared.lines_out.Part.{Part}
-use Rattle.cert_format.proofs.Fronts.{joined, gap_later}
-use Rattle.cert_format.proofs.lines_out.gather.Goals as goal
+use Rattle.line_out.specs.Parts.{part_word}
+use Rattle.line_out.specs.declared.Part.{Part}
+use Rattle.line_out.proofs.Joined.{joined, gap_later}
+use Rattle.line_out.proofs.gather.Goals as goal
 
 -- a part of the others is the next of all parts
 next_part : (parts : List Part) (first : Part) (others : List Part) (i : ℕ) (d : Part) → parts ≡ first ∷ others → get_or others i d ≡ get_or parts (i + 1) d
