@@ -9,8 +9,6 @@ mod leaf;
 mod node;
 mod plan;
 mod pool;
-#[cfg(test)]
-mod tests;
 mod tree;
 
 pub use checker::{Checker, Said, Stop, Verdict};

@@ -18,13 +18,13 @@ use Rattle.day_terms.specs.declared.Entry.TheVariants.{Place, Travel, RouteTime,
 use Rattle.day_terms.specs.declared.Refused.{Refused}
 use Rattle.day_terms.specs.Days.{IsDayOf}
 use Rattle.day_terms.specs.State.{DayState, start, after_entry, state_after}
-use Rattle.day_terms.specs.Refusal.{Refusal, TooMany, SameName, NoPlace, NoTask, NoTeam, BadWindow, BadShift, BadTeams, MissingTravel as Lacks, refusal_of}
+use Rattle.day_terms.specs.Refusal.{AreTaken, Refusal, TooMany, SameName, NoPlace, NoTask, NoTeam, BadWindow, BadShift, BadTeams, MissingTravel as Lacks, refusal_of}
 use Rattle.day_terms.specs.Rounds.{Round, day_instance, round_at, rounds_of}
 use Rattle.flight_changes.specs.Faults.{fault_of}
 use Rattle.flight_changes.specs.declared.faults.ChangeFault.{ChangeFault}
 use Rattle.flight_changes.specs.declared.faults.ChangeFault.TheVariants.{OutOfMemory, MissingTravel}
 use Rattle.crew_cli.specs.Refused.{refused_line}
-use Rattle.crew_cli.specs.Rounds.{AreTaken, DayStop, ComesTo, AllTaken, BadRecord, BadChange, rounds_text, stop_text, IsRefusedOutput, IsTooLong, IsStopped, IsOutput, OfRounds, OfRefusal, SaysOutputPart, NoByte, SomeBytes, SaysFirstRounds, NoRound, Rounds}
+use Rattle.crew_cli.specs.Rounds.{DayStop, ComesTo, AllTaken, BadRecord, BadChange, rounds_text, stop_text, IsRefusedOutput, IsTooLong, IsStopped, IsOutput, OfRounds, OfRefusal, SaysOutputPart, NoByte, SomeBytes, SaysFirstRounds, NoRound, Rounds}
 use Rattle.crew_cli.specs.Applied.{IsApplied, IsDay, Wrote, is_taken_or_write_fault, is_refused_or_write_fault, is_of_day}
 use Rattle.crew_cli.specs.Run.{OfBytes, StatusSays, IsFine}
 use Rattle.crew_cli.specs.declared.run.Command.TheVariants as command

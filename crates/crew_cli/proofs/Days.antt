@@ -8,11 +8,11 @@ use Rattle.day_terms.specs.declared.Entry.{Entry}
 use Rattle.day_terms.specs.declared.Refused.{Refused}
 use Rattle.day_terms.specs.Days.{IsDayOf}
 use Rattle.day_terms.specs.State.{DayState, start, after_entry, state_after}
-use Rattle.day_terms.specs.Refusal.{Refusal, refusal_of}
+use Rattle.day_terms.specs.Refusal.{AreTaken, Refusal, refusal_of}
 use Rattle.day_terms.specs.Rounds.{Round, round_at, rounds_from, rounds_of}
 use Rattle.flight_changes.specs.Faults.{fault_of}
 use Rattle.crew_cli.specs.declared.refused.DayFault.TheVariants.{InItself, Change}
-use Rattle.crew_cli.specs.Rounds.{AreTaken, DayStop, ComesTo, AllTaken, BadRecord, BadChange, rounds_text}
+use Rattle.crew_cli.specs.Rounds.{DayStop, ComesTo, AllTaken, BadRecord, BadChange, rounds_text}
 
 -- the text of a round
 abbrev pub round_text : Round → List ℕ

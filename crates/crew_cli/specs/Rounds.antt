@@ -6,18 +6,13 @@ use Rattle.dossier_terms.specs.Lines.{instance_text}
 use Rattle.day_terms.specs.declared.Entry.{Entry}
 use Rattle.day_terms.specs.declared.Refused.{Refused}
 use Rattle.day_terms.specs.Days.{IsDayOf}
-use Rattle.day_terms.specs.State.{DayState, start, after_entry, state_after}
-use Rattle.day_terms.specs.Refusal.{Refusal, refusal_of}
+use Rattle.day_terms.specs.State.{start, state_after}
+use Rattle.day_terms.specs.Refusal.{AreTaken, Refusal, refusal_of}
 use Rattle.day_terms.specs.Rounds.{Round, rounds_of}
 use Rattle.flight_changes.specs.Faults.{fault_of}
 use Rattle.crew_cli.specs.Refused.{refused_line}
 use Rattle.crew_cli.specs.declared.refused.DayFault.{DayFault}
 use Rattle.crew_cli.specs.declared.refused.DayFault.TheVariants.{TooLong, InItself, Change}
-
--- each of these entries is taken by the state that those before it come to
-abbrev pub AreTaken : DayState → List Entry → Type 0
-AreTaken s [] = Unit {0}
-AreTaken s (entry ∷ entries) = (refusal_of s entry ≡ None) × AreTaken (after_entry s entry) entries
 
 -- the record of a day that is refused: its number, from 1, and why
 pub record DayStop : Type 0 where

@@ -11,10 +11,10 @@ ghost use Rattle.dossier_terms.specs.Table.{Ended, Reaches};
 ghost use Rattle.cert_checker.specs.Checked.{IsTrueYes};
 ghost use Rattle.day_terms.specs.declared.Entry.{Entry};
 ghost use Rattle.day_terms.specs.State.{start, state_after};
-ghost use Rattle.day_terms.specs.Refusal.{refusal_of};
+ghost use Rattle.day_terms.specs.Refusal.{AreTaken, refusal_of};
 ghost use Rattle.day_terms.specs.Rounds.{Round};
 ghost use Rattle.crew_cli.specs.Input.{IsRefusal, text_of_lines};
-ghost use Rattle.crew_cli.specs.Rounds.{AreTaken, ComesTo, DayStop};
+ghost use Rattle.crew_cli.specs.Rounds.{ComesTo, DayStop};
 
 use day_records::one_reading;
 use dossier_laws::{

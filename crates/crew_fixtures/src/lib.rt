@@ -1,12 +1,14 @@
-// Names, teams, tasks, visits and small instances. For tests alone: no crate of the program stands on it.
+// Names, teams, tasks, visits, plans, small instances and dossiers. For tests alone: no crate of the program stands on it.
 #![tactic(auto)]
 
 mod asked;
 mod builders;
+pub mod dossiers;
 mod faults;
 mod instances;
 mod parts;
 mod plans;
+mod texts;
 
 pub use asked::{frozen_at, is_qualified, minutes_between, place_at, task_at, team_at};
 pub use builders::{builder_of, builder_of_places, far_builder, gate_builder, gate_instance};
@@ -16,3 +18,4 @@ pub use instances::{
 };
 pub use parts::{gate_task, name, numbered, task, team, visit};
 pub use plans::{Job, is_plan_of, plan_of};
+pub use texts::{joined, text_of, with_line};

@@ -5,8 +5,6 @@ mod day;
 mod laws;
 mod rows;
 mod skills;
-#[cfg(test)]
-mod tests;
 mod words;
 
 pub use day::{Day, Entries, read_day};

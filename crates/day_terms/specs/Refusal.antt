@@ -1,8 +1,8 @@
 -- why an entry is refused in a state
-use Rattle.std.specs.Prelude.{◌-◌, ◌||◌, ℕ, Bool, List, [], ◌∷◌, Option, None, length, not, nat_le, nat_lt, option_map}
+use Rattle.std.specs.Prelude.{◌≡◌, ◌-◌, ◌||◌, ℕ, Bool, List, [], ◌∷◌, Option, None, length, not, nat_le, nat_lt, option_map}
 use Rattle.std.specs.Map.{lookup}
 use Rattle.crew_terms.specs.declared.TheConstants.{MOST_PLACES, MOST_TEAMS, MOST_TASKS, MOST_TEAMS_PER_TASK, WIDEST_WINDOW}
-use Rattle.day_terms.specs.State.{DayState, has_place, has_team, has_task}
+use Rattle.day_terms.specs.State.{DayState, has_place, has_team, has_task, after_entry}
 use Rattle.day_terms.specs.Rounds.{first_missing}
 use Rattle.day_terms.specs.declared.Entry.{Entry}
 use Rattle.day_terms.specs.declared.Entry.TheVariants.{Place, Travel, RouteTime, DefaultTravel, Team, Task, Cancel, Move, Longer, Needs, Sick, Shift, Skill, Unskill, Plan}
@@ -65,3 +65,8 @@ refusal_of s (Shift team from until) = first_of ((not (has_team s team), NoTeam)
 refusal_of s (Skill team skill) = first_of ((not (has_team s team), NoTeam) ∷ [])
 refusal_of s (Unskill team skill) = first_of ((not (has_team s team), NoTeam) ∷ [])
 refusal_of s (Plan nodes) = option_map (λ p. MissingTravel p.0 p.1) (first_missing s)
+
+-- each of these entries is taken by the state that those before it come to
+abbrev pub AreTaken : DayState → List Entry → Type 0
+AreTaken s [] = Unit {0}
+AreTaken s (entry ∷ entries) = (refusal_of s entry ≡ None) × AreTaken (after_entry s entry) entries

@@ -6,8 +6,6 @@ mod checks;
 mod desks;
 mod faults;
 mod moments;
-#[cfg(test)]
-mod tests;
 
 pub use crew_instance::Instance;
 pub use crew_terms::Name;

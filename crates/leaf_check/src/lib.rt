@@ -5,7 +5,5 @@ mod keys;
 mod prices;
 mod reader;
 mod rows;
-#[cfg(test)]
-mod tests;
 
 pub use reader::{Goal, LeafReader, LeafStep};

@@ -3,9 +3,8 @@
 
 mod pool;
 mod routes;
-#[cfg(test)]
-mod tests;
 
 pub use node_limits::{Limits, Visit};
 pub use pool::{Pool, PoolVerdict};
-pub use routes::Route;
+pub use route_terms::Route;
+pub use routes::read_route;

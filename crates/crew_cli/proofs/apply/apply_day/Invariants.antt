@@ -2,7 +2,8 @@ use Rattle.std.proofs.Common.{◌≡◌, ◌≤◌, take}
 use Rattle.crew_io.specs.Io.{Appended}
 use Rattle.day_terms.specs.State.{start, state_after}
 use Rattle.day_terms.specs.Rounds.{rounds_of}
-use Rattle.crew_cli.specs.Rounds.{AreTaken, rounds_text}
+use Rattle.crew_cli.specs.Rounds.{rounds_text}
+use Rattle.day_terms.specs.Refusal.{AreTaken}
 use Rattle.crew_cli.proofs.apply.apply_day.Given as goal
 
 abbrev pub invariant-loop-n : goal.invariant-loop-n

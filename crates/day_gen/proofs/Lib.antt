@@ -1,0 +1,4 @@
+pub mod Runs
+pub mod Names
+pub mod Ranges
+pub mod Taken

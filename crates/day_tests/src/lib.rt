@@ -1,0 +1,13 @@
+// Tests of a day's records, and of a day under changes.
+#![tactic(auto)]
+
+#[cfg(test)]
+mod changes;
+#[cfg(test)]
+mod given;
+#[cfg(test)]
+mod records;
+#[cfg(test)]
+mod refusals;
+#[cfg(test)]
+mod same;

@@ -1,5 +1,0 @@
-use Rattle.leaf_check.specs.Reader.{IsReady}
-use Rattle.leaf_check.proofs.tests.read_leaf.Given as goal
-
-abbrev pub invariant-loop-n : goal.invariant-loop-n
-invariant-loop-n l = IsReady l.limits.limits l.reader

@@ -1,0 +1,5 @@
+// Tests of generated days.
+#![tactic(auto)]
+
+#[cfg(test)]
+mod days;
