@@ -68,7 +68,14 @@ fn best_with(
         return Ok(Some(h));
     };
     let other = row_at(rows, g);
-    if is_before(row[RIGHT], number, basis[h], other[RIGHT], other[v], basis[g])? {
+    if is_before(
+        row[RIGHT],
+        number,
+        basis[h],
+        other[RIGHT],
+        other[v],
+        basis[g],
+    )? {
         return Ok(Some(h));
     }
     Ok(Some(g))

@@ -61,11 +61,7 @@ fn is_required(pair: Pair) -> bool
 }
 
 /// Puts the missed and the repeated parts of the task's required pairs behind these places.
-fn push_pairs_of(
-    places: &mut Vec<Place>,
-    limits: &Limits<'_>,
-    j: u32,
-) -> Result<(), AllocError>
+fn push_pairs_of(places: &mut Vec<Place>, limits: &Limits<'_>, j: u32) -> Result<(), AllocError>
     requires { j < tasks_in limits.now.limits }
     ensures places { IfOk result (λ _. places.new.items ≡ places.old.items
         ++ flat_map both_of_pair (map (λ k. (k, j)) (required_teams limits.now.limits j))) }
