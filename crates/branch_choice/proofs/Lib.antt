@@ -1,0 +1,5 @@
+pub mod More
+pub mod Cuts
+pub mod UsedPairs
+pub mod OpenPairs
+pub mod Valid

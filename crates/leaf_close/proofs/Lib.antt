@@ -1,0 +1,5 @@
+pub mod Doing
+pub mod Listing
+pub mod StuckTeams
+pub mod Pricing
+pub mod Closed

@@ -1,0 +1,4 @@
+pub mod Turns
+pub mod Cases
+pub mod Faults
+pub mod Closings

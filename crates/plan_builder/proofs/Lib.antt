@@ -1,0 +1,4 @@
+pub mod Days
+pub mod Listed
+pub mod Filled
+pub mod Frozen
