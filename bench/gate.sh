@@ -27,13 +27,19 @@ status=0
 wait $gate || status=$?
 tail -n 1 "$made/log"
 
-# the last look at a process counts
+# the last look at a process counts; a number that has fewer seconds than before is another process's
 awk '
-  { seconds[$1] = $2; of[$1] = $3 " " $4; crates[$3] }
+  {
+    what = $3 " " $4; key = $1 " " what; crates[$3]
+    if ($2 < last[key]) used[what] += last[key]
+    last[key] = $2
+  }
   END {
-    for (it in seconds) { used[of[it]] += seconds[it]; split(of[it], part); sum[part[1]] += seconds[it] }
-    for (it in crates)
-      printf "| `%s` | %.1f | %.1f | %.1f | %.1f |\n", it, used[it " proof"] / 60, used[it " tests"] / 60, used[it " edits"] / 60, sum[it] / 60
+    for (key in last) { split(key, part); used[part[2] " " part[3]] += last[key] }
+    for (it in crates) {
+      proof = used[it " proof"] / 60; tests = used[it " tests"] / 60; edits = used[it " edits"] / 60
+      printf "| `%s` | %.1f | %.1f | %.1f | %.1f |\n", it, proof, tests, edits, proof + tests + edits
+    }
   }' "$made/seen" | sort -t '|' -k 6 -rn >"$made/rows"
 echo '| Crate | proof | tests | edits | minutes |'
 echo '|---|---|---|---|---|'

@@ -1,6 +1,7 @@
 // What a day becomes, entry by entry.
+use crate::asserts::{same, same_at};
 use crate::given::{SMALL_DAY, answer, give};
-use crew_fixtures::{minutes_between, name, same, same_at, task_at, team_at};
+use crew_fixtures::{minutes_between, name, task_at, team_at};
 use crew_terms::{Task, Team};
 use flight_changes::{ChangeFault, Desk};
 use std::alloc::Global;

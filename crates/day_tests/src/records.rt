@@ -1,5 +1,6 @@
 // Days that are read: whole ones, each record at the ends of its ranges, and the first bad record.
-use crew_fixtures::{Shown, holds_at, name, same};
+use crate::asserts::{holds_at, same};
+use crew_fixtures::{Shown, name};
 use day_records::{Day, DayCause, Entry, Refused, read_day};
 use field_table::{Cause, FieldFault};
 use std::alloc::{AllocError, Global};

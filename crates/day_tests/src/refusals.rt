@@ -2,8 +2,9 @@
 ghost use Rattle.day_terms.specs.Ranges.{IsInRange};
 
 use crate::alike::are_same;
+use crate::asserts::{same, same_at};
 use crate::given::{SMALL_DAY, answer, give};
-use crew_fixtures::{Shown, numbered, same, same_at};
+use crew_fixtures::{Shown, numbered};
 use day_terms::Entry;
 use flight_changes::{ChangeFault, Desk};
 use std::alloc::Global;

@@ -1,9 +1,8 @@
 // Leaves of small days, read at the root.
 ghost use Rattle.leaf_check.specs.Reader.{IsReady};
 
-use crew_fixtures::{
-    FixtureFault, Shown, gate_instance, hardly_overlapping, same, same_at, task, two_at_once,
-};
+use crate::asserts::{same, same_at};
+use crew_fixtures::{FixtureFault, Shown, gate_instance, hardly_overlapping, task, two_at_once};
 use crew_instance::Instance;
 use crew_terms::Task;
 use dossier_terms::Reason;

@@ -4,7 +4,8 @@ ghost use Rattle.crew_terms.specs.Limits.{teams_in};
 ghost use Rattle.crew_terms.specs.declared.TheConstants.{LAST_MINUTE};
 ghost use Rattle.crew_fixtures.specs.Sizes.{HasSizes};
 
-use crew_fixtures::{FixtureFault, gate_instance, same, task, team, visit};
+use crate::asserts::same;
+use crew_fixtures::{FixtureFault, gate_instance, task, team, visit};
 use crew_instance::Instance;
 use crew_terms::{Task, Visit};
 use node_limits::Limits;

@@ -1,7 +1,7 @@
 // A small dossier line by line, with a pool, a split and closed leaves, and the ways in which lines end.
+use crate::asserts::same;
 use cert_checker::{Checker, Reason, Said, Stop, Verdict};
 use crew_fixtures::dossiers::{HALF_BARE, WITH_WINDOW};
-use crew_fixtures::same;
 use crew_terms::PlanVerdict;
 use std::test::Fail;
 

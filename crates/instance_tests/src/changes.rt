@@ -2,8 +2,9 @@
 ghost use Rattle.std.specs.Prelude.{◌∷◌, [], IfOk};
 ghost use Rattle.crew_fixtures.specs.Sizes.{HasParts};
 
+use crate::asserts::same;
 use crate::days::{is_frozen, sizes, small_day};
-use crew_fixtures::{FixtureFault, builder_of, same, task, task_at, team, team_at};
+use crew_fixtures::{FixtureFault, builder_of, task, task_at, team, team_at};
 use crew_instance::{BuildFault, Builder};
 use crew_terms::{Task, Team};
 use std::alloc::Global;

@@ -1,6 +1,7 @@
 // Builders that tests begin with.
+use crate::asserts::same_at;
 use crew_fixtures::{
-    FixtureFault, builder_of_places, frozen_at, minutes_between, numbered, same_at, task, team,
+    FixtureFault, builder_of_places, frozen_at, minutes_between, numbered, task, team,
 };
 use crew_instance::{BuildFault, Builder, Instance};
 use crew_terms::{Task, Team};

@@ -1,6 +1,7 @@
 // Frozen jobs of a builder, and of the instance that it gives.
+use crate::asserts::{same, same_at};
 use crate::days::{fault_of, is_frozen, missing, small_day};
-use crew_fixtures::{FixtureFault, frozen_at, name, same, same_at, task, team};
+use crew_fixtures::{FixtureFault, frozen_at, name, task, team};
 use crew_instance::{BuildFault, Builder, Instance};
 use crew_terms::{Task, Team};
 use std::alloc::Global;

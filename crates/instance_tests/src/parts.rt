@@ -1,8 +1,8 @@
 // What a builder gives of places, teams and tasks, and which of them it refuses.
+use crate::asserts::{same, same_at};
 use crate::days::{assert_times, first_day, places, sizes};
 use crew_fixtures::{
-    FixtureFault, is_qualified, name, numbered, place_at, same, same_at, task, task_at, team,
-    team_at,
+    FixtureFault, is_qualified, name, numbered, place_at, task, task_at, team, team_at,
 };
 use crew_instance::{BuildFault, Builder, Instance};
 use crew_terms::{MOST_PLACES, MOST_TASKS, MOST_TEAMS, Task, Team};

@@ -1,5 +1,6 @@
 // Plans: what they hold, and what is taken back.
-use crew_fixtures::{plan_of, same};
+use crate::asserts::same;
+use crew_fixtures::plan_of;
 use crew_instance::{Plan, unassigned};
 use std::test::Fail;
 

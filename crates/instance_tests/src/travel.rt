@@ -1,6 +1,7 @@
 // Travel times: given one by one, by rows or by a default, and those that are missing.
+use crate::asserts::same;
 use crate::days::{assert_times, fault_of, first_day, missing, places, sizes};
-use crew_fixtures::{name, numbered, same, task, task_at, team, team_at};
+use crew_fixtures::{name, numbered, task, task_at, team, team_at};
 use crew_instance::{BuildFault, Builder};
 use std::alloc::Global;
 use std::test::Fail;

@@ -2,7 +2,8 @@
 ghost use Rattle.std.specs.Prelude.{IfOk};
 ghost use Rattle.crew_fixtures.specs.Sizes.{HasSizes};
 
-use crew_fixtures::{FixtureFault, builder_of, gate_instance, same, same_at, task, team};
+use crate::asserts::{same, same_at};
+use crew_fixtures::{FixtureFault, builder_of, gate_instance, task, team};
 use crew_instance::Instance;
 use crew_terms::{LAST_MINUTE, Pair, Task, Team, WIDEST_WINDOW};
 use node_limits::Limits;

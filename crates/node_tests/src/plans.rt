@@ -2,9 +2,8 @@
 ghost use Rattle.std.specs.Prelude.{◌≡◌, length, IfOk};
 ghost use Rattle.crew_fixtures.specs.Sizes.{HasSizes};
 
-use crew_fixtures::{
-    FixtureFault, Job, far_builder, gate_task, is_plan_of, plan_of, same, same_at, team, visit,
-};
+use crate::asserts::{same, same_at};
+use crew_fixtures::{FixtureFault, Job, far_builder, gate_task, is_plan_of, plan_of, team, visit};
 use crew_instance::{Builder, Instance};
 use crew_terms::{Pair, PlanVerdict, Task, Team};
 use node_limits::Limits;

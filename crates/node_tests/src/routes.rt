@@ -1,5 +1,6 @@
 // Routes of one team within the limits of the root.
-use crew_fixtures::{far_gates, same, same_at, two_at_once, visit};
+use crate::asserts::{same, same_at};
+use crew_fixtures::{far_gates, two_at_once, visit};
 use crew_terms::Visit;
 use node_limits::Limits;
 use route_check::{RouteVerdict, check_route, elementary};

@@ -4,9 +4,8 @@ ghost use Rattle.crew_terms.specs.Leaf.{IsPrice};
 ghost use Rattle.potentials.specs.Prices.{ArePricesOf};
 ghost use Rattle.potentials.specs.Table.{IsTableOf};
 
-use crew_fixtures::{
-    FixtureFault, far_gates, gate_instance, name, same, same_at, task, team, two_at_once,
-};
+use crate::asserts::{same, same_at};
+use crew_fixtures::{FixtureFault, far_gates, gate_instance, name, task, team, two_at_once};
 use crew_instance::Instance;
 use crew_terms::{Task, Team};
 use node_limits::Limits;

@@ -2,8 +2,9 @@
 ghost use Rattle.std.specs.Prelude.{◌≡◌, ◌≤◌, ◌+◌, ◌∷◌, [], length, IfOk};
 ghost use Rattle.branch_tree.specs.Trees.{IsPreorder};
 
+use crate::asserts::same;
 use branch_tree::{LeafState, Node, Tree};
-use crew_fixtures::{one_task, same};
+use crew_fixtures::one_task;
 use crew_terms::Choice;
 use node_limits::Limits;
 use potentials::Prices;

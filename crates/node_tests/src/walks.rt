@@ -3,7 +3,8 @@ ghost use Rattle.std.specs.Prelude.{◌≡◌, ◌≤◌, false, IfOk, OnOk};
 ghost use Rattle.crew_fixtures.specs.Sizes.{HasSizes};
 ghost use Rattle.tree_walk.specs.Way.{IsSomewhere};
 
-use crew_fixtures::{FixtureFault, gate_instance, same, same_at, task, team};
+use crate::asserts::{same, same_at};
+use crew_fixtures::{FixtureFault, gate_instance, task, team};
 use crew_instance::Instance;
 use crew_terms::{Choice, Pair, Task, TreeCounts};
 use node_limits::Limits;

@@ -1,6 +1,7 @@
 // What the program answers.
+use crate::asserts::{holds_at, same_at};
 use crew_cli::run::{Status, run};
-use crew_fixtures::{Shown, holds_at, same_at};
+use crew_fixtures::Shown;
 use crew_io::sink::MemSink;
 use crew_io::source::MemSource;
 use std::alloc::Global;

@@ -1,8 +1,9 @@
 // What `crew check` answers and writes, and what other words get.
 use crate::answers::{YES, answer, assert_told, check, status_of};
+use crate::asserts::same_at;
 use crew_cli::run::Status;
 use crew_fixtures::dossiers::{EIGHT, LACKS_SKILL, Lines, ONE_TASK, TOGETHER, WITH_POOL};
-use crew_fixtures::{joined, same_at, text_of, with_line};
+use crew_fixtures::{joined, text_of, with_line};
 use std::mem;
 use std::test::Fail;
 

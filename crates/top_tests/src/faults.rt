@@ -2,11 +2,12 @@
 ghost use Rattle.std.specs.Prelude.{◌≤◌};
 
 use crate::answers::YES;
+use crate::asserts::{holds_at, same, same_at};
 use crate::days::{DAY, crlf_text};
 use crew_cli::run::{Status, run};
 use crew_cli::steady::{run_in_memory, run_steady};
 use crew_fixtures::dossiers::{ONE_TASK, WITH_POOL};
-use crew_fixtures::{holds_at, joined, same, same_at, text_of};
+use crew_fixtures::{joined, text_of};
 use crew_io::sink::{MemSink, SteadySink};
 use crew_io::source::{MemSource, SteadySource};
 use std::alloc::{AllocError, Global};

@@ -1,0 +1,8 @@
+// Tests of the master problem: rows that are replaced, and masters that are worked out by hand.
+#![tactic(auto)]
+
+pub mod asked;
+#[cfg(test)]
+mod masters;
+#[cfg(test)]
+mod rows;
