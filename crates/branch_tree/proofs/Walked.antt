@@ -7,7 +7,7 @@ use Rattle.branch_tree.specs.declared.tree.Node.{Node}
 use Rattle.crew_terms.specs.declared.TreeCounts.{TreeCounts}
 use Rattle.crew_terms.specs.Branches.{LeafNode, SplitNode, splits, depth, closed_in, left_open_in}
 use Rattle.crew_terms.specs.declared.TheConstants.{MOST_NODES}
-use Rattle.branch_tree.specs.Trees.{BranchTree, preorder, claim_of, closed, left_open, state_of, with_leaf, IsPreorder, AreCountsOf}
+use Rattle.branch_tree.specs.Trees.{BranchTree, preorder, claim_in, closed, left_open, state_of, with_leaf, IsPreorder, AreCountsOf}
 use Rattle.branch_tree.specs.Levels.{next_node}
 
 -- where a walk stands: the splits above the node that is due, the innermost first, and the numbers so far
@@ -44,7 +44,7 @@ walk_tree : (t : BranchTree) (rest : List Node) (s : Standing) → walk (preorde
 walk_tree (LeafNode leaf) rest s =
     let d : max s.counts.depth (length s.above) ≡ max s.counts.depth (length s.above + 0) = omega arith in
     let n : s.counts.splits ≡ s.counts.splits + 0 = omega arith in
-    ap (walk rest) (λ k. record { above = next_node s.above; counts = record { splits = n k; closed = s.counts.closed + closed_in (claim_of leaf.state); left_open = s.counts.left_open + left_open_in (claim_of leaf.state); depth = d k } })
+    ap (walk rest) (λ k. record { above = next_node s.above; counts = record { splits = n k; closed = s.counts.closed + closed_in (claim_in leaf.state); left_open = s.counts.left_open + left_open_in (claim_in leaf.state); depth = d k } })
 walk_tree (SplitNode choice first second) rest s =
     let inside : Standing = record { above = false ∷ s.above; counts = record s.counts { splits = s.counts.splits + 1 } } in
     let a : (s.counts.splits + 1) + splits first + splits second ≡ s.counts.splits + (splits first + splits second + 1) = omega arith in
@@ -90,7 +90,7 @@ node_count : (t : BranchTree) → length (preorder t) ≡ splits t + splits t + 
 node_count (LeafNode leaf) = omega arith
 node_count (SplitNode choice first second) = let a = node_count first in let b = node_count second in let c = length-append (preorder first) (preorder second) in omega arith
 
-one_state : (state : LeafState) → closed_in (claim_of state) + left_open_in (claim_of state) ≡ 1
+one_state : (state : LeafState) → closed_in (claim_in state) + left_open_in (claim_in state) ≡ 1
 one_state Bare = refl
 one_state Open = refl
 one_state Closed = refl
@@ -170,8 +170,8 @@ module _ (ns : List Node) (i : ℕ) (above : List Bool) (n : TreeCounts) (after 
   pub after_leaf : (state : LeafState) (level : ℕ) (to : List Bool) (m : TreeCounts) → Some state ≡ state_of item → level ≡ length above → reverse to ≡ next_node (reverse above) → m ≡ with_leaf state level n → IsAfter ns (i + 1) to m
   after_leaf state level to m leaf at e f =
       let s : m.splits ≡ n.splits = ap (λ (x : TreeCounts). x.splits) f in
-      let c : m.closed ≡ n.closed + closed_in (claim_of state) = ap (λ (x : TreeCounts). x.closed) f in
-      let o : m.left_open ≡ n.left_open + left_open_in (claim_of state) = ap (λ (x : TreeCounts). x.left_open) f in
+      let c : m.closed ≡ n.closed + closed_in (claim_in state) = ap (λ (x : TreeCounts). x.closed) f in
+      let o : m.left_open ≡ n.left_open + left_open_in (claim_in state) = ap (λ (x : TreeCounts). x.left_open) f in
       let one = one_state state in
       let from = length-reverse above in
       let into = length-reverse to in

@@ -30,18 +30,18 @@ IsPreorder ns = (t : BranchTree) × (ns ≡ preorder t)
 -- ---- numbers
 
 -- what a leaf in this state claims, without its prices
-abbrev pub claim_of : LeafState → Claim (Unit {0})
-claim_of states.Bare = Bare
-claim_of states.Open = Open tt
-claim_of states.Closed = Closed tt
+abbrev pub claim_in : LeafState → Claim (Unit {0})
+claim_in states.Bare = Bare
+claim_in states.Open = Open tt
+claim_in states.Closed = Closed tt
 
 -- the closed leaves
 abbrev pub closed : BranchTree → ℕ
-closed t = leaf_sum (λ (leaf : ClaimedLeaf). closed_in (claim_of leaf.state)) t
+closed t = leaf_sum (λ (leaf : ClaimedLeaf). closed_in (claim_in leaf.state)) t
 
 -- the leaves that are bare or open
 abbrev pub left_open : BranchTree → ℕ
-left_open t = leaf_sum (λ (leaf : ClaimedLeaf). left_open_in (claim_of leaf.state)) t
+left_open t = leaf_sum (λ (leaf : ClaimedLeaf). left_open_in (claim_in leaf.state)) t
 
 -- the numbers of a tree
 abbrev pub counts_of : BranchTree → TreeCounts
@@ -64,7 +64,7 @@ state_of (nodes.Leaf state prices) = Some state
 abbrev pub with_leaf : LeafState → ℕ → TreeCounts → TreeCounts
 with_leaf state level c = record {
   splits = c.splits;
-  closed = c.closed + closed_in (claim_of state);
-  left_open = c.left_open + left_open_in (claim_of state);
+  closed = c.closed + closed_in (claim_in state);
+  left_open = c.left_open + left_open_in (claim_in state);
   depth = max c.depth level;
 }

@@ -12,7 +12,7 @@ use dossier_terms::Reason;
 use field_table::LineWords;
 use head_check::Base;
 use node_limits::Limits;
-use route_pool::{Pool, PoolVerdict, Route};
+use route_pool::{Pool, PoolVerdict, read_route};
 use std::alloc::{AllocError, Global};
 
 /// A number that is not negative.
@@ -108,7 +108,7 @@ pub fn route_line(
     let LineKind::Route { team, visits } = kind else {
         unreachable!()
     };
-    let route = Route::read(alloc, team, &visits)?;
+    let route = read_route(alloc, team, &visits)?;
     let limits = Limits::wake(&held.base.instance, held.limits.take(alloc));
     let verdict = held.pool.add(&limits, route)?;
     held.limits = limits.rest();

@@ -53,7 +53,11 @@ fn begin_tree(
 }
 
 /// The line `tree`.
-pub fn tree_line(alloc: Global, draft: Box<BegunDossier>, words: LineWords<'_>) -> Result<Step, AllocError>
+pub fn tree_line(
+    alloc: Global,
+    draft: Box<BegunDossier>,
+    words: LineWords<'_>,
+) -> Result<Step, AllocError>
     requires { IsAwaited (Due.Tree draft) }
     ensures { IfOk result (IsStep (Due.Tree draft) words.entry) }
 {

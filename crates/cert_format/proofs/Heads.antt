@@ -15,10 +15,10 @@ use Rattle.crew_terms.specs.Words.{Words, line_text}
 use Rattle.crew_terms.specs.Instance.{Instance, minutes_between}
 use Rattle.crew_terms.specs.Rules.{IsInstance}
 use Rattle.dossier_terms.specs.Lines.{instance_text, size_of, size_line, place_line, travel_line, team_line, task_line}
-use Rattle.cert_format.specs.Parts.{part_word}
-use Rattle.cert_format.specs.declared.lines_out.Part.{Part}
-use Rattle.cert_format.specs.declared.lines_out.Part.TheVariants.{Number}
-use Rattle.cert_format.proofs.Fronts.{IsFront, part_after}
+use Rattle.line_out.specs.Parts.{part_word}
+use Rattle.line_out.specs.declared.Part.{Part}
+use Rattle.line_out.specs.declared.Part.TheVariants.{Number}
+use Rattle.line_out.specs.Fronts.{IsFront, part_after}
 
 -- the text of some lines
 abbrev pub text_of_lines : {A : Type 0} → (A → Words) → List A → List ℕ

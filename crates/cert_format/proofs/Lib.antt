@@ -1,6 +1,5 @@
 pub mod Fields
 pub mod Names
-pub mod Fronts
 pub mod Rests
 pub mod Visits
 pub mod Heads

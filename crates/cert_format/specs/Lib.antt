@@ -1,6 +1,5 @@
 pub mod Fields
 pub mod Numbers
 pub mod Lines
-pub mod Parts
 pub mod ReadBack
 pub mod Expected

@@ -7,13 +7,13 @@ ghost use Rattle.crew_terms.specs.Words.{line_text};
 ghost use Rattle.crew_io.specs.Io.{Rose, Appended, AppendedPart};
 ghost use Rattle.dossier_terms.specs.Dossier.{skills_of};
 ghost use Rattle.dossier_terms.specs.Lines.{instance_text, size_line, size_of, place_line, travel_line, team_line, task_line};
-ghost use Rattle.cert_format.specs.Parts.{part_word};
+ghost use Rattle.line_out.specs.Parts.{part_word};
 
-use crate::lines_out::{Part, put_line};
 use arrayvec::ArrayVec;
 use crew_instance::Instance;
 use crew_io::sink::{Sink, WriteFault};
 use crew_terms::{MOST_PLACES, SKILLS, Task, Team};
+use line_out::{Part, put_line};
 
 /// The most parts of a line of an instance: a word, and a travel time to each place.
 const MOST_PARTS: usize = MOST_PLACES + 1;

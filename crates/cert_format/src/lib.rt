@@ -9,7 +9,6 @@ pub mod instance_out;
 pub mod kinds;
 mod laws;
 mod leaves;
-pub mod lines_out;
 mod nodes;
 pub mod numbers;
 mod ranges;
@@ -19,7 +18,6 @@ use field_table::LineWords;
 pub use instance_out::write_instance;
 pub use kinds::{Expect, LineFault, LineKind};
 pub use laws::{fault_is_refused, instance_is_read_back, line_has_one_answer};
-pub use lines_out::{Part, put_line};
 pub use numbers::LineNumbers;
 
 /// Reads a line of the expected kind from its words; it takes no memory. The fault is the first that the

@@ -4,11 +4,11 @@ ghost use Rattle.crew_io.specs.Io.{Rose, Appended, AppendedPart};
 ghost use Rattle.crew_cli.specs.Refused.{refused_line};
 
 use crate::texts::put_word;
-use cert_format::{Part, put_line};
 use crew_io::sink::{Sink, WriteFault};
 use day_records::DayCause;
 use field_table::{Cause, FieldFault};
 use flight_changes::ChangeFault;
+use line_out::{Part, put_line};
 
 /// Why a day is refused.
 #[derive(Clone, Copy, Debug, PartialEq, Eq)]

@@ -7,10 +7,10 @@ ghost use Rattle.dossier_terms.specs.Texts.{no_line};
 ghost use Rattle.crew_cli.specs.Verdicts.{verdict_line};
 
 use cert_checker::Verdict;
-use cert_format::{Part, put_line};
 use crew_io::sink::{Sink, WriteFault};
 use crew_terms::PlanVerdict;
 use dossier_terms::Reason;
+use line_out::{Part, put_line};
 
 /// Writes the yes line of a verdict. A fault leaves a front of it.
 pub fn put_yes<K: Sink>(out: &mut K, verdict: Verdict) -> Result<(), WriteFault>

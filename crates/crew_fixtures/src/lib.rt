@@ -2,6 +2,7 @@
 #![tactic(auto)]
 
 mod asked;
+mod asserts;
 mod builders;
 pub mod dossiers;
 mod faults;
@@ -11,6 +12,7 @@ mod plans;
 mod texts;
 
 pub use asked::{frozen_at, is_qualified, minutes_between, place_at, task_at, team_at};
+pub use asserts::{Shown, holds_at, same, same_at};
 pub use builders::{builder_of, builder_of_places, far_builder, gate_builder, gate_instance};
 pub use faults::FixtureFault;
 pub use instances::{

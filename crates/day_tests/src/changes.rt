@@ -1,6 +1,6 @@
 // What a day becomes, entry by entry.
 use crate::given::{SMALL_DAY, answer, give};
-use crew_fixtures::{minutes_between, name, task_at, team_at};
+use crew_fixtures::{minutes_between, name, same, same_at, task_at, team_at};
 use crew_terms::{Task, Team};
 use flight_changes::{ChangeFault, Desk};
 use std::alloc::Global;
@@ -19,8 +19,8 @@ fn lacks(
         from: name(from)?,
         to: name(to)?,
     };
-    assert_eq!(rt; answer(alloc, desk, b"plan,1")?, Err(fault));
-    assert_eq!(rt; desk.instance().err(), Some(fault));
+    same(rt, &answer(alloc, desk, b"plan,1")?, &Err(fault));
+    same(rt, &desk.instance().err(), &Some(fault));
     Ok(())
 }
 
@@ -29,7 +29,7 @@ fn assert_times(rt: &impl Abort, desk: &Desk, times: &[(u32, u32, u32)]) -> Resu
     let built = desk.instance()?;
     for (from, to, minutes) in times {
         let told = minutes_between(&built, *from, *to);
-        assert_eq!(rt; told, Some(*minutes), "from {from} to {to}");
+        same_at(rt, &told, &Some(*minutes), &(from, to));
     }
     Ok(())
 }
@@ -52,15 +52,15 @@ fn lacks_times(rt: &impl Abort, alloc: Global, desk: &mut Desk) -> Result<(), Fa
 fn tells_the_missing_time(rt: HostRuntime) -> Result<(), Fail> {
     let mut desk = Desk::new(rt.alloc());
     lacks_times(&rt, rt.alloc(), &mut desk)?;
-    assert_eq!(rt; desk.instance()?.places(), 3);
+    same(&rt, &desk.instance()?.places(), &3);
     Ok(())
 }
 
 /// Asserts that this is the only task.
 fn assert_only_task(rt: &impl Abort, desk: &Desk, task: Task) -> Result<(), Fail> {
     let built = desk.instance()?;
-    assert_eq!(rt; built.tasks(), 1);
-    assert_eq!(rt; task_at(&built, 0), Some(task));
+    same(rt, &built.tasks(), &1);
+    same(rt, &task_at(&built, 0), &Some(task));
     Ok(())
 }
 
@@ -81,7 +81,11 @@ fn moves_down(rt: &impl Abort, alloc: Global, desk: &mut Desk) -> Result<(), Fai
         skills: 0,
     };
     assert_only_task(rt, desk, moved)?;
-    assert_eq!(rt; answer(alloc, desk, b"cancel,A")?, Err(ChangeFault::NoTask));
+    same(
+        rt,
+        &answer(alloc, desk, b"cancel,A")?,
+        &Err(ChangeFault::NoTask),
+    );
     assert_only_task(rt, desk, moved)
 }
 
@@ -112,16 +116,18 @@ fn puts_team_last(rt: &impl Abort, alloc: Global, desk: &mut Desk) -> Result<(),
         skills: 0,
     };
     let built = desk.instance()?;
-    assert_eq!(rt; built.teams(), 3);
-    assert_eq!(rt;
-        team_at(&built, 0).map(|team| team.name),
-        Some(name(b"T1")?)
+    same(rt, &built.teams(), &3);
+    same(
+        rt,
+        &team_at(&built, 0).map(|team| team.name),
+        &Some(name(b"T1")?),
     );
-    assert_eq!(rt;
-        team_at(&built, 1).map(|team| team.name),
-        Some(name(b"T3")?)
+    same(
+        rt,
+        &team_at(&built, 1).map(|team| team.name),
+        &Some(name(b"T3")?),
     );
-    assert_eq!(rt; team_at(&built, 2), Some(back));
+    same(rt, &team_at(&built, 2), &Some(back));
     Ok(())
 }
 
@@ -148,13 +154,17 @@ fn changes_fields(rt: &impl Abort, alloc: Global, desk: &mut Desk) -> Result<(),
     give(alloc, desk, SMALL_DAY)?;
     give(alloc, desk, CHANGES)?;
     let built = desk.instance()?;
-    assert_eq!(rt; (built.places(), built.teams(), built.tasks()), (2, 1, 2));
+    same(
+        rt,
+        &(built.places(), built.teams(), built.tasks()),
+        &(2, 1, 2),
+    );
     for (j, wanted) in [(0, (45, 2)), (1, (30, 1))] {
         let told = task_at(&built, j).map(|task| (task.minutes, task.teams));
-        assert_eq!(rt; told, Some(wanted), "task {j}");
+        same_at(rt, &told, &Some(wanted), &j);
     }
     let told = team_at(&built, 0).map(|team| (team.from, team.until, team.skills));
-    assert_eq!(rt; told, Some((300, 900, 1 << 63)));
+    same(rt, &told, &Some((300, 900, 1 << 63)));
     assert_times(rt, desk, &[(0, 1, 10), (1, 0, 7)])
 }
 

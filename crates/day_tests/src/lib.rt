@@ -2,6 +2,8 @@
 #![tactic(auto)]
 
 #[cfg(test)]
+mod alike;
+#[cfg(test)]
 mod changes;
 #[cfg(test)]
 mod given;
@@ -9,5 +11,3 @@ mod given;
 mod records;
 #[cfg(test)]
 mod refusals;
-#[cfg(test)]
-mod same;

@@ -1,5 +1,5 @@
 // Days that are read: whole ones, each record at the ends of its ranges, and the first bad record.
-use crew_fixtures::name;
+use crew_fixtures::{Shown, holds_at, name, same};
 use day_records::{Day, DayCause, Entry, Refused, read_day};
 use field_table::{Cause, FieldFault};
 use std::alloc::{AllocError, Global};
@@ -50,8 +50,8 @@ fn reads_entries_and_values(rt: HostRuntime) -> Result<(), Fail> {
         },
         Entry::Plan { nodes: 1 },
     ];
-    assert_eq!(rt; day.entries.as_slice(), entries.as_slice());
-    assert!(rt; day.stop.is_none());
+    same(&rt, &day.entries.as_slice(), &entries.as_slice());
+    same(&rt, &day.stop.is_none(), &true);
     Ok(())
 }
 
@@ -67,7 +67,11 @@ fn lists_skills_in_any_order(rt: HostRuntime) -> Result<(), Fail> {
     for (text, set) in cases {
         let day = read_day(alloc, text)?;
         let entry = day.entries.as_slice().first().copied();
-        assert!(rt; matches!(entry, Some(Entry::Team { skills, .. }) if skills == set));
+        same(
+            &rt,
+            &matches!(entry, Some(Entry::Team { skills, .. }) if skills == set),
+            &true,
+        );
     }
     Ok(())
 }
@@ -75,9 +79,9 @@ fn lists_skills_in_any_order(rt: HostRuntime) -> Result<(), Fail> {
 #[test]
 fn reads_whole_days(rt: HostRuntime) -> Result<(), Fail> {
     let alloc = rt.alloc();
-    assert!(rt; is_day(&read_day(alloc, QUOTED)?, 11, None));
-    assert!(rt; is_day(&read_day(alloc, RAMP)?, 14, None));
-    assert!(rt; is_day(&read_day(alloc, b"")?, 0, None));
+    same(&rt, &is_day(&read_day(alloc, QUOTED)?, 11, None), &true);
+    same(&rt, &is_day(&read_day(alloc, RAMP)?, 14, None), &true);
+    same(&rt, &is_day(&read_day(alloc, b"")?, 0, None), &true);
     Ok(())
 }
 
@@ -95,7 +99,7 @@ fn stops_at_a_wrong_kind_or_count(rt: HostRuntime) -> Result<(), Fail> {
     ];
     for (text, count, stop) in cases {
         let day = read_day(alloc, text)?;
-        assert!(rt; is_day(&day, count, stop), "{}", text.escape_ascii());
+        holds_at(&rt, is_day(&day, count, stop), &Shown(text));
     }
     Ok(())
 }
@@ -129,7 +133,7 @@ fn stops_at_a_misspelled_field(rt: HostRuntime) -> Result<(), Fail> {
     ];
     for (text, count, stop) in cases {
         let day = read_day(alloc, text)?;
-        assert!(rt; is_day(&day, count, stop), "{}", text.escape_ascii());
+        holds_at(&rt, is_day(&day, count, stop), &Shown(text));
     }
     Ok(())
 }
@@ -147,7 +151,7 @@ fn stops_at_a_field_out_of_range(rt: HostRuntime) -> Result<(), Fail> {
     ];
     for (text, count, stop) in cases {
         let day = read_day(alloc, text)?;
-        assert!(rt; is_day(&day, count, stop), "{}", text.escape_ascii());
+        holds_at(&rt, is_day(&day, count, stop), &Shown(text));
     }
     Ok(())
 }
@@ -164,7 +168,7 @@ fn records_are_those_of_csv(rt: HostRuntime) -> Result<(), Fail> {
     ];
     for (text, count, stop) in cases {
         let day = read_day(alloc, text)?;
-        assert!(rt; is_day(&day, count, stop), "{}", text.escape_ascii());
+        holds_at(&rt, is_day(&day, count, stop), &Shown(text));
     }
     Ok(())
 }
@@ -343,7 +347,7 @@ fn has_all_ends(alloc: Global, key: &[u8], shapes: &[Shape]) -> Result<bool, All
 fn each_field_has_its_range(rt: HostRuntime) -> Result<(), Fail> {
     let alloc = rt.alloc();
     for (key, shapes) in KINDS {
-        assert!(rt; has_all_ends(alloc, key, shapes)?, "{}", key.escape_ascii());
+        holds_at(&rt, has_all_ends(alloc, key, shapes)?, &Shown(key));
     }
     Ok(())
 }
@@ -355,8 +359,12 @@ fn each_kind_has_its_number_of_fields(rt: HostRuntime) -> Result<(), Fail> {
         let mut text = record_with(alloc, key, shapes, 0, b"")?;
         text.extend_from_slice(b",more")?;
         let stop = refused(1, shapes.len() + 2, Cause::Count);
-        assert!(rt; is_day(&read_day(alloc, &text)?, 0, stop));
-        assert!(rt; is_day(&read_day(alloc, key)?, 0, refused(1, 1, Cause::Count)));
+        same(&rt, &is_day(&read_day(alloc, &text)?, 0, stop), &true);
+        same(
+            &rt,
+            &is_day(&read_day(alloc, key)?, 0, refused(1, 1, Cause::Count)),
+            &true,
+        );
     }
     Ok(())
 }

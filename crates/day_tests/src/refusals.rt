@@ -1,9 +1,9 @@
 // Each refusal of each kind of entry.
 ghost use Rattle.day_terms.specs.Ranges.{IsInRange};
 
+use crate::alike::are_same;
 use crate::given::{SMALL_DAY, answer, give};
-use crate::same::are_same;
-use crew_fixtures::numbered;
+use crew_fixtures::{Shown, numbered, same, same_at};
 use day_terms::Entry;
 use flight_changes::{ChangeFault, Desk};
 use std::alloc::Global;
@@ -60,18 +60,14 @@ const FULL: [Cell; 6] = [
     (b"task,000,X,00:09,00:08,30,0,", ChangeFault::TooMany),
 ];
 
-/// Asserts that the desk refuses each record so, and gives the same instance afterwards.
+/// Asserts that the desk refuses each record so, and gives the same instance after all of them.
 fn refuses(rt: &impl Abort, alloc: Global, desk: &mut Desk, cells: &[Cell]) -> Result<(), Fail> {
     let before = desk.instance()?;
     for (record, fault) in cells {
         let told = answer(alloc, desk, record)?;
-        assert_eq!(rt; told, Err(*fault), "{}", record.escape_ascii());
-        assert!(rt;
-            are_same(&before, &desk.instance()?),
-            "{}",
-            record.escape_ascii()
-        );
+        same_at(rt, &told, &Err(*fault), &Shown(record));
     }
+    same(rt, &are_same(&before, &desk.instance()?), &true);
     Ok(())
 }
 
@@ -79,8 +75,10 @@ fn refuses(rt: &impl Abort, alloc: Global, desk: &mut Desk, cells: &[Cell]) -> R
 fn refuses_each_cell(rt: HostRuntime) -> Result<(), Fail> {
     let mut desk = Desk::new(rt.alloc());
     give(rt.alloc(), &mut desk, SMALL_DAY)?;
-    refuses(&rt, rt.alloc(), &mut desk, &NEW_ONES)?;
-    refuses(&rt, rt.alloc(), &mut desk, &CHANGES)
+    for cell in NEW_ONES.iter().chain(&CHANGES) {
+        refuses(&rt, rt.alloc(), &mut desk, &[*cell])?;
+    }
+    Ok(())
 }
 
 /// Gives an entry that is taken.

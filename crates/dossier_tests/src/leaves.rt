@@ -1,7 +1,9 @@
 // Leaves of small days, read at the root.
 ghost use Rattle.leaf_check.specs.Reader.{IsReady};
 
-use crew_fixtures::{FixtureFault, gate_instance, hardly_overlapping, task, two_at_once};
+use crew_fixtures::{
+    FixtureFault, Shown, gate_instance, hardly_overlapping, same, same_at, task, two_at_once,
+};
 use crew_instance::Instance;
 use crew_terms::Task;
 use dossier_terms::Reason;
@@ -80,13 +82,15 @@ const LEAF: [&[u8]; 4] = [
 #[test]
 fn reads_a_closed_leaf(rt: HostRuntime) -> Result<(), Fail> {
     let day = two_at_once(rt.alloc())?;
-    assert_eq!(rt;
-        read_root(rt.alloc(), &day, CLOSED, &LEAF)?,
-        (4, LeafStep::Done)
+    same(
+        &rt,
+        &read_root(rt.alloc(), &day, CLOSED, &LEAF)?,
+        &(4, LeafStep::Done),
     );
-    assert_eq!(rt;
-        read_root(rt.alloc(), &day, CLOSED, &LEAF[..3])?,
-        (3, LeafStep::More)
+    same(
+        &rt,
+        &read_root(rt.alloc(), &day, CLOSED, &LEAF[..3])?,
+        &(3, LeafStep::More),
     );
     Ok(())
 }
@@ -97,10 +101,18 @@ fn tests_potentials_at_the_last_line(rt: HostRuntime) -> Result<(), Fail> {
     let mut lines = LEAF;
     lines[3] = b"phi 1 839999999";
     let low = LeafStep::No(Reason::Potential(0, 1));
-    assert_eq!(rt; read_root(rt.alloc(), &day, CLOSED, &lines)?, (4, low));
+    same(
+        &rt,
+        &read_root(rt.alloc(), &day, CLOSED, &lines)?,
+        &(4, low),
+    );
     lines[2] = b"phi 0 839999999";
     let low = LeafStep::No(Reason::Potential(0, 0));
-    assert_eq!(rt; read_root(rt.alloc(), &day, CLOSED, &lines)?, (4, low));
+    same(
+        &rt,
+        &read_root(rt.alloc(), &day, CLOSED, &lines)?,
+        &(4, low),
+    );
     Ok(())
 }
 
@@ -110,11 +122,16 @@ fn tests_the_worth_after_the_potentials(rt: HostRuntime) -> Result<(), Fail> {
     let mut lines = LEAF;
     lines[2] = b"phi 0 840000001";
     let low = LeafStep::No(Reason::Worth(0));
-    assert_eq!(rt; read_root(rt.alloc(), &day, CLOSED, &lines)?, (4, low));
+    same(
+        &rt,
+        &read_root(rt.alloc(), &day, CLOSED, &lines)?,
+        &(4, low),
+    );
     lines[1] = b"worth 840000001";
-    assert_eq!(rt;
-        read_root(rt.alloc(), &day, CLOSED, &lines)?,
-        (4, LeafStep::Done)
+    same(
+        &rt,
+        &read_root(rt.alloc(), &day, CLOSED, &lines)?,
+        &(4, LeafStep::Done),
     );
     Ok(())
 }
@@ -124,20 +141,21 @@ fn tests_the_bound_at_the_end(rt: HostRuntime) -> Result<(), Fail> {
     let day = two_at_once(rt.alloc())?;
     let two = Goal { bound: 2, ..CLOSED };
     let no = LeafStep::No(Reason::Bound);
-    assert_eq!(rt; read_root(rt.alloc(), &day, two, &LEAF)?, (4, no));
+    same(&rt, &read_root(rt.alloc(), &day, two, &LEAF)?, &(4, no));
     let left = Goal {
         unassigned: 2,
         ..CLOSED
     };
-    assert_eq!(rt; read_root(rt.alloc(), &day, left, &LEAF)?, (4, no));
+    same(&rt, &read_root(rt.alloc(), &day, left, &LEAF)?, &(4, no));
     let open = Goal {
         unassigned: 2,
         is_closed: false,
         ..CLOSED
     };
-    assert_eq!(rt;
-        read_root(rt.alloc(), &day, open, &LEAF)?,
-        (4, LeafStep::Done)
+    same(
+        &rt,
+        &read_root(rt.alloc(), &day, open, &LEAF)?,
+        &(4, LeafStep::Done),
     );
     Ok(())
 }
@@ -162,12 +180,7 @@ fn tells_faults_of_lines(rt: HostRuntime) -> Result<(), Fail> {
         assert!(rt; n < 4);
         lines[n] = line;
         let told = read_root(rt.alloc(), &day, CLOSED, &lines)?;
-        assert_eq!(rt;
-            told,
-            (n + 1, LeafStep::No(reason)),
-            "{}",
-            line.escape_ascii()
-        );
+        same_at(&rt, &told, &(n + 1, LeafStep::No(reason)), &Shown(line));
     }
     Ok(())
 }
@@ -176,9 +189,10 @@ fn tells_faults_of_lines(rt: HostRuntime) -> Result<(), Fail> {
 fn reads_an_open_leaf_of_two_teams(rt: HostRuntime) -> Result<(), Fail> {
     let day = hardly_overlapping(rt.alloc(), 480)?;
     let lines: [&[u8]; 5] = [b"price 0", b"worth 0", b"phi 0 0", b"worth 0", b"phi 0 0"];
-    assert_eq!(rt;
-        read_root(rt.alloc(), &day, OPEN, &lines)?,
-        (5, LeafStep::Done)
+    same(
+        &rt,
+        &read_root(rt.alloc(), &day, OPEN, &lines)?,
+        &(5, LeafStep::Done),
     );
     Ok(())
 }
@@ -192,9 +206,10 @@ fn reads_a_team_with_no_open_task(rt: HostRuntime) -> Result<(), Fail> {
         b"phi 0 420000000",
         b"worth 0",
     ];
-    assert_eq!(rt;
-        read_root(rt.alloc(), &day, CLOSED, &lines)?,
-        (4, LeafStep::Done)
+    same(
+        &rt,
+        &read_root(rt.alloc(), &day, CLOSED, &lines)?,
+        &(4, LeafStep::Done),
     );
     Ok(())
 }
@@ -203,13 +218,15 @@ fn reads_a_team_with_no_open_task(rt: HostRuntime) -> Result<(), Fail> {
 fn ends_a_leaf_of_no_teams_with_its_prices(rt: HostRuntime) -> Result<(), Fail> {
     let day = no_teams(rt.alloc())?;
     let no = LeafStep::No(Reason::Bound);
-    assert_eq!(rt;
-        read_root(rt.alloc(), &day, CLOSED, &[b"price 1"])?,
-        (1, LeafStep::Done)
+    same(
+        &rt,
+        &read_root(rt.alloc(), &day, CLOSED, &[b"price 1"])?,
+        &(1, LeafStep::Done),
     );
-    assert_eq!(rt;
-        read_root(rt.alloc(), &day, CLOSED, &[b"price 0"])?,
-        (1, no)
+    same(
+        &rt,
+        &read_root(rt.alloc(), &day, CLOSED, &[b"price 0"])?,
+        &(1, no),
     );
     Ok(())
 }
@@ -227,21 +244,25 @@ fn reads_leaves_one_after_another(rt: HostRuntime) -> Result<(), Fail> {
         b"phi 1 1680000000",
     ];
     let no = LeafStep::No(Reason::Bound);
-    assert_eq!(rt;
-        read_leaf(&mut reader, &limits, CLOSED, &mut cuts, &dear),
-        (4, no)
+    same(
+        &rt,
+        &read_leaf(&mut reader, &limits, CLOSED, &mut cuts, &dear),
+        &(4, no),
     );
-    assert_eq!(rt;
-        read_leaf(&mut reader, &limits, CLOSED, &mut cuts, &LEAF),
-        (4, LeafStep::Done)
+    same(
+        &rt,
+        &read_leaf(&mut reader, &limits, CLOSED, &mut cuts, &LEAF),
+        &(4, LeafStep::Done),
     );
-    assert_eq!(rt;
-        read_leaf(&mut reader, &limits, CLOSED, &mut cuts, &LEAF[..2]),
-        (2, LeafStep::More)
+    same(
+        &rt,
+        &read_leaf(&mut reader, &limits, CLOSED, &mut cuts, &LEAF[..2]),
+        &(2, LeafStep::More),
     );
-    assert_eq!(rt;
-        read_leaf(&mut reader, &limits, CLOSED, &mut cuts, &LEAF),
-        (4, LeafStep::Done)
+    same(
+        &rt,
+        &read_leaf(&mut reader, &limits, CLOSED, &mut cuts, &LEAF),
+        &(4, LeafStep::Done),
     );
     Ok(())
 }

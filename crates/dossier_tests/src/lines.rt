@@ -1,5 +1,6 @@
 // Lines that are read: good ones of each kind, and the first fault of others.
 use cert_format::{Expect, LineFault, LineKind, read_line};
+use crew_fixtures::{Shown, holds_at, same, same_at};
 use field_table::Cuts;
 use std::process::Abort;
 use std::test::Fail;
@@ -47,7 +48,7 @@ fn reads_each_kind(rt: HostRuntime) -> Result<(), Fail> {
     let mut cuts = Cuts::new(rt.alloc())?;
     for (expect, line) in GOOD {
         let read = read_line(expect, cuts.split(line));
-        assert!(rt; read.is_ok(), "{}", line.escape_ascii());
+        holds_at(&rt, read.is_ok(), &Shown(line));
     }
     Ok(())
 }
@@ -132,7 +133,7 @@ fn tells_faults(rt: &impl Abort, cuts: &mut Cuts, table: &[Bad]) {
     for (expect, line, fault) in table {
         assert!(rt; line.len() < 100);
         let told = read_line(*expect, cuts.split(line)).err();
-        assert_eq!(rt; told, Some(*fault), "{}", line.escape_ascii());
+        same_at(rt, &told, &Some(*fault), &Shown(line));
     }
 }
 
@@ -151,19 +152,21 @@ fn reads_the_numbers_of_a_route_and_of_potentials(rt: HostRuntime) -> Result<(),
     let route = Expect::Route { teams: 2, tasks: 3 };
     match read_line(route, cuts.split(b"route 1 2 420 0 480"))? {
         LineKind::Route { team, visits } => {
-            assert_eq!(rt; (team, visits.len()), (1, 4));
-            assert_eq!(rt; (visits.get(0), visits.get(1)), (2, 420));
-            assert_eq!(rt; (visits.get(2), visits.get(3)), (0, 480));
+            assert!(rt; visits.len() == 4);
+            same(&rt, &team, &1);
+            same(&rt, &(visits.get(0), visits.get(1)), &(2, 420));
+            same(&rt, &(visits.get(2), visits.get(3)), &(0, 480));
         }
-        _ => assert!(rt; false, "no route"),
+        _ => holds_at(&rt, false, &"no route"),
     }
     let phi = Expect::Phi { task: 7, count: 2 };
     match read_line(phi, cuts.split(b"phi 7 -9223372036854775808 5"))? {
         LineKind::Phi { task, values } => {
-            assert_eq!(rt; (task, values.len()), (7, 2));
-            assert_eq!(rt; (values.get(0), values.get(1)), (i64::MIN, 5));
+            assert!(rt; values.len() == 2);
+            same(&rt, &task, &7);
+            same(&rt, &(values.get(0), values.get(1)), &(i64::MIN, 5));
         }
-        _ => assert!(rt; false, "no potentials"),
+        _ => holds_at(&rt, false, &"no potentials"),
     }
     Ok(())
 }
@@ -184,15 +187,16 @@ fn reads_the_fields_of_a_task(rt: HostRuntime) -> Result<(), Fail> {
             teams,
             skills,
         } => {
-            assert!(rt; name.bytes() == b"A".as_slice());
-            assert_eq!(rt;
-                (place, earliest, latest, minutes, teams),
-                (1, 420, 450, 30, 1)
+            same(&rt, &name.bytes(), &b"A".as_slice());
+            same(
+                &rt,
+                &(place, earliest, latest, minutes, teams),
+                &(1, 420, 450, 30, 1),
             );
-            assert_eq!(rt; skills.len(), 1);
-            assert_eq!(rt; skills.get(0), 7);
+            assert!(rt; skills.len() == 1);
+            same(&rt, &skills.get(0), &7);
         }
-        _ => assert!(rt; false, "no task"),
+        _ => holds_at(&rt, false, &"no task"),
     }
     Ok(())
 }

@@ -1,9 +1,10 @@
 // Lines that are written, and an instance as lines.
-use cert_format::{Part, put_line, write_instance};
-use crew_fixtures::{gate_builder, task, team, text_of};
+use cert_format::write_instance;
+use crew_fixtures::{gate_builder, holds_at, same, same_at, task, team, text_of};
 use crew_instance::Instance;
 use crew_io::sink::{MemSink, WriteFault};
 use crew_terms::{Task, Team};
+use line_out::{Part, put_line};
 use std::alloc::Global;
 use std::test::Fail;
 
@@ -11,8 +12,8 @@ use std::test::Fail;
 fn writes_a_line(rt: HostRuntime) -> Result<(), Fail> {
     let mut out = MemSink::new(rt.alloc(), 64, 3, Vec::new(rt.alloc()))?;
     let parts = [Part::Word(b"size"), Part::Number(1), Part::Number(400)];
-    assert_eq!(rt; put_line(&mut out, &parts), Ok(()));
-    assert!(rt; out.got() == b"size 1 400\n".as_slice());
+    same(&rt, &put_line(&mut out, &parts), &Ok(()));
+    same(&rt, &out.got(), &b"size 1 400\n".as_slice());
     Ok(())
 }
 
@@ -25,11 +26,15 @@ fn writes_a_long_line(rt: HostRuntime) -> Result<(), Fail> {
         line.push(if n < 6 { b' ' } else { b'\n' })?;
     }
     let mut out = MemSink::new(rt.alloc(), 200, 50, Vec::new(rt.alloc()))?;
-    assert_eq!(rt; put_line(&mut out, &parts), Ok(()));
-    assert!(rt; out.got() == line.as_slice());
+    same(&rt, &put_line(&mut out, &parts), &Ok(()));
+    same(&rt, &out.got(), &line.as_slice());
     let mut out = MemSink::new(rt.alloc(), 130, 50, Vec::new(rt.alloc()))?;
-    assert_eq!(rt; put_line(&mut out, &parts), Err(WriteFault));
-    assert!(rt; out.got().len() == 130 && line.starts_with(out.got()));
+    same(&rt, &put_line(&mut out, &parts), &Err(WriteFault));
+    same(
+        &rt,
+        &(out.got().len() == 130 && line.starts_with(out.got())),
+        &true,
+    );
     Ok(())
 }
 
@@ -37,8 +42,8 @@ fn writes_a_long_line(rt: HostRuntime) -> Result<(), Fail> {
 fn tells_a_fault_in_midline(rt: HostRuntime) -> Result<(), Fail> {
     let mut out = MemSink::new(rt.alloc(), 6, 3, Vec::new(rt.alloc()))?;
     let parts = [Part::Word(b"size"), Part::Number(1), Part::Number(400)];
-    assert_eq!(rt; put_line(&mut out, &parts), Err(WriteFault));
-    assert!(rt; out.got() == b"size 1".as_slice());
+    same(&rt, &put_line(&mut out, &parts), &Err(WriteFault));
+    same(&rt, &out.got(), &b"size 1".as_slice());
     Ok(())
 }
 
@@ -74,18 +79,20 @@ fn writes_an_instance(rt: HostRuntime) -> Result<(), Fail> {
     let instance = skilled_instance(alloc)?;
     let text = text_of(alloc, LINES)?;
     let mut out = MemSink::new(alloc, 200, 3, Vec::new(alloc))?;
-    assert_eq!(rt; write_instance(&mut out, &instance, 5), Ok(()));
-    assert!(rt; out.got() == text.as_slice());
+    same(&rt, &write_instance(&mut out, &instance, 5), &Ok(()));
+    same(&rt, &out.got(), &text.as_slice());
     for room in 0..text.len() {
         let mut out = MemSink::new(alloc, room, 3, Vec::new(alloc))?;
-        assert_eq!(rt;
-            write_instance(&mut out, &instance, 5),
-            Err(WriteFault),
-            "room {room}"
+        same_at(
+            &rt,
+            &write_instance(&mut out, &instance, 5),
+            &Err(WriteFault),
+            &room,
         );
-        assert!(rt;
+        holds_at(
+            &rt,
             out.got().len() == room && text.starts_with(out.got()),
-            "room {room}"
+            &room,
         );
     }
     Ok(())

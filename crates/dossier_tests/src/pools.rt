@@ -4,7 +4,7 @@ ghost use Rattle.crew_terms.specs.Limits.{teams_in};
 ghost use Rattle.crew_terms.specs.declared.TheConstants.{LAST_MINUTE};
 ghost use Rattle.crew_fixtures.specs.Sizes.{HasSizes};
 
-use crew_fixtures::{FixtureFault, gate_instance, task, team, visit};
+use crew_fixtures::{FixtureFault, gate_instance, same, task, team, visit};
 use crew_instance::Instance;
 use crew_terms::{Task, Visit};
 use node_limits::Limits;
@@ -59,17 +59,17 @@ fn keeps_routes_in_their_order(rt: HostRuntime) -> Result<(), Fail> {
     let day = two_teams(rt.alloc())?;
     let root = Limits::root(rt.alloc(), &day)?;
     let mut pool = Pool::new(rt.alloc());
-    assert!(rt; pool.is_empty());
+    same(&rt, &pool.is_empty(), &true);
     for task in [1, 0] {
         let added = add(rt.alloc(), &mut pool, &root, 0, &[visit(task, 420)])?;
-        assert_eq!(rt; added, PoolVerdict::Added);
+        same(&rt, &added, &PoolVerdict::Added);
     }
-    assert_eq!(rt; pool.len(), 2);
-    assert_eq!(rt; pool.route(0).team(), 0);
-    assert!(rt; pool.route(0).visits() == [visit(1, 420)].as_slice());
-    assert!(rt; pool.route(1).visits() == [visit(0, 420)].as_slice());
+    assert!(rt; pool.len() == 2);
+    same(&rt, &pool.route(0).team(), &0);
+    same(&rt, &pool.route(0).visits(), &[visit(1, 420)].as_slice());
+    same(&rt, &pool.route(1).visits(), &[visit(0, 420)].as_slice());
     pool.clear();
-    assert!(rt; pool.routes().is_empty());
+    same(&rt, &pool.routes().is_empty(), &true);
     Ok(())
 }
 
@@ -80,12 +80,12 @@ fn refuses_a_route_that_stands(rt: HostRuntime) -> Result<(), Fail> {
     let mut pool = Pool::new(rt.alloc());
     let visits = [visit(0, 420)];
     let first = add(rt.alloc(), &mut pool, &root, 0, &visits)?;
-    assert_eq!(rt; first, PoolVerdict::Added);
+    same(&rt, &first, &PoolVerdict::Added);
     let again = add(rt.alloc(), &mut pool, &root, 0, &visits)?;
-    assert_eq!(rt; again, PoolVerdict::Repeated);
+    same(&rt, &again, &PoolVerdict::Repeated);
     let other_team = add(rt.alloc(), &mut pool, &root, 1, &visits)?;
-    assert_eq!(rt; other_team, PoolVerdict::Added);
-    assert_eq!(rt; pool.len(), 2);
+    same(&rt, &other_team, &PoolVerdict::Added);
+    same(&rt, &pool.len(), &2);
     Ok(())
 }
 
@@ -99,9 +99,9 @@ fn refuses_what_is_no_route(rt: HostRuntime) -> Result<(), Fail> {
     let unknown = [visit(2, 420)];
     for visits in [both.as_slice(), late.as_slice(), unknown.as_slice()] {
         let refused = add(rt.alloc(), &mut pool, &root, 0, visits)?;
-        assert_eq!(rt; refused, PoolVerdict::NotRoute);
+        same(&rt, &refused, &PoolVerdict::NotRoute);
     }
-    assert!(rt; pool.is_empty());
+    same(&rt, &pool.is_empty(), &true);
     Ok(())
 }
 
@@ -119,10 +119,10 @@ fn takes_twenty_thousand_routes(rt: HostRuntime) -> Result<(), Fail> {
                 1,
                 &[visit(0, first), visit(1, then)],
             )?;
-            assert_eq!(rt; added, PoolVerdict::Added);
+            same(&rt, &added, &PoolVerdict::Added);
         }
     }
-    assert_eq!(rt; pool.len(), 20_000);
+    same(&rt, &pool.len(), &20_000);
     let again = add(
         rt.alloc(),
         &mut pool,
@@ -130,6 +130,6 @@ fn takes_twenty_thousand_routes(rt: HostRuntime) -> Result<(), Fail> {
         1,
         &[visit(0, 401), visit(1, 655)],
     )?;
-    assert_eq!(rt; again, PoolVerdict::Repeated);
+    same(&rt, &again, &PoolVerdict::Repeated);
     Ok(())
 }

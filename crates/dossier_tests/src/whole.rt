@@ -1,6 +1,7 @@
 // A small dossier line by line, with a pool, a split and closed leaves, and the ways in which lines end.
 use cert_checker::{Checker, Reason, Said, Stop, Verdict};
 use crew_fixtures::dossiers::{HALF_BARE, WITH_WINDOW};
+use crew_fixtures::same;
 use crew_terms::PlanVerdict;
 use std::test::Fail;
 
@@ -78,7 +79,7 @@ fn reads_a_whole_dossier(rt: HostRuntime) -> Result<(), Fail> {
     let mut checker = Checker::open(rt.alloc())?;
     let kept = read_all(&mut checker, &WITH_WINDOW[..25]);
     drop(checker);
-    assert_eq!(rt; kept?, (SPLIT_SAYS, 1, 1, None));
+    same(&rt, &kept?, &(SPLIT_SAYS, 1, 1, None));
     Ok(())
 }
 
@@ -87,7 +88,7 @@ fn reads_prices_behind_a_bare_leaf(rt: HostRuntime) -> Result<(), Fail> {
     let mut checker = Checker::open(rt.alloc())?;
     let kept = read_all(&mut checker, &HALF_BARE[..19]);
     drop(checker);
-    assert_eq!(rt; kept?, (HALF_BARE_SAYS, 1, 1, None));
+    same(&rt, &kept?, &(HALF_BARE_SAYS, 1, 1, None));
     Ok(())
 }
 
@@ -103,12 +104,13 @@ fn refuses_nine_teams_for_a_task(rt: HostRuntime) -> Result<(), Fail> {
     let mut checker = Checker::open(rt.alloc())?;
     let said = said_of_nine_teams(&mut checker);
     drop(checker);
-    assert_eq!(rt;
-        said?,
-        Said::No {
+    same(
+        &rt,
+        &said?,
+        &Said::No {
             line: 12,
-            reason: Reason::Plan(PlanVerdict::Count(0))
-        }
+            reason: Reason::Plan(PlanVerdict::Count(0)),
+        },
     );
     Ok(())
 }
@@ -118,12 +120,13 @@ fn is_refused_where_a_line_is_too_long(rt: HostRuntime) -> Result<(), Fail> {
     let mut checker = Checker::open(rt.alloc())?;
     let said = checker.stopped(Stop::TooLong);
     drop(checker);
-    assert_eq!(rt;
-        said,
-        Some(Said::No {
+    same(
+        &rt,
+        &said,
+        &Some(Said::No {
             line: 1,
-            reason: Reason::TooLong
-        })
+            reason: Reason::TooLong,
+        }),
     );
     Ok(())
 }

@@ -3,7 +3,7 @@ ghost use Rattle.std.specs.Prelude.{◌∷◌, [], IfOk};
 ghost use Rattle.crew_fixtures.specs.Sizes.{HasParts};
 
 use crate::days::{is_frozen, sizes, small_day};
-use crew_fixtures::{FixtureFault, builder_of, task, task_at, team, team_at};
+use crew_fixtures::{FixtureFault, builder_of, same, task, task_at, team, team_at};
 use crew_instance::{BuildFault, Builder};
 use crew_terms::{Task, Team};
 use std::alloc::Global;
@@ -16,9 +16,9 @@ fn drops_a_team(rt: HostRuntime) -> Result<(), Fail> {
     assert!(rt; day.teams() == 3);
     day.drop_team(1);
     let built = day.finish()?;
-    assert_eq!(rt; built.teams(), 2);
-    assert_eq!(rt; team_at(&built, 0), Some(teams[0]));
-    assert_eq!(rt; team_at(&built, 1), Some(teams[2]));
+    same(&rt, &built.teams(), &2);
+    same(&rt, &team_at(&built, 0), &Some(teams[0]));
+    same(&rt, &team_at(&built, 1), &Some(teams[2]));
     Ok(())
 }
 
@@ -29,9 +29,9 @@ fn drops_a_task(rt: HostRuntime) -> Result<(), Fail> {
     assert!(rt; day.tasks() == 3);
     day.drop_task(1);
     let built = day.finish()?;
-    assert_eq!(rt; built.tasks(), 2);
-    assert_eq!(rt; task_at(&built, 0), Some(tasks[0]));
-    assert_eq!(rt; task_at(&built, 1), Some(tasks[2]));
+    same(&rt, &built.tasks(), &2);
+    same(&rt, &task_at(&built, 0), &Some(tasks[0]));
+    same(&rt, &task_at(&built, 1), &Some(tasks[2]));
     Ok(())
 }
 
@@ -64,12 +64,12 @@ fn replaces_a_team(rt: HostRuntime) -> Result<(), Fail> {
         ..only
     };
     let backwards = Team { from: 840, ..only };
-    assert_eq!(rt; day.set_team(0, nowhere), Err(BuildFault::NoPlace));
-    assert_eq!(rt; day.set_team(0, backwards), Err(BuildFault::BadShift));
-    assert_eq!(rt; day.set_team(0, late), Ok(()));
+    same(&rt, &day.set_team(0, nowhere), &Err(BuildFault::NoPlace));
+    same(&rt, &day.set_team(0, backwards), &Err(BuildFault::BadShift));
+    same(&rt, &day.set_team(0, late), &Ok(()));
     let built = day.finish()?;
-    assert_eq!(rt; sizes(&built), (1, 1, 1));
-    assert_eq!(rt; team_at(&built, 0), Some(late));
+    same(&rt, &sizes(&built), &(1, 1, 1));
+    same(&rt, &team_at(&built, 0), &Some(late));
     Ok(())
 }
 
@@ -82,10 +82,10 @@ fn replaces_a_task(rt: HostRuntime) -> Result<(), Fail> {
         teams: 8,
         ..only
     };
-    assert_eq!(rt; day.set_task(0, wide), Ok(()));
+    same(&rt, &day.set_task(0, wide), &Ok(()));
     let built = day.finish()?;
-    assert_eq!(rt; sizes(&built), (1, 1, 1));
-    assert_eq!(rt; task_at(&built, 0), Some(wide));
+    same(&rt, &sizes(&built), &(1, 1, 1));
+    same(&rt, &task_at(&built, 0), &Some(wide));
     Ok(())
 }
 
@@ -104,9 +104,9 @@ fn refuses_to_replace_a_task(rt: HostRuntime) -> Result<(), Fail> {
         ..only
     };
     let most = Task { teams: 9, ..only };
-    assert_eq!(rt; day.set_task(0, nowhere), Err(BuildFault::NoPlace));
-    assert_eq!(rt; day.set_task(0, widest), Err(BuildFault::BadWindow));
-    assert_eq!(rt; day.set_task(0, most), Err(BuildFault::BadTeams));
+    same(&rt, &day.set_task(0, nowhere), &Err(BuildFault::NoPlace));
+    same(&rt, &day.set_task(0, widest), &Err(BuildFault::BadWindow));
+    same(&rt, &day.set_task(0, most), &Err(BuildFault::BadTeams));
     Ok(())
 }
 
@@ -124,10 +124,10 @@ fn replacing_a_team_takes_frozen_jobs_away(rt: HostRuntime) -> Result<(), Fail> 
     let only = team(b"T1")?;
     let mut day = frozen_place(rt.alloc(), only, here(b"A")?)?;
     let backwards = Team { from: 840, ..only };
-    assert_eq!(rt; day.set_team(0, backwards), Err(BuildFault::BadShift));
-    assert!(rt; is_frozen(&day)?);
-    assert_eq!(rt; day.set_team(0, only), Ok(()));
-    assert!(rt; !is_frozen(&day)?);
+    same(&rt, &day.set_team(0, backwards), &Err(BuildFault::BadShift));
+    same(&rt, &is_frozen(&day)?, &true);
+    same(&rt, &day.set_team(0, only), &Ok(()));
+    same(&rt, &is_frozen(&day)?, &false);
     Ok(())
 }
 
@@ -135,8 +135,8 @@ fn replacing_a_team_takes_frozen_jobs_away(rt: HostRuntime) -> Result<(), Fail> 
 fn replacing_a_task_takes_frozen_jobs_away(rt: HostRuntime) -> Result<(), Fail> {
     let only = here(b"A")?;
     let mut day = frozen_place(rt.alloc(), team(b"T1")?, only)?;
-    assert!(rt; is_frozen(&day)?);
-    assert_eq!(rt; day.set_task(0, only), Ok(()));
-    assert!(rt; !is_frozen(&day)?);
+    same(&rt, &is_frozen(&day)?, &true);
+    same(&rt, &day.set_task(0, only), &Ok(()));
+    same(&rt, &is_frozen(&day)?, &false);
     Ok(())
 }

@@ -1,6 +1,6 @@
 // Builders that tests begin with.
 use crew_fixtures::{
-    FixtureFault, builder_of_places, frozen_at, minutes_between, numbered, task, team,
+    FixtureFault, builder_of_places, frozen_at, minutes_between, numbered, same_at, task, team,
 };
 use crew_instance::{BuildFault, Builder, Instance};
 use crew_terms::{Task, Team};
@@ -50,7 +50,7 @@ pub fn missing(from: u32, to: u32) -> Option<BuildFault> {
 pub fn assert_times(rt: &impl Abort, built: &Instance, times: &[(u32, u32, u32)]) {
     for (from, to, minutes) in times {
         let told = minutes_between(built, *from, *to);
-        assert_eq!(rt; told, Some(*minutes), "from {from} to {to}");
+        same_at(rt, &told, &Some(*minutes), &(from, to));
     }
 }
 

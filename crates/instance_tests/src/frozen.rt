@@ -1,6 +1,6 @@
 // Frozen jobs of a builder, and of the instance that it gives.
 use crate::days::{fault_of, is_frozen, missing, small_day};
-use crew_fixtures::{FixtureFault, frozen_at, name, task, team};
+use crew_fixtures::{FixtureFault, frozen_at, name, same, same_at, task, team};
 use crew_instance::{BuildFault, Builder, Instance};
 use crew_terms::{Task, Team};
 use std::alloc::Global;
@@ -49,9 +49,9 @@ fn met_day(alloc: Global) -> Result<Builder, Fail> {
 #[test]
 fn tells_frozen_jobs_that_meet(rt: HostRuntime) -> Result<(), Fail> {
     let day = met_day(rt.alloc())?;
-    assert_eq!(rt; fault_of(&day), bad(0));
-    assert_eq!(rt; fault_of(&day), bad(0));
-    assert_eq!(rt; day.into_instance().err(), bad(0));
+    same(&rt, &fault_of(&day), &bad(0));
+    same(&rt, &fault_of(&day), &bad(0));
+    same(&rt, &day.into_instance().err(), &bad(0));
     Ok(())
 }
 
@@ -60,9 +60,9 @@ fn tells_a_frozen_job_outside_the_shift(rt: HostRuntime) -> Result<(), Fail> {
     let mut day = frozen_day(rt.alloc())?;
     day.travel(0, 1, 70)?;
     freeze(&mut day, 1, 429, &[0])?;
-    assert_eq!(rt; fault_of(&day), bad(1));
+    same(&rt, &fault_of(&day), &bad(1));
     freeze(&mut day, 1, 430, &[0])?;
-    assert_eq!(rt; fault_of(&day), None);
+    same(&rt, &fault_of(&day), &None);
     Ok(())
 }
 
@@ -70,14 +70,14 @@ fn tells_a_frozen_job_outside_the_shift(rt: HostRuntime) -> Result<(), Fail> {
 fn tells_a_missing_time_first(rt: HostRuntime) -> Result<(), Fail> {
     let mut day = met_day(rt.alloc())?;
     day.place(name(b"G2")?)?;
-    assert_eq!(rt; fault_of(&day), missing(0, 2));
+    same(&rt, &fault_of(&day), &missing(0, 2));
     Ok(())
 }
 
 /// Asserts the frozen jobs of the first tasks.
 fn assert_frozen(rt: &impl Abort, built: &Instance, jobs: &[Job<'_>]) {
     for (j, job) in jobs.iter().enumerate() {
-        assert_eq!(rt; frozen_at(built, j as u32), Some(*job), "task {j}");
+        same_at(rt, &frozen_at(built, j as u32), &Some(*job), &j);
     }
 }
 
@@ -125,7 +125,7 @@ fn refuses_to_freeze(rt: HostRuntime) -> Result<(), Fail> {
     for (j, start, teams, fault) in REFUSALS {
         assert!(rt; (j as usize) < day.tasks());
         let told = day.freeze(j, start, teams);
-        assert_eq!(rt; told, Err(fault), "task {j} at {start} by {teams:?}");
+        same_at(&rt, &told, &Err(fault), &(j, start, teams));
     }
     let jobs = [None, Some((430, [0, 1].as_slice()))];
     assert_frozen(&rt, &day.finish()?, &jobs);
@@ -136,10 +136,10 @@ fn refuses_to_freeze(rt: HostRuntime) -> Result<(), Fail> {
 fn dropping_a_team_takes_frozen_jobs_away(rt: HostRuntime) -> Result<(), Fail> {
     let mut day = joint_day(rt.alloc())?;
     freeze(&mut day, 0, 420, &[0])?;
-    assert!(rt; is_frozen(&day)?);
+    same(&rt, &is_frozen(&day)?, &true);
     assert!(rt; day.teams() == 2);
     day.drop_team(1);
-    assert!(rt; !is_frozen(&day)?);
+    same(&rt, &is_frozen(&day)?, &false);
     Ok(())
 }
 
@@ -147,9 +147,9 @@ fn dropping_a_team_takes_frozen_jobs_away(rt: HostRuntime) -> Result<(), Fail> {
 fn dropping_a_task_takes_frozen_jobs_away(rt: HostRuntime) -> Result<(), Fail> {
     let mut day = joint_day(rt.alloc())?;
     freeze(&mut day, 0, 420, &[0])?;
-    assert!(rt; is_frozen(&day)?);
+    same(&rt, &is_frozen(&day)?, &true);
     assert!(rt; day.tasks() == 2);
     day.drop_task(1);
-    assert!(rt; !is_frozen(&day)?);
+    same(&rt, &is_frozen(&day)?, &false);
     Ok(())
 }

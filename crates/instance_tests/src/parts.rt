@@ -1,7 +1,8 @@
 // What a builder gives of places, teams and tasks, and which of them it refuses.
 use crate::days::{assert_times, first_day, places, sizes};
 use crew_fixtures::{
-    FixtureFault, is_qualified, name, numbered, place_at, task, task_at, team, team_at,
+    FixtureFault, is_qualified, name, numbered, place_at, same, same_at, task, task_at, team,
+    team_at,
 };
 use crew_instance::{BuildFault, Builder, Instance};
 use crew_terms::{MOST_PLACES, MOST_TASKS, MOST_TEAMS, Task, Team};
@@ -11,14 +12,14 @@ use std::test::Fail;
 #[test]
 fn gives_what_was_built(rt: HostRuntime) -> Result<(), Fail> {
     let day = first_day(rt.alloc())?;
-    assert_eq!(rt; (day.places(), day.teams(), day.tasks()), (2, 1, 1));
+    same(&rt, &(day.places(), day.teams(), day.tasks()), &(2, 1, 1));
     let built = day.finish()?;
-    assert_eq!(rt; sizes(&built), (2, 1, 1));
-    assert_eq!(rt; place_at(&built, 1), Some(name(b"G1")?));
-    assert_eq!(rt; team_at(&built, 0), Some(team(b"T1")?));
-    assert_eq!(rt; task_at(&built, 0), Some(task(b"A")?));
+    same(&rt, &sizes(&built), &(2, 1, 1));
+    same(&rt, &place_at(&built, 1), &Some(name(b"G1")?));
+    same(&rt, &team_at(&built, 0), &Some(team(b"T1")?));
+    same(&rt, &task_at(&built, 0), &Some(task(b"A")?));
     assert_times(&rt, &built, &[(0, 0, 0), (0, 1, 10), (1, 0, 10), (1, 1, 0)]);
-    assert_eq!(rt; is_qualified(&built, 0, 0), Some(true));
+    same(&rt, &is_qualified(&built, 0, 0), &Some(true));
     Ok(())
 }
 
@@ -39,9 +40,9 @@ fn skilled_day(alloc: Global) -> Result<Instance, FixtureFault> {
 #[test]
 fn compares_skills(rt: HostRuntime) -> Result<(), Fail> {
     let built = skilled_day(rt.alloc())?;
-    assert_eq!(rt; sizes(&built), (2, 2, 2));
-    assert_eq!(rt; is_qualified(&built, 0, 1), Some(false));
-    assert_eq!(rt; is_qualified(&built, 1, 1), Some(true));
+    same(&rt, &sizes(&built), &(2, 2, 2));
+    same(&rt, &is_qualified(&built, 0, 1), &Some(false));
+    same(&rt, &is_qualified(&built, 1, 1), &Some(true));
     Ok(())
 }
 
@@ -61,7 +62,7 @@ fn refuses_teams(rt: HostRuntime) -> Result<(), Fail> {
         (Team { from: 840, ..good }, Err(BuildFault::BadShift)),
         (good, Ok(())),
     ] {
-        assert_eq!(rt; day.team(team), told, "{team:?}");
+        same_at(&rt, &day.team(team), &told, &team);
     }
     Ok(())
 }
@@ -78,8 +79,8 @@ fn refuses_a_task_by_its_name_and_place(rt: HostRuntime) -> Result<(), Fail> {
         minutes: 0,
         ..task(b"B")?
     };
-    assert_eq!(rt; day.task(taken), Err(BuildFault::SameName));
-    assert_eq!(rt; day.task(nowhere), Err(BuildFault::NoPlace));
+    same(&rt, &day.task(taken), &Err(BuildFault::SameName));
+    same(&rt, &day.task(nowhere), &Err(BuildFault::NoPlace));
     Ok(())
 }
 
@@ -101,7 +102,7 @@ fn refuses_a_task_by_its_times(rt: HostRuntime) -> Result<(), Fail> {
             teams,
             ..good
         };
-        assert_eq!(rt; day.task(bad), Err(BuildFault::BadWindow), "{bad:?}");
+        same_at(&rt, &day.task(bad), &Err(BuildFault::BadWindow), &bad);
     }
     Ok(())
 }
@@ -121,7 +122,7 @@ fn refuses_a_task_by_its_teams(rt: HostRuntime) -> Result<(), Fail> {
         (Task { teams: 9, ..good }, Err(BuildFault::BadTeams)),
         (widest, Ok(())),
     ] {
-        assert_eq!(rt; day.task(task), told, "{task:?}");
+        same_at(&rt, &day.task(task), &told, &task);
     }
     Ok(())
 }
@@ -156,10 +157,14 @@ fn refuses_too_many(rt: HostRuntime) -> Result<(), Fail> {
         name: taken,
         ..task(b"A")?
     };
-    assert_eq!(rt; (day.places(), day.teams(), day.tasks()), (200, 64, 400));
-    assert_eq!(rt; day.place(taken), Err(BuildFault::TooMany));
-    assert_eq!(rt; day.team(team), Err(BuildFault::TooMany));
-    assert_eq!(rt; day.task(task), Err(BuildFault::TooMany));
+    same(
+        &rt,
+        &(day.places(), day.teams(), day.tasks()),
+        &(200, 64, 400),
+    );
+    same(&rt, &day.place(taken), &Err(BuildFault::TooMany));
+    same(&rt, &day.team(team), &Err(BuildFault::TooMany));
+    same(&rt, &day.task(task), &Err(BuildFault::TooMany));
     Ok(())
 }
 
@@ -168,10 +173,10 @@ fn tells_names_apart(rt: HostRuntime) -> Result<(), Fail> {
     let mut day = Builder::new(rt.alloc());
     for called in [b"AB1".as_slice(), b"B1", b"CB1", b"AC1", b"AB2"] {
         let called = name(called)?;
-        assert_eq!(rt; day.place(called), Ok(()), "{called:?}");
-        assert_eq!(rt; day.place(called), Err(BuildFault::SameName), "{called:?}");
+        same_at(&rt, &day.place(called), &Ok(()), &called);
+        same_at(&rt, &day.place(called), &Err(BuildFault::SameName), &called);
     }
-    assert_eq!(rt; day.places(), 5);
+    same(&rt, &day.places(), &5);
     Ok(())
 }
 
@@ -184,6 +189,6 @@ fn takes_parts(rt: HostRuntime) -> Result<(), Fail> {
         Vec::new(alloc),
         Vec::new(alloc),
     );
-    assert_eq!(rt; sizes(&empty), (0, 0, 0));
+    same(&rt, &sizes(&empty), &(0, 0, 0));
     Ok(())
 }

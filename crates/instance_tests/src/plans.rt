@@ -1,5 +1,5 @@
 // Plans: what they hold, and what is taken back.
-use crew_fixtures::plan_of;
+use crew_fixtures::{plan_of, same};
 use crew_instance::{Plan, unassigned};
 use std::test::Fail;
 
@@ -14,10 +14,14 @@ fn job_at(plan: &Plan, j: u32) -> Option<(Option<u32>, &[u32])> {
 #[test]
 fn holds_what_is_assigned(rt: HostRuntime) -> Result<(), Fail> {
     let plan = plan_of(rt.alloc(), 6, &[(1, 440, &[0]), (2, 460, &[0, 3])])?;
-    assert_eq!(rt; plan.len(), 6);
-    assert_eq!(rt; unassigned(&plan), 4);
-    assert_eq!(rt; job_at(&plan, 0), Some((None, [].as_slice())));
-    assert_eq!(rt; job_at(&plan, 2), Some((Some(460), [0, 3].as_slice())));
+    same(&rt, &plan.len(), &6);
+    same(&rt, &unassigned(&plan), &4);
+    same(&rt, &job_at(&plan, 0), &Some((None, [].as_slice())));
+    same(
+        &rt,
+        &job_at(&plan, 2),
+        &Some((Some(460), [0, 3].as_slice())),
+    );
     Ok(())
 }
 
@@ -26,10 +30,10 @@ fn takes_an_assignment_back(rt: HostRuntime) -> Result<(), Fail> {
     let mut plan = plan_of(rt.alloc(), 6, &[(1, 440, &[0]), (2, 460, &[0, 3])])?;
     let before = plan.copy()?;
     plan.clear(1);
-    assert_eq!(rt; (unassigned(&plan), unassigned(&before)), (5, 4));
-    assert_eq!(rt; job_at(&plan, 1), Some((None, [].as_slice())));
-    assert_eq!(rt; job_at(&before, 1), Some((Some(440), [0].as_slice())));
-    assert_eq!(rt; job_at(&plan, 2), job_at(&before, 2));
+    same(&rt, &(unassigned(&plan), unassigned(&before)), &(5, 4));
+    same(&rt, &job_at(&plan, 1), &Some((None, [].as_slice())));
+    same(&rt, &job_at(&before, 1), &Some((Some(440), [0].as_slice())));
+    same(&rt, &job_at(&plan, 2), &job_at(&before, 2));
     Ok(())
 }
 
@@ -38,10 +42,10 @@ fn holds_more_teams_than_a_task_may_need(rt: HostRuntime) -> Result<(), Fail> {
     let nine: [u32; 9] = [8, 7, 6, 5, 4, 3, 2, 1, 0];
     let mut plan = plan_of(rt.alloc(), 6, &[(1, 440, &nine[..8]), (2, 460, &nine)])?;
     let copy = plan.copy()?;
-    assert_eq!(rt; job_at(&plan, 1), Some((Some(440), &nine[..8])));
-    assert_eq!(rt; job_at(&plan, 2), Some((Some(460), nine.as_slice())));
+    same(&rt, &job_at(&plan, 1), &Some((Some(440), &nine[..8])));
+    same(&rt, &job_at(&plan, 2), &Some((Some(460), nine.as_slice())));
     plan.clear(2);
-    assert_eq!(rt; job_at(&copy, 1), Some((Some(440), &nine[..8])));
-    assert_eq!(rt; job_at(&copy, 2), Some((Some(460), nine.as_slice())));
+    same(&rt, &job_at(&copy, 1), &Some((Some(440), &nine[..8])));
+    same(&rt, &job_at(&copy, 2), &Some((Some(460), nine.as_slice())));
     Ok(())
 }

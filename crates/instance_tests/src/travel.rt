@@ -1,6 +1,6 @@
 // Travel times: given one by one, by rows or by a default, and those that are missing.
 use crate::days::{assert_times, fault_of, first_day, missing, places, sizes};
-use crew_fixtures::{name, numbered, task, task_at, team, team_at};
+use crew_fixtures::{name, numbered, same, task, task_at, team, team_at};
 use crew_instance::{BuildFault, Builder};
 use std::alloc::Global;
 use std::test::Fail;
@@ -8,11 +8,11 @@ use std::test::Fail;
 #[test]
 fn refuses_a_place_and_times_of_none(rt: HostRuntime) -> Result<(), Fail> {
     let mut day = first_day(rt.alloc())?;
-    assert_eq!(rt; day.place(name(b"G1")?), Err(BuildFault::SameName));
+    same(&rt, &day.place(name(b"G1")?), &Err(BuildFault::SameName));
     day.place(name(b"G2")?)?;
-    assert_eq!(rt; day.travel(0, 3, 1), Err(BuildFault::NoPlace));
-    assert_eq!(rt; day.travel(3, 0, 1), Err(BuildFault::NoPlace));
-    assert_eq!(rt; fault_of(&day), missing(0, 2));
+    same(&rt, &day.travel(0, 3, 1), &Err(BuildFault::NoPlace));
+    same(&rt, &day.travel(3, 0, 1), &Err(BuildFault::NoPlace));
+    same(&rt, &fault_of(&day), &missing(0, 2));
     Ok(())
 }
 
@@ -20,13 +20,13 @@ fn refuses_a_place_and_times_of_none(rt: HostRuntime) -> Result<(), Fail> {
 fn tells_the_first_missing_time(rt: HostRuntime) -> Result<(), Fail> {
     let mut day = first_day(rt.alloc())?;
     day.place(name(b"G2")?)?;
-    assert_eq!(rt; fault_of(&day), missing(0, 2));
+    same(&rt, &fault_of(&day), &missing(0, 2));
     day.travel(0, 2, 2880)?;
-    assert_eq!(rt; fault_of(&day), missing(1, 2));
+    same(&rt, &fault_of(&day), &missing(1, 2));
     day.default_travel(7);
     day.travel(2, 2, 5)?;
     let built = day.finish()?;
-    assert_eq!(rt; built.places(), 3);
+    same(&rt, &built.places(), &3);
     assert_times(
         &rt,
         &built,
@@ -41,16 +41,16 @@ fn takes_rows(rt: HostRuntime) -> Result<(), Fail> {
     let mut day = places(alloc, 3)?;
     assert!(rt; day.places() == 3);
     let nowhere = day.travel_from(3, vec![in alloc; 1, 2, 3]?);
-    assert_eq!(rt; nowhere, Err(BuildFault::NoPlace));
+    same(&rt, &nowhere, &Err(BuildFault::NoPlace));
     day.travel_from(0, vec![in alloc; 1, 2, 3]?)?;
     day.travel_from(2, vec![in alloc; 7, 8, 9]?)?;
-    assert_eq!(rt; fault_of(&day), missing(1, 0));
+    same(&rt, &fault_of(&day), &missing(1, 0));
     // A row in place of one that was given in part, and a time in place of one of a row.
     day.travel(1, 2, 2880)?;
     day.travel_from(1, vec![in alloc; 4, 5, 6]?)?;
     day.travel(2, 1, 88)?;
     let built = day.finish()?;
-    assert_eq!(rt; built.places(), 3);
+    same(&rt, &built.places(), &3);
     assert_times(&rt, &built, &[(0, 0, 1), (0, 2, 3), (1, 0, 4)]);
     assert_times(&rt, &built, &[(1, 2, 6), (2, 1, 88), (2, 2, 9)]);
     Ok(())
@@ -65,7 +65,7 @@ fn takes_times_in_order_and_backwards(rt: HostRuntime) -> Result<(), Fail> {
     }
     day.default_travel(9);
     let built = day.finish()?;
-    assert_eq!(rt; built.places(), 4);
+    same(&rt, &built.places(), &4);
     assert_times(
         &rt,
         &built,
@@ -96,10 +96,10 @@ fn gap_in_a_row(alloc: Global) -> Result<Builder, Fail> {
 #[test]
 fn fills_a_gap_in_a_row_at_last(rt: HostRuntime) -> Result<(), Fail> {
     let mut day = gap_in_a_row(rt.alloc())?;
-    assert_eq!(rt; fault_of(&day), missing(2, 1));
+    same(&rt, &fault_of(&day), &missing(2, 1));
     day.travel(2, 1, 31)?;
     let built = day.finish()?;
-    assert_eq!(rt; built.places(), 4);
+    same(&rt, &built.places(), &4);
     assert_times(
         &rt,
         &built,
@@ -128,13 +128,13 @@ fn later_place(alloc: Global) -> Result<Builder, Fail> {
 #[test]
 fn misses_times_to_later_places(rt: HostRuntime) -> Result<(), Fail> {
     let mut day = later_place(rt.alloc())?;
-    assert_eq!(rt; day.places(), 3);
-    assert_eq!(rt; fault_of(&day), missing(0, 2));
+    same(&rt, &day.places(), &3);
+    same(&rt, &fault_of(&day), &missing(0, 2));
     day.travel(0, 2, 5)?;
-    assert_eq!(rt; fault_of(&day), missing(1, 2));
+    same(&rt, &fault_of(&day), &missing(1, 2));
     day.default_travel(9);
     let built = day.finish()?;
-    assert_eq!(rt; built.places(), 3);
+    same(&rt, &built.places(), &3);
     assert_times(
         &rt,
         &built,
@@ -152,9 +152,9 @@ fn gives_its_parts(rt: HostRuntime) -> Result<(), Fail> {
     day.travel_from(1, vec![in alloc; 4, 5, 6]?)?;
     day.default_travel(9);
     let built = day.into_instance()?;
-    assert_eq!(rt; sizes(&built), (3, 1, 1));
-    assert_eq!(rt; team_at(&built, 0), Some(team(b"T1")?));
-    assert_eq!(rt; task_at(&built, 0), Some(task(b"A")?));
+    same(&rt, &sizes(&built), &(3, 1, 1));
+    same(&rt, &team_at(&built, 0), &Some(team(b"T1")?));
+    same(&rt, &task_at(&built, 0), &Some(task(b"A")?));
     assert_times(&rt, &built, &[(0, 1, 10), (0, 2, 9), (1, 1, 5)]);
     assert_times(&rt, &built, &[(1, 2, 6), (2, 0, 9), (2, 2, 0)]);
     Ok(())
@@ -164,6 +164,6 @@ fn gives_its_parts(rt: HostRuntime) -> Result<(), Fail> {
 fn gives_no_parts_where_a_time_is_missing(rt: HostRuntime) -> Result<(), Fail> {
     let mut day = first_day(rt.alloc())?;
     day.place(name(b"G2")?)?;
-    assert_eq!(rt; day.into_instance().err(), missing(0, 2));
+    same(&rt, &day.into_instance().err(), &missing(0, 2));
     Ok(())
 }

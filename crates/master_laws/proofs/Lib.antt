@@ -27,3 +27,6 @@ pub mod Choice
 pub mod Strong
 pub mod Standing
 pub mod Duality
+pub mod Within
+pub mod Lowest
+pub mod Placed

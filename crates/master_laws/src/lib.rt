@@ -2,19 +2,23 @@
 // the contract of a function with nothing to do.
 #![tactic(auto)]
 
-ghost use Rattle.std.specs.Prelude.{◌≡◌, ◌≤◌, ◌<◌, ◌↔◌, ◌++◌, ◌≤ℤ◌, ◌+ℤ◌, ◌-ℤ◌, ◌*ℤ◌, pos, length, List, ℕ, ℤ, slice_index_or, All, Contains};
-ghost use Rattle.crew_terms.specs.Limits.{Limits, tasks_in, teams_in, Route};
+ghost use Rattle.std.specs.Prelude.{◌≡◌, ◌≤◌, ◌+◌, ◌<◌, ◌↔◌, ◌++◌, ◌≤ℤ◌, ◌+ℤ◌, ◌-ℤ◌, ◌*ℤ◌, pos, length, List, ℕ, ℤ, slice_index_or, unsigned_abs, All, Contains};
+ghost use Rattle.std.specs.Int.{◌∣◌};
+ghost use Rattle.crew_terms.specs.Limits.{Limits, Route, pair_of, tasks_in, teams_in};
 ghost use Rattle.crew_terms.specs.Leaf.{Prices};
 ghost use Rattle.crew_terms.specs.Total.{total};
-ghost use Rattle.search_terms.specs.Rows.{Rows, AreBasic, AreFeasible, HaveSameSolutions, number, value_row, width};
+ghost use Rattle.search_terms.specs.Rows.{Rows, AreBasic, AreFeasible, HaveSameSolutions, number, row_of, value_row, width};
 ghost use Rattle.search_terms.specs.Opening.{OpensWith, dual, dual_sum, entered, openers, opening_basis, places, with_routes};
 ghost use Rattle.search_terms.specs.Pivot.{IsBounding, IsImproving, IsOptimal, IsPivot};
 ghost use Rattle.search_terms.specs.MasterRun.{IsMasterRun, IsRunOver};
 ghost use Rattle.search_terms.specs.Duals.{AreDuals, AreUpToPenalty, best_reward, extras, term_over};
-ghost use Rattle.search_terms.specs.Shares.{IsFractional, IsRouteIn, choice_value};
+ghost use Rattle.search_terms.specs.Shares.{IsFractional, IsRouteIn, choice_value, unassigned_of};
 ghost use Rattle.search_terms.specs.declared.TheConstants.{RIGHT, VALUE};
 ghost use Rattle.search_terms.specs.BasicChoice.{AreWholeParts, choice_of};
 ghost use Rattle.search_terms.specs.declared.Place.{Place};
+
+use crew_terms::Pair;
+use search_terms::Place;
 
 /// A pivot keeps the vectors that solve the rows.
 pub fn pivot_keeps_solutions()
@@ -115,4 +119,34 @@ pub fn parts_stand()
 /// Two opening rows open with different variables, so that a price or an extra is the dual number of one row.
 pub fn openers_differ()
     ensures { (n : Limits) (h i : ℕ) (p : Place) → OpensWith n h p → OpensWith n i p → h ≡ i }
+{}
+
+/// No number but 1 divides all numbers of a row of a run: rows are in lowest terms.
+pub fn rows_are_lowest()
+    ensures { (n : Limits) (routes : List Route) (made h d : ℕ) (t : Rows) → IsMasterRun n routes made t → h < length t.rows →
+        ((j : ℕ) → j < length (row_of t h) → d ∣ unsigned_abs (number (row_of t h) j)) → d ≡ 1 }
+{}
+
+/// In a run over routes of known teams, no share of a route or of an unassigned task is more than a whole.
+pub fn shares_are_parts()
+    ensures routes { (n : Limits) (routes : List Route) (made whole i : ℕ) (t : Rows) (x : ℕ → ℕ) → IsMasterRun n routes made t →
+        All (λ (r : Route). r.team < teams_in n) routes → AreWholeParts n routes t whole x → i < length routes →
+        x (length (places n) + i) ≤ whole }
+    ensures tasks { (n : Limits) (routes : List Route) (made whole j : ℕ) (t : Rows) (x : ℕ → ℕ) → IsMasterRun n routes made t →
+        All (λ (r : Route). r.team < teams_in n) routes → AreWholeParts n routes t whole x →
+        unassigned_of (choice_of n routes whole x) j ≤ whole }
+{}
+
+/// What stands in the places of a node: an unused share for each team, a shortage for each task, a missed part for each
+/// required pair.
+pub fn places_are()
+    ensures teams { (n : Limits) (k : ℕ) → Contains (places n) (Place.Unused k) ↔ (k < teams_in n) }
+    ensures tasks { (n : Limits) (j : ℕ) → Contains (places n) (Place.Shortage j) ↔ (j < tasks_in n) }
+    ensures pairs { (n : Limits) (k j : ℕ) → Contains (places n) (Place.Missed k j) ↔
+        ((k < teams_in n) × (j < tasks_in n) × (pair_of n k j ≡ Pair.Required)) }
+{}
+
+/// The run over a list is a run.
+pub fn lists_are_runs()
+    ensures { (n : Limits) (routes : List Route) (made : ℕ) (t : Rows) → IsRunOver n routes made t → IsMasterRun n routes made t }
 {}

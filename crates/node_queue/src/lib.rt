@@ -7,7 +7,6 @@ ghost use Rattle.slab.specs.Slab.{ContainsKey};
 ghost use Rattle.node_queue.specs.Kept.{waits_in};
 ghost use Rattle.node_queue.specs.Waits.{IsLeast, found, keys_of, without};
 
-
 use slab::Slab;
 use std::alloc::{AllocError, Global};
 use std::marker::Model;

@@ -2,7 +2,7 @@
 ghost use Rattle.std.specs.Prelude.{IfOk};
 ghost use Rattle.crew_fixtures.specs.Sizes.{HasSizes};
 
-use crew_fixtures::{FixtureFault, builder_of, gate_instance, task, team};
+use crew_fixtures::{FixtureFault, builder_of, gate_instance, same, same_at, task, team};
 use crew_instance::Instance;
 use crew_terms::{LAST_MINUTE, Pair, Task, Team, WIDEST_WINDOW};
 use node_limits::Limits;
@@ -63,7 +63,7 @@ fn gives_first_and_last_minute(rt: HostRuntime) -> Result<(), Fail> {
         (1, 1, Some((450, 470))),
         (0, 2, None),
     ] {
-        assert_eq!(rt; minutes(&root, k, j), Some(wanted), "team {k}, task {j}");
+        same_at(&rt, &minutes(&root, k, j), &Some(wanted), &(k, j));
     }
     Ok(())
 }
@@ -89,7 +89,7 @@ fn tests_visits(rt: HostRuntime) -> Result<(), Fail> {
         (1, u32::MAX, false),
         (2, 420, false),
     ] {
-        assert_eq!(rt; may_visit(&root, j, t), Some(wanted), "task {j} at {t}");
+        same_at(&rt, &may_visit(&root, j, t), &Some(wanted), &(j, t));
     }
     Ok(())
 }
@@ -129,7 +129,7 @@ fn tests_steps(rt: HostRuntime) -> Result<(), Fail> {
         (0, u32::MAX, 1, u32::MAX, false),
     ] {
         let told = may_follow(&root, j, t, h, u);
-        assert_eq!(rt; told, Some(wanted), "from {j} at {t} to {h} at {u}");
+        same_at(&rt, &told, &Some(wanted), &(j, t, h, u));
     }
     Ok(())
 }
@@ -152,8 +152,8 @@ fn longest_times(alloc: Global) -> Result<Instance, FixtureFault> {
 fn wraps_nothing_below_zero(rt: HostRuntime) -> Result<(), Fail> {
     let day = longest_times(rt.alloc())?;
     let root = Limits::root(rt.alloc(), &day)?;
-    assert_eq!(rt; minutes(&root, 0, 0), Some(None));
-    assert_eq!(rt; may_visit(&root, 0, 0), Some(false));
+    same(&rt, &minutes(&root, 0, 0), &Some(None));
+    same(&rt, &may_visit(&root, 0, 0), &Some(false));
     Ok(())
 }
 
@@ -161,10 +161,10 @@ fn wraps_nothing_below_zero(rt: HostRuntime) -> Result<(), Fail> {
 fn leaves_the_root_open(rt: HostRuntime) -> Result<(), Fail> {
     let day = small_day(rt.alloc())?;
     let root = Limits::root(rt.alloc(), &day)?;
-    assert_eq!(rt; root.window(0), (420, 480));
-    assert_eq!(rt; root.pair(1, 2), Pair::Free);
-    assert_eq!(rt; root.required(0), 0);
-    assert!(rt; !root.decided());
+    same(&rt, &root.window(0), &(420, 480));
+    same(&rt, &root.pair(1, 2), &Pair::Free);
+    same(&rt, &root.required(0), &0);
+    same(&rt, &root.decided(), &false);
     Ok(())
 }
 
@@ -184,8 +184,8 @@ fn is_decided_where_nothing_can_be_split(rt: HostRuntime) -> Result<(), Fail> {
         latest: 420,
         ..joint_task(b"J", 0)?
     };
-    assert!(rt; is_decided(rt.alloc(), &[skilled])?);
-    assert!(rt; !is_decided(rt.alloc(), &[skilled, open])?);
+    same(&rt, &is_decided(rt.alloc(), &[skilled])?, &true);
+    same(&rt, &is_decided(rt.alloc(), &[skilled, open])?, &false);
     Ok(())
 }
 
@@ -197,9 +197,9 @@ fn takes_back_a_narrow_window(rt: HostRuntime) -> Result<(), Fail> {
     let (from, until) = limits.window(0);
     assert!(rt; from <= 420 && 435 <= until);
     limits.set_window(0, 420, 435);
-    assert_eq!(rt; minutes(&limits, 1, 0), Some(None));
+    same(&rt, &minutes(&limits, 1, 0), &Some(None));
     limits.undo();
-    assert_eq!(rt; minutes(&limits, 1, 0), Some(Some((450, 450))));
+    same(&rt, &minutes(&limits, 1, 0), &Some(Some((450, 450))));
     Ok(())
 }
 
@@ -218,9 +218,9 @@ fn takes_back_a_pair_after_a_rest(rt: HostRuntime) -> Result<(), Fail> {
     limits.reserve(1)?;
     assert!(rt; matches!(limits.pair(1, 0), Pair::Free));
     limits.set_pair(1, 0, Pair::Required);
-    assert_eq!(rt; required(&limits), Some(1));
+    same(&rt, &required(&limits), &Some(1));
     let mut limits = Limits::wake(&day, limits.rest());
     limits.undo();
-    assert_eq!(rt; required(&limits), Some(0));
+    same(&rt, &required(&limits), &Some(0));
     Ok(())
 }

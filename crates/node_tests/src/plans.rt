@@ -2,7 +2,9 @@
 ghost use Rattle.std.specs.Prelude.{◌≡◌, length, IfOk};
 ghost use Rattle.crew_fixtures.specs.Sizes.{HasSizes};
 
-use crew_fixtures::{FixtureFault, Job, far_builder, gate_task, is_plan_of, plan_of, team, visit};
+use crew_fixtures::{
+    FixtureFault, Job, far_builder, gate_task, is_plan_of, plan_of, same, same_at, team, visit,
+};
 use crew_instance::{Builder, Instance};
 use crew_terms::{Pair, PlanVerdict, Task, Team};
 use node_limits::Limits;
@@ -62,9 +64,9 @@ const ONE_AFTER_ANOTHER: [Job<'static>; 3] = [(2, 460, &[0]), (0, 420, &[0]), (1
 fn a_task_between_makes_a_plan_legal(rt: HostRuntime) -> Result<(), Fail> {
     let day = day(rt.alloc())?;
     let all = verdict(rt.alloc(), &day, &ONE_AFTER_ANOTHER)?;
-    assert_eq!(rt; all, PlanVerdict::Legal);
+    same(&rt, &all, &PlanVerdict::Legal);
     let two = verdict(rt.alloc(), &day, &ONE_AFTER_ANOTHER[..2])?;
-    assert_eq!(rt; two, PlanVerdict::Clash(0, 0, 2));
+    same(&rt, &two, &PlanVerdict::Clash(0, 0, 2));
     Ok(())
 }
 
@@ -85,7 +87,7 @@ const FAULTS: [(Job<'static>, PlanVerdict); 6] = [
 fn tells_each_fault(rt: HostRuntime) -> Result<(), Fail> {
     let day = day(rt.alloc())?;
     for (job, fault) in FAULTS {
-        assert_eq!(rt; verdict(rt.alloc(), &day, &[job])?, fault, "{job:?}");
+        same_at(&rt, &verdict(rt.alloc(), &day, &[job])?, &fault, &job);
     }
     Ok(())
 }
@@ -101,9 +103,9 @@ const OUTSIDE: Job<'static> = (0, 421, &[1]);
 fn takes_a_plan_with_the_frozen_jobs(rt: HostRuntime) -> Result<(), Fail> {
     let day = frozen_day(rt.alloc())?;
     let legal = PlanVerdict::Legal;
-    assert_eq!(rt; verdict(rt.alloc(), &day, &[X, TWO])?, legal);
+    same(&rt, &verdict(rt.alloc(), &day, &[X, TWO])?, &legal);
     let three = [X, TWO, (0, 420, [1].as_slice())];
-    assert_eq!(rt; verdict(rt.alloc(), &day, &three)?, legal);
+    same(&rt, &verdict(rt.alloc(), &day, &three)?, &legal);
     Ok(())
 }
 
@@ -111,7 +113,7 @@ fn takes_a_plan_with_the_frozen_jobs(rt: HostRuntime) -> Result<(), Fail> {
 fn tells_other_faults_after_frozen_jobs(rt: HostRuntime) -> Result<(), Fail> {
     let day = frozen_day(rt.alloc())?;
     let told = verdict(rt.alloc(), &day, &[X, TWO, OUTSIDE])?;
-    assert_eq!(rt; told, PlanVerdict::Window(0));
+    same(&rt, &told, &PlanVerdict::Window(0));
     Ok(())
 }
 
@@ -131,7 +133,7 @@ fn tells_a_frozen_job_first(rt: HostRuntime) -> Result<(), Fail> {
     let day = frozen_day(rt.alloc())?;
     for (first, second, task) in UNKEPT {
         let told = verdict(rt.alloc(), &day, &[OUTSIDE, first, second])?;
-        assert_eq!(rt; told, PlanVerdict::Frozen(task), "{first:?}, {second:?}");
+        same_at(&rt, &told, &PlanVerdict::Frozen(task), &(first, second));
     }
     Ok(())
 }
@@ -147,7 +149,7 @@ fn lists_what_a_team_does(rt: HostRuntime) -> Result<(), Fail> {
     let plan = plan_of(rt.alloc(), 6, &jobs)?;
     let visits = tasks_of(rt.alloc(), &plan, 1)?;
     let wanted = [visit(3, 420), visit(0, 440), visit(1, 440)];
-    assert_eq!(rt; visits.as_slice(), wanted.as_slice());
+    same(&rt, &visits.as_slice(), &wanted.as_slice());
     Ok(())
 }
 
@@ -179,7 +181,7 @@ const AT_NODE: [(&[Job<'static>], bool); 5] = [
 #[test]
 fn tells_what_is_within_a_node(rt: HostRuntime) -> Result<(), Fail> {
     for (jobs, wanted) in AT_NODE {
-        assert_eq!(rt; is_in_node(rt.alloc(), jobs)?, wanted, "{jobs:?}");
+        same_at(&rt, &is_in_node(rt.alloc(), jobs)?, &wanted, &jobs);
     }
     Ok(())
 }

@@ -1,5 +1,5 @@
 // Routes of one team within the limits of the root.
-use crew_fixtures::{far_gates, two_at_once, visit};
+use crew_fixtures::{far_gates, same, same_at, two_at_once, visit};
 use crew_terms::Visit;
 use node_limits::Limits;
 use route_check::{RouteVerdict, check_route, elementary};
@@ -9,7 +9,7 @@ use std::test::Fail;
 /// Asserts what is said of these visits of the first team.
 fn assert_verdict(rt: &impl Abort, limits: &Limits<'_>, visits: &[Visit], wanted: RouteVerdict) {
     assert!(rt; limits.instance().teams() > 0);
-    assert_eq!(rt; check_route(limits, 0, visits), wanted, "{visits:?}");
+    same_at(rt, &check_route(limits, 0, visits), &wanted, &visits);
 }
 
 #[test]
@@ -46,7 +46,7 @@ fn a_task_between_makes_a_route(rt: HostRuntime) -> Result<(), Fail> {
 fn tells_tasks_that_come_again(rt: HostRuntime) {
     let once = [visit(0, 420), visit(1, 420), visit(2, 420)];
     let again = [visit(0, 420), visit(1, 440), visit(0, 460)];
-    assert!(rt; elementary(&[]));
-    assert!(rt; elementary(&once));
-    assert!(rt; !elementary(&again));
+    same(&rt, &elementary(&[]), &true);
+    same(&rt, &elementary(&once), &true);
+    same(&rt, &elementary(&again), &false);
 }

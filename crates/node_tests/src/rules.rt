@@ -4,7 +4,9 @@ ghost use Rattle.crew_terms.specs.Leaf.{IsPrice};
 ghost use Rattle.potentials.specs.Prices.{ArePricesOf};
 ghost use Rattle.potentials.specs.Table.{IsTableOf};
 
-use crew_fixtures::{FixtureFault, far_gates, gate_instance, name, task, team, two_at_once};
+use crew_fixtures::{
+    FixtureFault, far_gates, gate_instance, name, same, same_at, task, team, two_at_once,
+};
 use crew_instance::Instance;
 use crew_terms::{Task, Team};
 use node_limits::Limits;
@@ -66,9 +68,10 @@ fn verdict(
     assert!(rt; 0 < instance.teams());
     let mut room = Room::reserve(alloc, instance)?;
     let said = local(&root, 0, &prices, &table, &mut room, worth);
-    assert_eq!(rt;
-        holds_locally(&root, 0, &prices, &table, &mut room, worth),
-        said == Holds
+    same(
+        rt,
+        &holds_locally(&root, 0, &prices, &table, &mut room, worth),
+        &(said == Holds),
     );
     Ok(said)
 }
@@ -87,7 +90,7 @@ fn tells_the_first_rule_that_fails(rt: HostRuntime) -> Result<(), Fail> {
     ] {
         let potentials = [(0, 420, first), (1, 420, second)];
         let told = verdict(&rt, rt.alloc(), &day, TASK, &potentials, worth)?;
-        assert_eq!(rt; told, want, "{potentials:?}, worth {worth}");
+        same_at(&rt, &told, &want, &(potentials, worth));
     }
     Ok(())
 }
@@ -105,7 +108,7 @@ fn counts_what_can_follow(rt: HostRuntime) -> Result<(), Fail> {
     ] {
         let potentials = [(0, 420, first), (1, 440, second), (2, 460, third)];
         let told = verdict(&rt, rt.alloc(), &day, TASK, &potentials, worth)?;
-        assert_eq!(rt; told, want, "{potentials:?}, worth {worth}");
+        same_at(&rt, &told, &want, &(potentials, worth));
     }
     Ok(())
 }
@@ -184,7 +187,7 @@ fn follows_the_rules_visit_by_visit(rt: HostRuntime) -> Result<(), Fail> {
             ];
             let told = verdict(&rt, rt.alloc(), &day, price, &potentials, 1)?;
             let want = plain(price, &first, opens, &second, 1);
-            assert_eq!(rt; told, want, "price {price}, {potentials:?}");
+            same_at(&rt, &told, &want, &(price, potentials));
         }
     }
     Ok(())
@@ -196,16 +199,18 @@ fn bounds_what_is_unassigned(rt: HostRuntime) -> Result<(), Fail> {
     let root = Limits::root(rt.alloc(), &day)?;
     let prices = each_at(rt.alloc(), &root, TASK)?;
     let sum = bound(&root, &prices, &[TASK]);
-    assert_eq!(rt; sum, i128::from(D));
-    assert_eq!(rt;
-        [proves(sum, 0), proves(sum, 1), proves(sum, 2)],
-        [true, true, false]
+    same(&rt, &sum, &i128::from(D));
+    same(
+        &rt,
+        &[proves(sum, 0), proves(sum, 1), proves(sum, 2)],
+        &[true, true, false],
     );
-    assert_eq!(rt;
-        bound(&root, &prices, &[i64::MAX]),
-        2 * i128::from(D) - i128::from(i64::MAX)
+    same(
+        &rt,
+        &bound(&root, &prices, &[i64::MAX]),
+        &(2 * i128::from(D) - i128::from(i64::MAX)),
     );
-    assert!(rt; !proves(0, 1) && proves(1, 1));
+    same(&rt, &(!proves(0, 1) && proves(1, 1)), &true);
     Ok(())
 }
 
@@ -215,14 +220,15 @@ fn keeps_what_is_set(rt: HostRuntime) -> Result<(), Fail> {
     let root = Limits::root(rt.alloc(), &day)?;
     let mut prices = each_at(rt.alloc(), &root, 7)?;
     prices.set_rho(0, 1, -5);
-    assert_eq!(rt;
-        [
+    same(
+        &rt,
+        &[
             prices.pi(0),
             prices.pi(1),
             prices.rho(0, 0),
-            prices.rho(0, 1)
+            prices.rho(0, 1),
         ],
-        [7, 7, 0, -5]
+        &[7, 7, 0, -5],
     );
     Ok(())
 }
@@ -263,7 +269,11 @@ fn time_of_rules(
     let mut room = Room::reserve(rt.alloc(), &day)?;
     assert!(rt; 0 < day.teams());
     let start = rt.thread_cpu_time()?;
-    assert!(rt; holds_locally(&root, 0, &prices, &table, &mut room, 0));
+    same(
+        rt,
+        &holds_locally(&root, 0, &prices, &table, &mut room, 0),
+        &true,
+    );
     Ok(rt.thread_cpu_time()?.saturating_sub(start))
 }
 

@@ -3,7 +3,7 @@ ghost use Rattle.std.specs.Prelude.{◌≡◌, ◌≤◌, ◌+◌, ◌∷◌, []
 ghost use Rattle.branch_tree.specs.Trees.{IsPreorder};
 
 use branch_tree::{LeafState, Node, Tree};
-use crew_fixtures::one_task;
+use crew_fixtures::{one_task, same};
 use crew_terms::Choice;
 use node_limits::Limits;
 use potentials::Prices;
@@ -60,17 +60,23 @@ fn counts_a_tree(rt: HostRuntime) -> Result<(), Fail> {
     let day = one_task(rt.alloc())?;
     let root = Limits::root(rt.alloc(), &day)?;
     let tree = Tree::whole(two_splits(rt.alloc(), &root)?);
-    assert_eq!(rt; numbers(&tree), [2, 1, 2, 2]);
+    same(&rt, &numbers(&tree), &[2, 1, 2, 2]);
     assert!(rt; tree.len() == 5);
-    assert!(rt; matches!(tree.node(1), Node::Split(Choice::Pair { team: 0, task: 1 })));
-    assert!(rt;
-        matches!(
+    same(
+        &rt,
+        &matches!(tree.node(1), Node::Split(Choice::Pair { team: 0, task: 1 })),
+        &true,
+    );
+    same(
+        &rt,
+        &matches!(
             tree.node(3),
             Node::Leaf {
                 state: LeafState::Open,
                 ..
             }
-        )
+        ),
+        &true,
     );
     Ok(())
 }
@@ -80,8 +86,8 @@ fn counts_chains(rt: HostRuntime) -> Result<(), Fail> {
     let day = one_task(rt.alloc())?;
     let root = Limits::root(rt.alloc(), &day)?;
     let alone = Tree::whole(chain(rt.alloc(), &root, 0)?);
-    assert_eq!(rt; numbers(&alone), [0, 1, 0, 0]);
+    same(&rt, &numbers(&alone), &[0, 1, 0, 0]);
     let long = Tree::whole(chain(rt.alloc(), &root, 1000)?);
-    assert_eq!(rt; numbers(&long), [1000, 1, 1000, 1000]);
+    same(&rt, &numbers(&long), &[1000, 1, 1000, 1000]);
     Ok(())
 }

@@ -3,7 +3,7 @@ ghost use Rattle.std.specs.Prelude.{◌≡◌, ◌≤◌, false, IfOk, OnOk};
 ghost use Rattle.crew_fixtures.specs.Sizes.{HasSizes};
 ghost use Rattle.tree_walk.specs.Way.{IsSomewhere};
 
-use crew_fixtures::{FixtureFault, gate_instance, task, team};
+use crew_fixtures::{FixtureFault, gate_instance, same, same_at, task, team};
 use crew_instance::Instance;
 use crew_terms::{Choice, Pair, Task, TreeCounts};
 use node_limits::Limits;
@@ -82,29 +82,30 @@ fn walks_a_small_tree(rt: HostRuntime) -> Result<(), Fail> {
     let mut limits = Limits::root(rt.alloc(), &day)?;
     let mut walk = Walk::new(rt.alloc());
     split_window(&mut walk, &mut limits, 0, 440)?;
-    assert_eq!(rt; told(&limits), Some(((420, 440), Pair::Free)));
+    same(&rt, &told(&limits), &Some(((420, 440), Pair::Free)));
     split_pair(&mut walk, &mut limits)?;
-    assert_eq!(rt; told(&limits), Some(((420, 440), Pair::Forbidden)));
-    assert_eq!(rt; walk.level(), 2);
+    same(&rt, &told(&limits), &Some(((420, 440), Pair::Forbidden)));
+    same(&rt, &walk.level(), &2);
     if leave(&mut walk, &mut limits, false)? {
         return Err("whole")?;
     }
-    assert_eq!(rt; told(&limits), Some(((420, 440), Pair::Required)));
+    same(&rt, &told(&limits), &Some(((420, 440), Pair::Required)));
     if leave(&mut walk, &mut limits, true)? {
         return Err("whole")?;
     }
-    assert_eq!(rt; told(&limits), Some(((441, 1140), Pair::Free)));
-    assert_eq!(rt; walk.level(), 1);
-    assert!(rt; leave(&mut walk, &mut limits, true)?);
-    assert_eq!(rt; told(&limits), Some(((420, 1140), Pair::Free)));
-    assert_eq!(rt;
-        walk.seen(),
-        TreeCounts {
+    same(&rt, &told(&limits), &Some(((441, 1140), Pair::Free)));
+    same(&rt, &walk.level(), &1);
+    same(&rt, &leave(&mut walk, &mut limits, true)?, &true);
+    same(&rt, &told(&limits), &Some(((420, 1140), Pair::Free)));
+    same(
+        &rt,
+        &walk.seen(),
+        &TreeCounts {
             splits: 2,
             closed: 2,
             left_open: 1,
             depth: 2,
-        }
+        },
     );
     Ok(())
 }
@@ -114,7 +115,7 @@ fn tells_where_a_window_can_be_split(rt: HostRuntime) -> Result<(), Fail> {
     let day = small_day(rt.alloc())?;
     let limits = Limits::root(rt.alloc(), &day)?;
     for (cut, wanted) in [(419, false), (420, true), (1139, true), (1140, false)] {
-        assert_eq!(rt; is_cut(&limits, 0, cut), wanted, "at {cut}");
+        same_at(&rt, &is_cut(&limits, 0, cut), &wanted, &cut);
     }
     Ok(())
 }
@@ -156,17 +157,18 @@ fn walks_a_deep_tree(rt: HostRuntime) -> Result<(), Fail> {
     let mut walk = Walk::new(rt.alloc());
     go_down(&mut walk, &mut limits, 0, 1139, 720)?;
     go_down(&mut walk, &mut limits, 1, 799, 280)?;
-    assert_eq!(rt; walk.level(), 1000);
-    assert_eq!(rt; leave_all(&mut walk, &mut limits, 5000)?, 1001);
-    assert_eq!(rt; told(&limits), Some(((420, 1140), Pair::Free)));
-    assert_eq!(rt;
-        walk.seen(),
-        TreeCounts {
+    same(&rt, &walk.level(), &1000);
+    same(&rt, &leave_all(&mut walk, &mut limits, 5000)?, &1001);
+    same(&rt, &told(&limits), &Some(((420, 1140), Pair::Free)));
+    same(
+        &rt,
+        &walk.seen(),
+        &TreeCounts {
             splits: 1000,
             closed: 0,
             left_open: 1001,
             depth: 1000,
-        }
+        },
     );
     Ok(())
 }

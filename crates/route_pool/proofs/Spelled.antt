@@ -7,7 +7,7 @@ use Rattle.std.proofs.lemmas.Int.{to_z-of_z}
 use Rattle.std.proofs.lemmas.List.{take_more, take_all}
 use Rattle.std.proofs.lemmas.List.Elements.{All-from_recursion}
 use Rattle.crew_terms.specs.declared.Visit.{Visit}
-use Rattle.route_pool.specs.KeyLaws.{visit_at}
+use Rattle.route_terms.specs.KeyLaws.{visit_at}
 use Rattle.route_pool.specs.Numbers.{AreNumbersOf}
 
 abbrev none : Visit

@@ -5,9 +5,9 @@ use Rattle.std.proofs.lemmas.List.Folds.{list_any_at}
 use Rattle.std.proofs.lemmas.Map.Made.{AllPairs-from_IsDistinct}
 use Rattle.indexmap.proofs.CallerLemmas.{Contains-list_any}
 use Rattle.crew_terms.specs.Limits.{Route}
-use Rattle.route_pool.specs.Keys.{same_route}
-use Rattle.route_pool.specs.KeyLaws.{same_route_decides}
-use Rattle.route_pool.specs.Verdict.{IsNew}
+use Rattle.route_terms.specs.Keys.{same_route}
+use Rattle.route_terms.specs.KeyLaws.{same_route_decides}
+use Rattle.route_terms.specs.Routes.{IsNew}
 
 pub is_new : (pool : List Route) (r : Route) → list_any (same_route r) pool ≡ false → IsNew pool r
 is_new pool r none k d below same =

@@ -1,4 +1,2 @@
-pub mod Keys
-pub mod KeyLaws
 pub mod Numbers
 pub mod Verdict

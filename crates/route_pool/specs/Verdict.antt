@@ -1,12 +1,9 @@
 -- what is told of a route that is to be added to a pool, and the pool after it
-use Rattle.std.specs.Prelude.{◌≡◌, ◌≢◌, List, [], ◌∷◌, ◌++◌, All, Contains}
+use Rattle.std.specs.Prelude.{◌≡◌, List, [], ◌∷◌, ◌++◌, Contains}
 use Rattle.crew_terms.specs.Limits.{Limits, IsRoute, Route}
+use Rattle.route_terms.specs.Routes.{IsNew}
 use Rattle.route_pool.specs.declared.pool.PoolVerdict.{PoolVerdict}
 use Rattle.route_pool.specs.declared.pool.PoolVerdict.TheVariants.{Added, NotRoute, Repeated}
-
--- no route of the pool equals this one
-abbrev pub IsNew : List Route → Route → Type 0
-IsNew pool route = All (λ (o : Route). o ≢ route) pool
 
 -- added where it is a route of its team and new, or else the first of the two that fails
 abbrev pub IsPoolVerdict : Limits → List Route → Route → PoolVerdict → Type 0

@@ -6,4 +6,5 @@ mod routes;
 
 pub use node_limits::{Limits, Visit};
 pub use pool::{Pool, PoolVerdict};
-pub use routes::Route;
+pub use route_terms::Route;
+pub use routes::read_route;

@@ -3,10 +3,10 @@ ghost use Rattle.std.specs.Prelude.{◌≡◌, ◌≢◌, ◌<◌, [], length, s
 ghost use Rattle.crew_terms.specs.Limits.{IsRoute, teams_in};
 ghost use Rattle.route_pool.specs.Verdict.{IsPoolVerdict, pool_after};
 
-use crate::routes::Route;
 use indexmap::IndexSet;
 use node_limits::Limits;
 use route_check::{RouteVerdict, check_route};
+use route_terms::Route;
 use std::alloc::{AllocError, Global};
 use std::marker::Model;
 
@@ -26,7 +26,7 @@ pub enum PoolVerdict {
 /// In contracts: the list of the routes.
 #[derive(Drop)]
 pub struct Pool {
-    routes: IndexSet<Route>,
+    routes: IndexSet<Route<'static>>,
 }
 
 impl Model for Pool {
@@ -39,7 +39,7 @@ impl Model for Pool {
 }
 
 /// Whether the visits are a route of the team.
-fn is_route(limits: &Limits<'_>, route: &Route) -> bool
+fn is_route(limits: &Limits<'_>, route: &Route<'_>) -> bool
     requires { route.now.team < teams_in limits.now.limits }
     ensures { IsTrue result ↔ IsRoute limits.now.limits route.now.team route.now.visits }
 {
@@ -62,10 +62,14 @@ impl Pool {
     /// Puts the route last in the pool. It is refused where its visits are no route of its team in the
     /// limits, or else where an equal route stands in the pool; memory may run out in place of an
     /// addition. The pool is then as before.
-    pub fn add(&mut self, limits: &Limits<'_>, route: Route) -> Result<PoolVerdict, AllocError>
+    pub fn add(
+        &mut self,
+        limits: &Limits<'_>,
+        route: Route<'static>,
+    ) -> Result<PoolVerdict, AllocError>
         requires { route.team < teams_in limits.now.limits }
-        ensures verdict { IfOk result (IsPoolVerdict limits.now.limits self.old route) }
-        ensures pool { IfOk result (pool_after self.old route self.new) }
+        ensures verdict { IfOk result (IsPoolVerdict limits.now.limits self.old route.entry) }
+        ensures pool { IfOk result (pool_after self.old route.entry self.new) }
         ensures err { OnErr result (self.new ≡ self.old) }
     {
         if !is_route(limits, &route) {
@@ -92,7 +96,7 @@ impl Pool {
     }
 
     /// The route at the place `n`, from 0.
-    pub fn route(&self, n: usize) -> &Route
+    pub fn route(&self, n: usize) -> &Route<'static>
         requires { n < length self.now }
         ensures { result.now ≡ slice_index_or self.now n result.now }
     {
@@ -100,7 +104,7 @@ impl Pool {
     }
 
     /// The routes, in their order.
-    pub fn routes(&self) -> &[Route]
+    pub fn routes(&self) -> &[Route<'static>]
         ensures routes { result.now ≡ self.now }
         ensures apart { AllPairs (λ a b. a ≢ b) self.now }
     {

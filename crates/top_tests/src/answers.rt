@@ -1,5 +1,6 @@
 // What the program answers.
 use crew_cli::run::{Status, run};
+use crew_fixtures::{Shown, holds_at, same_at};
 use crew_io::sink::MemSink;
 use crew_io::source::MemSource;
 use std::alloc::Global;
@@ -37,12 +38,11 @@ pub fn apply(alloc: Global, input: &[u8]) -> Result<(Status, Vec<u8>), Fail> {
 /// Asserts that the status and the text are these.
 pub fn assert_told(rt: &impl Abort, told: &(Status, Vec<u8>), status: Status, text: &[u8]) {
     let (told, written) = told;
-    assert_eq!(rt; *told, status, "for {}", text.escape_ascii());
-    assert!(rt;
+    same_at(rt, told, &status, &Shown(text));
+    holds_at(
+        rt,
         written.as_slice() == text,
-        "{} for {}",
-        written.escape_ascii(),
-        text.escape_ascii()
+        &(Shown(written), Shown(text)),
     );
 }
 

@@ -2,7 +2,7 @@
 use crate::answers::{YES, answer, assert_told, check, status_of};
 use crew_cli::run::Status;
 use crew_fixtures::dossiers::{EIGHT, LACKS_SKILL, Lines, ONE_TASK, TOGETHER, WITH_POOL};
-use crew_fixtures::{joined, text_of, with_line};
+use crew_fixtures::{joined, same_at, text_of, with_line};
 use std::mem;
 use std::test::Fail;
 
@@ -100,7 +100,7 @@ fn one_wrong_byte_anywhere_is_refused(rt: HostRuntime) -> Result<(), Fail> {
     for at in 0..input.len() {
         let byte = mem::replace(&mut input[at], b'#');
         let (status, _) = check(rt.alloc(), input.clone()?)?;
-        assert_eq!(rt; status, Status::No, "at {at}");
+        same_at(&rt, &status, &Status::No, &at);
         input[at] = byte;
     }
     Ok(())

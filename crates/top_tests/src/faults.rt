@@ -6,7 +6,7 @@ use crate::days::{DAY, crlf_text};
 use crew_cli::run::{Status, run};
 use crew_cli::steady::{run_in_memory, run_steady};
 use crew_fixtures::dossiers::{ONE_TASK, WITH_POOL};
-use crew_fixtures::{joined, text_of};
+use crew_fixtures::{holds_at, joined, same, same_at, text_of};
 use crew_io::sink::{MemSink, SteadySink};
 use crew_io::source::{MemSource, SteadySource};
 use std::alloc::{AllocError, Global};
@@ -126,19 +126,14 @@ fn assert_tells(
 ) -> Result<(), Fail>
     requires { 1 ≤ piece }
 {
-    assert_eq!(rt;
-        told_reads(alloc, word, input, piece)?,
-        Some(reads),
-        "pieces of {piece}"
+    same_at(
+        rt,
+        &told_reads(alloc, word, input, piece)?,
+        &Some(reads),
+        &piece,
     );
-    assert!(rt;
-        tells_writes(alloc, word, input, piece)?,
-        "pieces of {piece}"
-    );
-    assert!(rt;
-        tells_small_rooms(alloc, word, input, piece)?,
-        "pieces of {piece}"
-    );
+    holds_at(rt, tells_writes(alloc, word, input, piece)?, &piece);
+    holds_at(rt, tells_small_rooms(alloc, word, input, piece)?, &piece);
     Ok(())
 }
 
@@ -211,12 +206,12 @@ fn what_does_not_fail_is_no_fault(rt: HostRuntime) -> Result<(), Fail> {
     let words = check_words(alloc)?;
     let mut src = SteadySource::new(text_of(alloc, ONE_TASK)?, 10);
     let steady = run_steady(alloc, &words, &mut src, &mut SteadySink::new());
-    assert_eq!(rt; steady, Status::Done);
+    same(&rt, &steady, &Status::Done);
     let mut src = MemSource::new(text_of(alloc, ONE_TASK)?, 10, Vec::new(alloc));
     let mut out = MemSink::new(alloc, YES.len(), 7, Vec::new(alloc))?;
     let told = run_in_memory(alloc, &words, &mut src, &mut out);
-    assert_eq!(rt; told, Status::Done);
-    assert_eq!(rt; out.got(), YES);
+    same(&rt, &told, &Status::Done);
+    same(&rt, &out.got(), &YES);
     Ok(())
 }
 
@@ -225,11 +220,11 @@ fn the_first_calls_fail(rt: HostRuntime) -> Result<(), Fail> {
     for dossier in [ONE_TASK, WITH_POOL] {
         let text = text_of(rt.alloc(), dossier)?;
         let (read, nothing) = answer_over(rt.alloc(), "check", &text, 10, &[3], ROOM, &[])?;
-        assert_eq!(rt; read, Status::ReadFault);
-        assert!(rt; nothing.is_empty());
+        same(&rt, &read, &Status::ReadFault);
+        same(&rt, &nothing.is_empty(), &true);
         let (write, none) = answer_over(rt.alloc(), "check", &text, 10, &[], ROOM, &[1])?;
-        assert_eq!(rt; write, Status::WriteFault);
-        assert!(rt; none.is_empty());
+        same(&rt, &write, &Status::WriteFault);
+        same(&rt, &none.is_empty(), &true);
     }
     Ok(())
 }

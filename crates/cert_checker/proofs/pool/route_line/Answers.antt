@@ -12,8 +12,8 @@ use Rattle.cert_checker.specs.declared.due.BegunDossier.{BegunDossier}
 use Rattle.cert_checker.proofs.PoolRows.{rest_is_root, root_woke, route_numbers, route_judged}
 use Rattle.cert_checker.proofs.pool.route_line.Goals as goal
 
-pub read-requires : goal.read-requires
-read-requires c =
+pub read_route-requires : goal.read_route-requires
+read_route-requires c =
     let h = subst (IsRouteOf c.teams-teams.result c.tasks-tasks.result c.args.words) c.in-Route.is c.in-Ok.ensures in
     let route : Route = record { team = c.in-Route.team; visits = h.0 } in
     let count = c.tasks-tasks.ensures.count in

@@ -3,7 +3,7 @@ use Rattle.std.specs.Fmt.{decimal}
 use Rattle.std.proofs.lemmas.Nat.Bits.{shr_and_one}
 use Rattle.crew_terms.specs.declared.TheConstants.{SKILLS}
 use Rattle.arrayvec.specs.ArrayVec.{array_vec_len}
-use Rattle.cert_format.specs.Parts.{part_word}
+use Rattle.line_out.specs.Parts.{part_word}
 use Rattle.cert_format.proofs.Heads.{skills_below, skill_not, skill_pushed}
 use Rattle.cert_format.proofs.instance_out.push_skills.Goals as goal
 use Rattle.cert_format.proofs.instance_out.push_skills.Goals.{then-skills-s-eq1, else-skills-s-eq1}

@@ -2,7 +2,7 @@ use Rattle.std.proofs.Common.{◌≡◌, ◌≤◌, ◌+◌, ◌++◌, map}
 use Rattle.std.specs.Fmt.{decimal}
 use Rattle.crew_terms.specs.declared.TheConstants.{SKILLS}
 use Rattle.arrayvec.specs.ArrayVec.{array_vec_len}
-use Rattle.cert_format.specs.Parts.{part_word}
+use Rattle.line_out.specs.Parts.{part_word}
 use Rattle.cert_format.specs.declared.instance_out.TheConstants.{MOST_PARTS}
 use Rattle.cert_format.proofs.Heads.{skills_below}
 use Rattle.cert_format.proofs.instance_out.push_skills.Given as goal

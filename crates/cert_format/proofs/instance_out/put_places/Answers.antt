@@ -1,6 +1,6 @@
 use Rattle.std.proofs.Common.{◌<◌, length, ap, ◌∙◌, arith}
 use Rattle.dossier_terms.specs.Lines.{place_line}
-use Rattle.cert_format.proofs.Fronts.{on_err}
+use Rattle.line_out.specs.Fronts.{on_err}
 use Rattle.cert_format.proofs.Heads.{line_written, line_part}
 use Rattle.cert_format.proofs.instance_out.put_places.Goals as goal
 

@@ -2,7 +2,7 @@ use Rattle.std.proofs.Common.{◌≡◌, ◌+◌, ◌∷◌, [], take, map}
 use Rattle.std.specs.Prelude.{codes, slice_index_or}
 use Rattle.std.specs.Fmt.{decimal}
 use Rattle.arrayvec.specs.ArrayVec.{array_vec_len}
-use Rattle.cert_format.specs.Parts.{part_word}
+use Rattle.line_out.specs.Parts.{part_word}
 use Rattle.cert_format.proofs.instance_out.put_travel.Given as goal
 
 abbrev pub invariant-loop-b : goal.invariant-loop-b

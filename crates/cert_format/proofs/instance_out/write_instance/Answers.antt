@@ -3,7 +3,7 @@ use Rattle.std.proofs.lemmas.Result.{on_err_weaker, on_ok_weaker}
 use Rattle.crew_io.specs.Io.{Appended, AppendedPart}
 use Rattle.crew_io.specs.Appends.{appended_both}
 use Rattle.dossier_terms.specs.Lines.{instance_text, place_line, travel_line, team_line, task_line}
-use Rattle.cert_format.proofs.Fronts.{on_err, part_after}
+use Rattle.line_out.specs.Fronts.{on_err, part_after}
 use Rattle.cert_format.proofs.Heads.{size_text, text_of_lines, instance_parts, part_first, part_next}
 use Rattle.cert_format.proofs.instance_out.write_instance.Goals as goal
 

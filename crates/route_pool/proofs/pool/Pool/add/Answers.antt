@@ -1,6 +1,6 @@
 use Rattle.std.proofs.Common.{Contains, sym, subst, ◌∙◌}
 use Rattle.std.proofs.lemmas.Bool.{not-true, not-false}
-use Rattle.route_pool.specs.Verdict.{IsNew}
+use Rattle.route_terms.specs.Routes.{IsNew}
 use Rattle.route_pool.proofs.Standing.{is_new, stands}
 use Rattle.route_pool.proofs.pool.Pool.add.Goals as goal
 

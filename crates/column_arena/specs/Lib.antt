@@ -1,0 +1,5 @@
+pub mod Columns
+pub mod Legal
+pub mod Uses
+pub mod Kept
+pub mod Carried

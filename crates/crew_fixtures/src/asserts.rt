@@ -1,0 +1,29 @@
+// Assertions as calls: `assert_eq!` writes its formatting anew at each place, and each is proved.
+use std::fmt;
+use std::fmt::{Debug, Formatter, Write};
+use std::process::Abort;
+
+/// Ends the test where the two differ, and tells both.
+pub fn same<T: PartialEq + Debug>(rt: &impl Abort, told: &T, wanted: &T) {
+    assert_eq!(rt; told, wanted);
+}
+
+/// Ends the test where the two differ, and tells both and the case.
+pub fn same_at<T: PartialEq + Debug, C: Debug>(rt: &impl Abort, told: &T, wanted: &T, case: &C) {
+    assert_eq!(rt; told, wanted, "{case:?}");
+}
+
+/// Ends the test where it doesn't hold, and tells the case.
+pub fn holds_at<C: Debug>(rt: &impl Abort, holds: bool, case: &C) {
+    assert!(rt; holds, "{case:?}");
+}
+
+/// Bytes that are shown as text.
+#[derive(Clone, Copy)]
+pub struct Shown<'a>(pub &'a [u8]);
+
+impl Debug for Shown<'_> {
+    fn fmt<W: Write>(&self, f: &mut Formatter<W>) -> fmt::Result {
+        write!(f, "{}", self.0.escape_ascii())
+    }
+}

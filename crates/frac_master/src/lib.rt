@@ -1,0 +1,21 @@
+// The master problem of a node in exact numbers: its rows, their pivots, the routes that enter, and the numbers that they
+// give.
+#![tactic(auto)]
+
+mod basics;
+mod choosing;
+mod clearing;
+mod columns;
+mod duals;
+pub mod laws;
+mod master;
+mod opening;
+mod pivots;
+mod places;
+mod routes;
+mod running;
+mod solved;
+mod widening;
+
+pub use master::Master;
+pub use solved::{Added, Solved};

@@ -1,0 +1,104 @@
+// What can be earned after a visit, and from a visit on, by the cells of later minutes.
+ghost use Rattle.std.specs.Prelude.{◌≡◌, ◌≤◌, ◌<◌, ◌+◌, ℕ, length};
+ghost use Rattle.crew_terms.specs.Rules.{IsInstance};
+ghost use Rattle.crew_terms.specs.Limits.{IsPermittedVisit, Limits as NodeLimits, tasks_in, teams_in};
+ghost use Rattle.crew_terms.specs.Leaf.{Prices as NodePrices};
+ghost use Rattle.label_pricing.specs.Best.{IsAfter, IsBest, IsFirst};
+ghost use Rattle.label_pricing.specs.Cells.{AreCells, IsGrid};
+ghost use Rattle.label_pricing.specs.Turns.{IsEnd, IsStart, IsTurn};
+ghost use Rattle.potentials.specs.Prices.{ArePricesOf};
+
+use crate::grid::cell;
+use crate::labels::{Cell, Label, without};
+use crate::turns::{Turn, earned};
+use crew_instance::Instance;
+use node_limits::Limits;
+use potentials::Prices;
+
+/// The most that a team can earn after task `j` at minute `t`.
+pub(crate) fn after(
+    instance: &Instance,
+    grid: &[Cell],
+    end: u32,
+    turn: Turn,
+    j: u32,
+    t: u32,
+) -> Label
+    requires place { turn.place < length instance.now.places }
+    requires some_minutes { 1 ≤ turn.minutes }
+    requires minutes { turn.minutes ≤ 2880 }
+    requires minute { t ≤ 2880 }
+    requires end { end ≤ 2881 }
+    requires grid { IsGrid (length instance.now.places) grid.now }
+    ensures { (n : NodeLimits) (k : ℕ) (p : NodePrices) → n.instance ≡ instance.now → IsTurn n k j turn → IsEnd n k end
+        → AreCells n k p (t + 1) end grid.now → IsAfter n k p j t result }
+{
+    let mut best = Label {
+        value: 0,
+        task: 0,
+        start: 0,
+    };
+    let places = instance.places() as u32;
+    for q in 0..places {
+        let ready = t + turn.minutes + instance.travel(turn.place, q);
+        if ready <= end {
+            let label = without(cell(grid, places, q, ready), j);
+            if label.value > best.value {
+                best = label;
+            }
+        }
+    }
+    best
+}
+
+/// The most that a team can earn, by the cells of its first minute.
+pub(crate) fn first(grid: &[Cell], places: u32, start: u32) -> Label
+    requires grid { IsGrid places grid.now }
+    requires minute { start < 2882 }
+    ensures { (n : NodeLimits) (k : ℕ) (p : NodePrices) (end : ℕ) → IsInstance n.instance → length n.instance.places ≡ places
+        → IsStart n k start → start ≤ end → AreCells n k p start end grid.now → IsFirst n k p result }
+{
+    let mut best = Label {
+        value: 0,
+        task: 0,
+        start: 0,
+    };
+    for q in 0..places {
+        let label = cell(grid, places, q, start).first;
+        if label.value > best.value {
+            best = label;
+        }
+    }
+    best
+}
+
+/// What a visit to task `j` at minute `t` earns, with what can be earned after it.
+pub(crate) fn label_at(
+    limits: &Limits<'_>,
+    k: u32,
+    prices: &Prices,
+    grid: &[Cell],
+    end: u32,
+    turn: Turn,
+    j: u32,
+    t: u32,
+) -> Label
+    requires team { k < teams_in limits.now.limits }
+    requires prices { ArePricesOf limits.now.limits prices.now }
+    requires visit { IsPermittedVisit limits.now.limits k j t }
+    requires turn { IsTurn limits.now.limits k j turn }
+    requires end { IsEnd limits.now.limits k end }
+    requires day { end ≤ 2881 }
+    requires grid { IsGrid (length limits.now.limits.instance.places) grid.now }
+    requires cells { AreCells limits.now.limits k prices.now (t + 1) end grid.now }
+    ensures task { result.task ≡ j }
+    ensures start { result.start ≡ t }
+    ensures best { IsBest limits.now.limits k prices.now j t result.value }
+{
+    let next = after(limits.instance(), grid, end, turn, j, t);
+    Label {
+        value: earned(prices, k, j) + next.value,
+        task: j,
+        start: t,
+    }
+}

@@ -1,0 +1,139 @@
+// A line of words, written to a sink.
+#![tactic(auto)]
+
+ghost use Rattle.std.specs.Prelude.{◌≡◌, ◌≤◌, ◌++◌, [], ◌∷◌, map, OnOk, OnErr, IsErr};
+ghost use Rattle.crew_io.specs.Io.{Rose, Appended, AppendedPart};
+ghost use Rattle.crew_terms.specs.Words.{line_text};
+ghost use Rattle.line_out.specs.Parts.{part_word};
+
+use arrayvec::ArrayVec;
+use crew_io::sink::{Sink, WriteFault, put_all};
+use itoa::Buffer;
+
+/// A line that is short enough to be put at once.
+type ShortLine = ArrayVec<u8, 128>;
+
+/// A line is longer than that.
+#[derive(Clone, Copy)]
+struct Longer;
+
+/// A word of a line that is written.
+#[derive(Clone, Copy, Debug)]
+pub enum Part<'a> {
+    /// The word is these bytes.
+    Word(&'a [u8]),
+    /// The word is the decimal of this number.
+    Number(u64),
+}
+
+impl Default for Part<'_> {
+    ghost use Rattle.std.specs.Prelude.{[]};
+
+    ghost is_default = { λ part. part_word part ≡ [] };
+
+    /// An empty word.
+    fn default() -> Self {
+        Part::Word(b"")
+    }
+}
+
+/// Adds the bytes to a short line, where they fit.
+fn add(line: &mut ShortLine, bytes: &[u8]) -> Result<(), Longer>
+    ensures { OnOk result (line.new.items ≡ line.old.items ++ bytes.now) }
+{
+    match line.try_extend_from_slice(bytes) {
+        Ok(()) => Ok(()),
+        Err(_) => Err(Longer),
+    }
+}
+
+/// Adds a byte to a short line, where it fits.
+fn add_byte(line: &mut ShortLine, byte: u8) -> Result<(), Longer>
+    ensures { OnOk result (line.new.items ≡ line.old.items ++ byte ∷ []) }
+{
+    match line.try_push(byte) {
+        Ok(()) => Ok(()),
+        Err(_) => Err(Longer),
+    }
+}
+
+/// Adds the word that a part is to a short line, where it fits.
+fn add_part(line: &mut ShortLine, part: &Part<'_>) -> Result<(), Longer>
+    ensures { OnOk result (line.new.items ≡ line.old.items ++ part_word part.now) }
+{
+    match part {
+        Part::Word(word) => add(line, word),
+        Part::Number(n) => {
+            let mut buffer = Buffer::new();
+            add(line, buffer.format(*n).as_bytes())
+        }
+    }
+}
+
+/// Makes an empty short line the line of these parts with its LF, where it fits.
+fn gather(line: &mut ShortLine, parts: &[Part<'_>]) -> Result<(), Longer>
+    requires { line.old.items ≡ [] }
+    ensures { OnOk result (line.new.items ≡ line_text (map part_word parts.now)) }
+{
+    let Some((first, others)) = parts.split_first() else {
+        return add_byte(line, b'\n');
+    };
+    add_part(line, first)?;
+    for part in others {
+        add_byte(line, b' ')?;
+        add_part(line, part)?;
+    }
+    add_byte(line, b'\n')
+}
+
+fn put_part<K: Sink>(out: &mut K, part: &Part<'_>) -> Result<(), WriteFault>
+    ensures all { OnOk result (Appended (K.got out.old) (K.got out.new) (part_word part.now)) }
+    ensures part { OnErr result (AppendedPart (K.got out.old) (K.got out.new) (part_word part.now)) }
+    ensures later { K.faults out.old ≤ K.faults out.new }
+    ensures cause { IsErr result → Rose (K.faults out.old) (K.faults out.new) }
+    ensures told { OnOk result (K.faults out.new ≡ K.faults out.old) }
+    ensures steady { K.steady out.old → K.steady out.new × (IsErr result → K.full out.new) }
+{
+    match part {
+        Part::Word(word) => put_all(out, word),
+        Part::Number(n) => {
+            let mut buffer = Buffer::new();
+            put_all(out, buffer.format(*n).as_bytes())
+        }
+    }
+}
+
+/// Writes a line of any length, a word at a time.
+fn put_long<K: Sink>(out: &mut K, parts: &[Part<'_>]) -> Result<(), WriteFault>
+    ensures all { OnOk result (Appended (K.got out.old) (K.got out.new) (line_text (map part_word parts.now))) }
+    ensures part { OnErr result (AppendedPart (K.got out.old) (K.got out.new) (line_text (map part_word parts.now))) }
+    ensures later { K.faults out.old ≤ K.faults out.new }
+    ensures cause { IsErr result → Rose (K.faults out.old) (K.faults out.new) }
+    ensures told { OnOk result (K.faults out.new ≡ K.faults out.old) }
+    ensures steady { K.steady out.old → K.steady out.new × (IsErr result → K.full out.new) }
+{
+    let mut before = b"".as_slice();
+    for part in parts {
+        put_all(out, before)?;
+        put_part(out, part)?;
+        before = b" ".as_slice();
+    }
+    put_all(out, b"\n")
+}
+
+/// Writes a line of these parts with its LF; it takes no memory. After a fault, a front of the line was
+/// written.
+pub fn put_line<K: Sink>(out: &mut K, parts: &[Part<'_>]) -> Result<(), WriteFault>
+    ensures all { OnOk result (Appended (K.got out.old) (K.got out.new) (line_text (map part_word parts.now))) }
+    ensures part { OnErr result (AppendedPart (K.got out.old) (K.got out.new) (line_text (map part_word parts.now))) }
+    ensures later { K.faults out.old ≤ K.faults out.new }
+    ensures cause { IsErr result → Rose (K.faults out.old) (K.faults out.new) }
+    ensures told { OnOk result (K.faults out.new ≡ K.faults out.old) }
+    ensures steady { K.steady out.old → K.steady out.new × (IsErr result → K.full out.new) }
+{
+    let mut line = ShortLine::new();
+    match gather(&mut line, parts) {
+        Ok(()) => put_all(out, &line),
+        Err(Longer) => put_long(out, parts),
+    }
+}
