@@ -43,8 +43,8 @@ returns-in_err-put_turn-clause-part g c =
     let are = subst (AreTurns p k (length p)) (sym c.as_slice-turn-items.ensures.value) c.fill_turns.ensures in
     on_err c.from_residual.result _
     (subst (λ (xs : List ℕ). AppendedPart (g.K.Sink.got c.args.out.now) (g.K.Sink.got c.put_turn.new.out) xs) (all_lines i p k turns c.requires.limits c.requires.legal are)
-        (text_part (λ (v : Turn). line_text (turn_line i p k v.task)) turns c.loop-turn.turn-index first c.loop-turn-test.true _ _ _ c.loop-turn.invariant.so_far
-            c.in_err-put_turn.ensures.part))
+    (text_part (λ (v : Turn). line_text (turn_line i p k v.task)) turns c.loop-turn.turn-index first c.loop-turn-test.true _ _ _ c.loop-turn.invariant.so_far
+    c.in_err-put_turn.ensures.part))
 
 pub returns-clause-all : goal.returns-clause-all
 returns-clause-all g c =
