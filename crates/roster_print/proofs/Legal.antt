@@ -1,9 +1,9 @@
 -- what a team does in a legal plan is within the limits
-use Rattle.std.proofs.Common.{◌≡◌, ◌≤◌, ◌<◌, ◌+◌, ℕ, List, Option, Some, length, subst, arith}
+use Rattle.std.proofs.Common.{◌≤◌, ◌<◌, ◌+◌, ℕ, length, subst, arith}
 use Rattle.std.specs.Prelude.{All, slice_index_or}
 use Rattle.std.proofs.lemmas.List.Elements.{Contains-get_or}
 use Rattle.crew_terms.specs.Instance.{Instance, task_of, team_of, no_task, no_team}
-use Rattle.crew_terms.specs.Plan.{Plan, Job, job_of, Does}
+use Rattle.crew_terms.specs.Plan.{Plan, Does}
 use Rattle.crew_terms.specs.Rules.{IsInstance, IsTask, IsTeam}
 use Rattle.crew_terms.specs.Legal.{IsLegal, IsJob}
 use Rattle.crew_terms.specs.Nodes.{job_known}

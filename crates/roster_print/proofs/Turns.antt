@@ -1,5 +1,5 @@
 -- what a team does, in order
-use Rattle.std.proofs.Common.{◌≡◌, ◌≤◌, ◌<◌, ◌+◌, ◌==◌, ◌&&◌, ◌||◌, ◌⊎◌, inl, inr, ◌++◌, ◌∷◌, [], ℕ, zero, suc, List, Bool, true, false, Option, None, Some, length, map, get_or, ap, sym, refl, subst, ◌∙◌, arith, eqb-true, eq-eqb}
+use Rattle.std.proofs.Common.{◌≡◌, ◌≤◌, ◌<◌, ◌+◌, ◌==◌, ◌&&◌, ◌||◌, ◌⊎◌, inl, inr, ◌++◌, ◌∷◌, [], ℕ, List, Bool, true, false, Option, None, Some, length, map, get_or, ap, sym, refl, subst, ◌∙◌, arith, eqb-true, eq-eqb}
 use Rattle.std.specs.Prelude.{All, AllPairs, Contains}
 use Rattle.std.specs.List.{filter, flat_map, list_any, range_with_len}
 use Rattle.std.specs.Option.{option_map_or}
@@ -16,7 +16,7 @@ use Rattle.crew_terms.specs.declared.TheConstants.{LAST_MINUTE}
 use Rattle.crew_instance.specs.Turns.{AreTurns}
 use Rattle.crew_instance.specs.declared.turns.Turn.{Turn}
 use Rattle.roster_print.specs.Roster.{begins_at, tasks_before, tasks_in_turn}
-use Rattle.roster_print.proofs.Ordered.{contains_cases, contains_first, contains_later, mapped_from, mapped_to, filtered_from, filtered_to, flat_from, flat_to, numbers_are, numbers_have, numbers_rise, mapped_sorted, flat_sorted, same_lists}
+use Rattle.roster_print.proofs.Ordered.{contains_cases, contains_first, contains_later, mapped_from, mapped_to, filtered_from, filtered_to, flat_from, flat_to, numbers_have, numbers_rise, mapped_sorted, flat_sorted, same_lists}
 
 -- ---- who begins a task at a minute
 

@@ -1,8 +1,8 @@
-use Rattle.std.proofs.Common.{◌≡◌, ◌≤◌, ◌<◌, ◌+◌, ◌++◌, ◌∷◌, [], List, ℕ, length, take, map, get_or, ap, sym, ◌∙◌, append-nil, append_assoc, arith}
+use Rattle.std.proofs.Common.{◌≡◌, ◌++◌, ◌∷◌, take, map, ap, sym, ◌∙◌, append-nil, arith}
 use Rattle.std.specs.Prelude.{codes}
 use Rattle.std.proofs.lemmas.List.{take_all}
 use Rattle.line_out.specs.Parts.{part_word}
-use Rattle.roster_print.proofs.Words.{others, alone, joined, itself_more, other_more}
+use Rattle.roster_print.proofs.Words.{others, alone, joined}
 use Rattle.roster_print.proofs.push_partners.Goals as goal
 
 pub returns-then-teams-le1 : goal.returns-then-teams-le1

@@ -1,10 +1,9 @@
-use Rattle.std.proofs.Common.{◌++◌, [], List, ℕ, map, sym, subst, refl}
-use Rattle.std.specs.Prelude.{OnOk, OnErr}
+use Rattle.std.proofs.Common.{[], List, ℕ, map, sym, subst}
 use Rattle.std.proofs.lemmas.Result.{on_ok_weaker, on_err_weaker}
 use Rattle.crew_io.specs.Io.{Appended, AppendedPart}
 use Rattle.crew_terms.specs.Words.{line_text}
 use Rattle.crew_io.specs.Appends.{appended_none, appended_both}
-use Rattle.line_out.specs.Fronts.{IsFront, on_err, part_after}
+use Rattle.line_out.specs.Fronts.{on_err, part_after}
 use Rattle.roster_print.specs.Roster.{shift_line, team_lines, tasks_in_turn, turn_line}
 use Rattle.roster_print.proofs.Texts.{text, team_parts, team_whole}
 use Rattle.roster_print.proofs.put_team.Goals as goal

@@ -1,4 +1,4 @@
-use Rattle.std.proofs.Common.{◌≡◌, ◌≤◌, ◌<◌, ◌+◌, ◌++◌, ◌∷◌, [], ℕ, List, length, map, ap, sym, subst, ◌∙◌, arith}
+use Rattle.std.proofs.Common.{◌≡◌, ◌≤◌, ◌<◌, ◌+◌, ◌++◌, ℕ, List, length, map, ap, sym, subst, ◌∙◌}
 use Rattle.std.specs.Prelude.{All, OnOk, OnErr}
 use Rattle.crew_io.specs.Io.{Appended, AppendedPart}
 use Rattle.crew_terms.specs.Words.{Words, line_text}
