@@ -1,4 +1,6 @@
 // Small nodes, drawn from a seed, against every route that is written out.
+ghost use Rattle.std.specs.Prelude.{◌≤◌};
+
 use crate::asserts::same_at;
 use crate::priced::{price_of, priced};
 use crew_fixtures::{builder_of, numbered, task, team};
@@ -10,8 +12,10 @@ use std::alloc::Global;
 use std::test::Fail;
 
 /// One of the numbers below `n`, or 0.
-fn draw(words: &mut Lcg64Xsh32, n: u32) -> u32 {
-    words.next_word().checked_rem(n).unwrap_or(0)
+fn draw(words: &mut Lcg64Xsh32, n: u32) -> u32
+    ensures { result ≤ n }
+{
+    words.next_word().checked_rem(n).unwrap_or(0).min(n)
 }
 
 /// A team, and four tasks at three places with windows of up to six minutes.

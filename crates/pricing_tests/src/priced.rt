@@ -1,5 +1,6 @@
 // Prices of a node, and what is asked of pricing.
 ghost use Rattle.std.specs.Prelude.{◌<◌, IfOk};
+ghost use Rattle.crew_terms.specs.Leaf.{IsOnRequired, IsPrice};
 ghost use Rattle.crew_terms.specs.Limits.{teams_in};
 ghost use Rattle.potentials.specs.Prices.{ArePricesOf};
 
@@ -11,17 +12,27 @@ use std::alloc::{Alloc, AllocError, Global};
 use std::process::Abort;
 use std::test::Fail;
 
+// The nearest price of at most two tasks and a half either way.
+fn nearest(v: i64) -> i64
+    ensures { IsPrice result }
+{
+    v.max(-2_100_000_000).min(2_100_000_000)
+}
+
 /// A price in 1/D of a task, of at most two tasks and a half either way.
-pub fn price_of(list: &[i64], j: u32) -> i64 {
+pub fn price_of(list: &[i64], j: u32) -> i64
+    ensures { IsPrice result }
+{
     match list.get(j as usize) {
-        Some(price) => (*price).clamp(-2_100_000_000, 2_100_000_000),
-        None => 0,
+        Some(price) => nearest(*price),
+        None => nearest(0),
     }
 }
 
 /// The tasks' prices by their numbers, and 0 where the list ends.
 pub fn prices_of(alloc: Global, limits: &Limits<'_>, list: &[i64]) -> Result<Prices, AllocError>
-    ensures { IfOk result (ArePricesOf limits.now.limits) }
+    ensures prices { IfOk result (ArePricesOf limits.now.limits) }
+    ensures required { IfOk result (IsOnRequired limits.now.limits) }
 {
     let mut prices = Prices::zero(alloc, limits)?;
     for j in 0..limits.instance().tasks() as u32 {
