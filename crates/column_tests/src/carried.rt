@@ -8,6 +8,7 @@ use bumpalo::Bump;
 use column_arena::{ArenaColumns, Carry, Columns, VecColumns};
 use crew_fixtures::{gate_instance, task, team, two_at_once, visit};
 use crew_instance::{Instance, Task};
+use crew_terms::Visit;
 use node_limits::Limits;
 use std::alloc::Global;
 use std::process::Abort;
@@ -21,7 +22,7 @@ fn add<C: Columns>(instance: &Instance, columns: &mut C, task: u32) -> Result<()
     ensures { OnOk result (All (IsOfInstance instance.now) (C.columns columns.new)) }
 {
     let _ = instance.tasks();
-    columns.add(0, &[visit(task, 420)])?;
+    columns.add(0, &[Visit { task, start: 420 }])?;
     Ok(())
 }
 
