@@ -77,8 +77,10 @@ fn tells_a_missing_time_first(rt: HostRuntime) -> Result<(), Fail> {
 
 /// Asserts the frozen jobs of the first tasks.
 fn assert_frozen(rt: &impl Abort, built: &Instance, jobs: &[Job<'_>]) {
-    for (j, job) in jobs.iter().enumerate() {
-        same_at(rt, &frozen_at(built, j as u32), &Some(*job), &j);
+    let mut j = 0u32;
+    for job in jobs {
+        same_at(rt, &frozen_at(built, j), &Some(*job), &j);
+        j = j.saturating_add(1);
     }
 }
 

@@ -14,26 +14,24 @@ fn job_at(plan: &Plan, j: u32) -> Option<(Option<u32>, &[u32])> {
 
 #[test]
 fn holds_what_is_assigned(rt: HostRuntime) -> Result<(), Fail> {
-    let plan = plan_of(rt.alloc(), 6, &[(1, 440, &[0]), (2, 460, &[0, 3])])?;
+    let both: [u32; 2] = [0, 3];
+    let plan = plan_of(rt.alloc(), 6, &[(1, 440, &both[..1]), (2, 460, &both)])?;
     same(&rt, &plan.len(), &6);
     same(&rt, &unassigned(&plan), &4);
-    same(&rt, &job_at(&plan, 0), &Some((None, [].as_slice())));
-    same(
-        &rt,
-        &job_at(&plan, 2),
-        &Some((Some(460), [0, 3].as_slice())),
-    );
+    same(&rt, &job_at(&plan, 0), &Some((None, &both[..0])));
+    same(&rt, &job_at(&plan, 2), &Some((Some(460), both.as_slice())));
     Ok(())
 }
 
 #[test]
 fn takes_an_assignment_back(rt: HostRuntime) -> Result<(), Fail> {
-    let mut plan = plan_of(rt.alloc(), 6, &[(1, 440, &[0]), (2, 460, &[0, 3])])?;
+    let both: [u32; 2] = [0, 3];
+    let mut plan = plan_of(rt.alloc(), 6, &[(1, 440, &both[..1]), (2, 460, &both)])?;
     let before = plan.copy()?;
     plan.clear(1);
     same(&rt, &(unassigned(&plan), unassigned(&before)), &(5, 4));
-    same(&rt, &job_at(&plan, 1), &Some((None, [].as_slice())));
-    same(&rt, &job_at(&before, 1), &Some((Some(440), [0].as_slice())));
+    same(&rt, &job_at(&plan, 1), &Some((None, &both[..0])));
+    same(&rt, &job_at(&before, 1), &Some((Some(440), &both[..1])));
     same(&rt, &job_at(&plan, 2), &job_at(&before, 2));
     Ok(())
 }

@@ -1,6 +1,7 @@
 -- what adding and solving leave as it was
 use Rattle.std.proofs.Common.{◌≡◌, ◌<◌, ◌+◌, ◌++◌, ◌∷◌, [], ℕ, refl, ap, sym, subst, arith}
-use Rattle.std.specs.Prelude.{All, AllocError, MatchOption, MatchResult, None, Option, Result, Some, Ok, Err}
+use Rattle.std.specs.Prelude.{All, MatchOption, MatchResult, None, Option, Result, Some, Ok, Err}
+use Rattle.std.specs.declared.alloc.AllocError.{AllocError}
 use Rattle.std.proofs.lemmas.List.Elements.{All-push}
 use Rattle.crew_num.specs.declared.Overflow.{Overflow}
 use Rattle.crew_terms.specs.Limits.{Route}

@@ -3,6 +3,8 @@
 
 pub mod asked;
 #[cfg(test)]
+mod asserts;
+#[cfg(test)]
 mod masters;
 #[cfg(test)]
 mod rows;

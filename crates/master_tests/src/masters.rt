@@ -1,6 +1,7 @@
 // Masters that are worked out by hand.
 use crate::asked::{extra, master_of, price, solve};
-use crew_fixtures::{joint_task, same, two_at_once};
+use crate::asserts::same;
+use crew_fixtures::{joint_task, two_at_once};
 use frac_master::Solved;
 use node_limits::{Limits, Pair, Visit};
 use std::test::Fail;

@@ -1,5 +1,5 @@
 // The replacement of a row.
-use crew_fixtures::same;
+use crate::asserts::same;
 use crew_num::{Op, Overflow};
 use frac_master::laws::replace;
 

@@ -14,5 +14,6 @@ all_added i old new c id all is (Last f n e) = subst (All (IsOfInstance i)) (sym
 
 pub returns : goal.returns
 returns g c =
+    let at : Visit = record { task = c.args.task; start = 420 } in
     let P = λ (v : Visit). v.task < length c.args.instance.now.tasks in
-    all_added _ _ _ _ _ c.requires.of_instance (record { team = c.requires.team; tasks = All-cons P _ [] c.requires.task (All-nil P) }) c.in_ok-add.ensures.added
+    all_added _ _ _ _ _ c.requires.of_instance (record { team = c.requires.team; tasks = All-cons P at [] c.requires.task (All-nil P) }) c.in_ok-add.ensures.added

@@ -1,0 +1,5 @@
+// Tests of price ascent.
+#![tactic(auto)]
+
+#[cfg(test)]
+mod roots;

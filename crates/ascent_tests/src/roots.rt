@@ -1,0 +1,102 @@
+// Ascents at the roots of small instances: what the prices prove there.
+use crew_fixtures::{
+    gate_instance, hardly_overlapping, lacking_skill, numbered, task, team, two_at_once,
+};
+use crew_instance::Instance;
+use crew_terms::Task;
+use node_limits::Limits;
+use potentials::Prices;
+use price_ascent::{Effort, ascend, average_uses};
+use std::alloc::Global;
+use std::test::Fail;
+
+/// The effort of an ascent at a root.
+const ROOT: Effort = Effort {
+    rounds: 500,
+    step: 256,
+    looks: 100_000_000,
+};
+
+/// What an ascent from zero prices proves at the root of the instance, and after how many rounds.
+fn proved_at_root(
+    alloc: Global,
+    instance: &Instance,
+    goal: u32,
+    effort: Effort,
+) -> Result<(u32, u32), Fail> {
+    let limits = Limits::root(alloc, instance)?;
+    let start = Prices::zero(alloc, &limits)?;
+    let found = ascend(alloc, &limits, start, goal, effort)?;
+    Ok((found.proved, found.rounds))
+}
+
+#[test]
+fn two_tasks_at_once(rt: HostRuntime) -> Result<(), Fail> {
+    let instance = two_at_once(rt.alloc())?;
+    let (proved, _) = proved_at_root(rt.alloc(), &instance, 1, ROOT)?;
+    assert_eq!(rt; proved, 1);
+    Ok(())
+}
+
+#[test]
+fn a_task_that_no_team_can_do(rt: HostRuntime) -> Result<(), Fail> {
+    let instance = lacking_skill(rt.alloc())?;
+    let (proved, _) = proved_at_root(rt.alloc(), &instance, 1, ROOT)?;
+    assert_eq!(rt; proved, 1);
+    Ok(())
+}
+
+/// No prices prove more here: half of each team's routes serve the task whole.
+#[test]
+fn shares_of_two_routes(rt: HostRuntime) -> Result<(), Fail> {
+    let instance = hardly_overlapping(rt.alloc(), 450)?;
+    let (proved, _) = proved_at_root(rt.alloc(), &instance, 1, ROOT)?;
+    assert_eq!(rt; proved, 0);
+    Ok(())
+}
+
+/// Twelve tasks of half an hour, four each at 07:00, 08:00 and 09:00 alone, for three teams.
+fn crowded_hours(alloc: Global) -> Result<Instance, Fail> {
+    let teams = [team(b"T1")?, team(b"T2")?, team(b"T3")?];
+    let mut tasks: Vec<Task> = Vec::with_capacity(alloc, 12)?;
+    for n in 0..12 {
+        let at = 420 + n / 4 * 60;
+        tasks.push(Task {
+            name: numbered(n)?,
+            earliest: at,
+            latest: at,
+            ..task(b"A")?
+        })?;
+    }
+    Ok(gate_instance(alloc, &teams, &tasks)?)
+}
+
+#[test]
+fn more_tasks_than_teams(rt: HostRuntime) -> Result<(), Fail> {
+    let instance = crowded_hours(rt.alloc())?;
+    let (proved, _) = proved_at_root(rt.alloc(), &instance, 3, ROOT)?;
+    assert_eq!(rt; proved, 3);
+    Ok(())
+}
+
+/// The routes of the last round use the one team at one of the two tasks.
+#[test]
+fn uses_of_the_last_rounds(rt: HostRuntime) -> Result<(), Fail> {
+    let instance = two_at_once(rt.alloc())?;
+    let limits = Limits::root(rt.alloc(), &instance)?;
+    let start = Prices::zero(rt.alloc(), &limits)?;
+    let found = ascend(rt.alloc(), &limits, start, 2, Effort { rounds: 5, ..ROOT })?;
+    let uses = average_uses(rt.alloc(), &found.routes, found.rounds)?;
+    assert!(rt; uses.iter().all(|one| one.team == 0 && one.start == 420));
+    assert!(rt; !uses.is_empty());
+    Ok(())
+}
+
+/// Without a round the prices are those that it began with.
+#[test]
+fn no_rounds(rt: HostRuntime) -> Result<(), Fail> {
+    let instance = two_at_once(rt.alloc())?;
+    let (proved, rounds) = proved_at_root(rt.alloc(), &instance, 1, Effort { rounds: 0, ..ROOT })?;
+    assert_eq!(rt; (proved, rounds), (0, 0));
+    Ok(())
+}

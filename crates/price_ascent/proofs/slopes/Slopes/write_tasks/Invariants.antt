@@ -1,0 +1,9 @@
+use Rattle.crew_terms.specs.Leaf.{IsOnRequired}
+use Rattle.potentials.specs.Prices.{ArePricesOf}
+use Rattle.price_ascent.proofs.slopes.Slopes.write_tasks.Given as goal
+
+abbrev pub invariant-loop-j : goal.invariant-loop-j
+invariant-loop-j l = record {
+  prices : ArePricesOf l.limits.limits l.prices;
+  required : IsOnRequired l.limits.limits l.prices;
+}

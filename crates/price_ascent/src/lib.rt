@@ -1,0 +1,14 @@
+// Price ascent: prices of a node whose bound rises round by round, until they prove what is wanted or the work is done.
+#![tactic(auto)]
+
+mod ascent;
+mod averages;
+mod pace;
+mod pricing;
+mod ranges;
+mod slopes;
+mod trail;
+
+pub use ascent::{Ascended, Effort, ascend};
+pub use averages::average_uses;
+pub use trail::{FoundRoute, ROUNDS_KEPT};

@@ -1,0 +1,97 @@
+// Rows with known answers.
+use crate::asserts::same;
+use crate::priced::{priced, prices_of};
+use crew_fixtures::{far_gates, gate_instance, task, team, two_at_once, visit};
+use crew_instance::{Task, Team};
+use label_pricing::{Pricer, alike};
+use node_limits::Limits;
+use std::test::Fail;
+
+const TASK: i64 = 840_000_000;
+
+#[test]
+fn takes_one_of_two_at_once(rt: HostRuntime) -> Result<(), Fail> {
+    let day = two_at_once(rt.alloc())?;
+    let root = Limits::root(rt.alloc(), &day)?;
+    assert!(rt; day.teams() == 1);
+    let (worth, route) = priced(&rt, &root, 0, &[TASK, TASK])?;
+    same(&rt, &worth, &TASK);
+    same(&rt, &route.len(), &1);
+    same(&rt, &route.first().map(|v| v.start), &Some(420));
+    Ok(())
+}
+
+#[test]
+fn takes_all_three(rt: HostRuntime) -> Result<(), Fail> {
+    let day = far_gates(rt.alloc())?;
+    let root = Limits::root(rt.alloc(), &day)?;
+    assert!(rt; day.teams() == 1);
+    let (worth, route) = priced(&rt, &root, 0, &[TASK, TASK, TASK])?;
+    same(&rt, &worth, &(3 * TASK));
+    same(
+        &rt,
+        &route.as_slice(),
+        &[visit(0, 420), visit(1, 440), visit(2, 460)].as_slice(),
+    );
+    Ok(())
+}
+
+#[test]
+fn takes_one_where_the_middle_costs(rt: HostRuntime) -> Result<(), Fail> {
+    let day = far_gates(rt.alloc())?;
+    let root = Limits::root(rt.alloc(), &day)?;
+    assert!(rt; day.teams() == 1);
+    let (worth, route) = priced(&rt, &root, 0, &[TASK, -2 * TASK, TASK])?;
+    same(&rt, &worth, &TASK);
+    same(&rt, &route.len(), &1);
+    Ok(())
+}
+
+#[test]
+fn comes_back_to_a_task(rt: HostRuntime) -> Result<(), Fail> {
+    let first = Task {
+        latest: 500,
+        ..task(b"A")?
+    };
+    let second = Task {
+        latest: 500,
+        ..task(b"B")?
+    };
+    let day = gate_instance(rt.alloc(), &[team(b"T1")?], &[first, second])?;
+    let root = Limits::root(rt.alloc(), &day)?;
+    assert!(rt; day.teams() == 1);
+    let (worth, route) = priced(&rt, &root, 0, &[1, 1])?;
+    same(&rt, &worth, &3);
+    same(&rt, &route.len(), &3);
+    Ok(())
+}
+
+#[test]
+fn proves_one_of_two_at_once(rt: HostRuntime) -> Result<(), Fail> {
+    let day = two_at_once(rt.alloc())?;
+    let root = Limits::root(rt.alloc(), &day)?;
+    let prices = prices_of(rt.alloc(), &root, &[TASK, TASK])?;
+    let mut pricer = Pricer::reserve(rt.alloc(), &day)?;
+    let found = pricer.proved(&root, &prices);
+    same(&rt, &found.bound, &i128::from(TASK));
+    same(&rt, &found.count, &1);
+    Ok(())
+}
+
+#[test]
+fn likes_are_told(rt: HostRuntime) -> Result<(), Fail> {
+    let late = Team {
+        from: 420,
+        ..team(b"T3")?
+    };
+    let day = gate_instance(
+        rt.alloc(),
+        &[team(b"T1")?, team(b"T2")?, late],
+        &[task(b"A")?],
+    )?;
+    let root = Limits::root(rt.alloc(), &day)?;
+    assert!(rt; day.teams() == 3);
+    same(&rt, &alike(&root, 0, 1), &true);
+    same(&rt, &alike(&root, 0, 2), &false);
+    Ok(())
+}

@@ -1,0 +1,7 @@
+// Tests of rosters.
+#![tactic(auto)]
+
+#[cfg(test)]
+mod asserts;
+#[cfg(test)]
+mod rosters;
