@@ -3,9 +3,10 @@ ghost use Rattle.std.specs.Prelude.{◌≡◌, ◌<◌, [], All, OnOk, length};
 ghost use Rattle.route_terms.specs.Kept.{AreKeptRoutes};
 ghost use Rattle.route_terms.specs.Named.{IsOfInstance};
 
+use crate::asserts::same;
 use bumpalo::Bump;
 use column_arena::{ArenaColumns, Carry, Columns, VecColumns};
-use crew_fixtures::{gate_instance, task, team, two_at_once};
+use crew_fixtures::{gate_instance, task, team, two_at_once, visit};
 use crew_instance::{Instance, Task};
 use crew_terms::Visit;
 use node_limits::Limits;
@@ -60,14 +61,10 @@ fn assert_kept<C: Columns, D: Columns>(
     let after = gate_instance(alloc, &[team(b"T1")?], &[moved])?;
     add(&before, columns, 0)?;
     add(&before, columns, 1)?;
-    assert!(rt; carry_over(alloc, &before, columns, &after, next)? == 1);
+    same(rt, &carry_over(alloc, &before, columns, &after, next)?, &1);
     assert!(rt; next.len() == 1);
-    assert!(rt; next.team(0) == 0);
-    let kept = [Visit {
-        task: 0,
-        start: 420,
-    }];
-    assert!(rt; next.visits(0) == kept.as_slice());
+    same(rt, &next.team(0), &0);
+    same(rt, &next.visits(0), &[visit(0, 420)].as_slice());
     Ok(())
 }
 
