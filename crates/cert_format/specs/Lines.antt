@@ -12,7 +12,7 @@ use Rattle.dossier_terms.specs.Dossier.{IsWorthNumber, IsSigned}
 use Rattle.crew_terms.specs.Limits.{Route}
 use Rattle.crew_terms.specs.declared.TheConstants.{LAST_MINUTE}
 use Rattle.dossier_terms.specs.Rules.{IsShape, IsShapeFrom, Begins}
-use Rattle.dossier_terms.specs.Table.{IsSize, IsTravel, IsTeamLine, IsTaskLine, IsRouteLine, IsDoLine, IsCounts, AreNumbers, HasName, IsPairs, IsRow}
+use Rattle.dossier_terms.specs.Ranges.{IsSize, IsTravel, IsTeamLine, IsTaskLine, IsRouteLine, IsDoLine, IsCounts, AreNumbers, HasName, IsPairs, IsRow}
 use Rattle.dossier_terms.specs.Lines.{form_line, size_line, place_line, travel_line, team_words, task_words, pool_line, route_line, plan_line, do_line, tree_line, window_line, pair_line, bare_line, open_line, closed_line, price_line, extra_line, worth_line, phi_line, end_line}
 use Rattle.cert_format.specs.Fields.{visit_numbers}
 use Rattle.cert_format.specs.declared.kinds.Expect.{Expect}

@@ -2,7 +2,7 @@
 ghost use Rattle.std.specs.Prelude.{◌≡◌, ◌≢◌, ◌<◌, [], length, slice_index_or, MatchBool};
 ghost use Rattle.std.specs.Fmt.{decimal};
 ghost use Rattle.dossier_terms.specs.Rules.{IsShape, IsShapeFrom, Begins};
-ghost use Rattle.dossier_terms.specs.Table.{IsPairs};
+ghost use Rattle.dossier_terms.specs.Ranges.{IsPairs};
 ghost use Rattle.cert_format.specs.Fields.{IsRowOf};
 
 use field_table::{LineWords, Words};

@@ -6,7 +6,9 @@ use Rattle.crew_terms.specs.Words.{Words}
 use Rattle.dossier_terms.specs.Lines.{lines_of, head_lines, pool_lines, plan_lines, tree_lines, node_lines, end_line, counts_of}
 use Rattle.dossier_terms.specs.Reading.{Reading, Form, Pools, Plans, Trees, Nodes, Ends, Begun}
 use Rattle.dossier_terms.specs.Rules.{Holds, Spelled, On}
-use Rattle.dossier_terms.specs.Table.{Reaches, IsCounts, Ended, Finish, begin}
+use Rattle.dossier_terms.specs.Table.{Reaches, Ended, Finish}
+use Rattle.dossier_terms.specs.Ranges.{IsCounts}
+use Rattle.dossier_terms.specs.BodyTable.{begin}
 use Rattle.dossier_terms.specs.Counted.{leaves_of, depth_le}
 use Rattle.dossier_laws.proofs.HeadWrites.{head_reached}
 use Rattle.dossier_laws.proofs.Pool.{pool_reached}

@@ -16,7 +16,8 @@ use Rattle.dossier_terms.specs.Dossier.{skills_of}
 use Rattle.dossier_terms.specs.Lines.{place_line, travel_line, team_line, task_line, head_lines, size_of}
 use Rattle.dossier_terms.specs.Reading.{More, nothing, Form, Sizes, Pools, places_due, travels_due, teams_due, tasks_due}
 use Rattle.dossier_terms.specs.Rules.{Holds, Spelled, On}
-use Rattle.dossier_terms.specs.Table.{Says, Reaches, IsTaskLine}
+use Rattle.dossier_terms.specs.Table.{Says, Reaches}
+use Rattle.dossier_terms.specs.Ranges.{IsTaskLine}
 use Rattle.dossier_laws.proofs.SoFar.{IsHead}
 use Rattle.dossier_laws.proofs.Skills.{mask_again, skills_rise, skills_in}
 use Rattle.dossier_laws.proofs.Lists.{All-at, AllPairs-at}

@@ -12,7 +12,7 @@ use Rattle.crew_terms.specs.Minutes.{priced, open_tasks, required_teams, minute_
 use Rattle.crew_terms.specs.Words.{Words}
 use Rattle.dossier_terms.specs.Lines.{open_line, closed_line, price_line, extra_line, worth_line, phi_line, rows_lines, table_lines, node_lines}
 use Rattle.dossier_terms.specs.Reading.{Reading, Answer, limits_of, Prices, Extras, Worths, Phis, LeafSite}
-use Rattle.dossier_terms.specs.Table.{after_table, after_phi, after_extra, price_row, extra_row, worth_row, phi_row}
+use Rattle.dossier_terms.specs.LeafTable.{after_table, after_phi, after_extra, price_row, extra_row, worth_row, phi_row}
 use Rattle.dossier_laws.proofs.SoFar.{IsLeafSite, NodeHolds, RowsSoFar, AreLeafPrices, TablesHold, IsLeafPart, leaf_so_far, IsReading, spelled, Follows, nodes_so_far, leaf_line, site_so_far, prices_so_far, tables_so_far}
 use Rattle.dossier_laws.proofs.Rules.{must_then, each_then, spells_then, goes_then}
 use Rattle.dossier_laws.proofs.NodeReads.{done_reads}

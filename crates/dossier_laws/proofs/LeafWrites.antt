@@ -11,7 +11,8 @@ use Rattle.crew_terms.specs.Minutes.{priced, open_tasks, required_teams, minute_
 use Rattle.dossier_terms.specs.Lines.{extra_line, phi_line, rows_lines, table_lines, leaf_lines}
 use Rattle.dossier_terms.specs.Reading.{Reading, More, limits_of, leaf_done, Prices, Extras, Worths, Phis, LeafSite}
 use Rattle.dossier_terms.specs.Rules.{Holds, HoldsOfAll, Spelled, On}
-use Rattle.dossier_terms.specs.Table.{Reaches, after_table, after_phi, after_extra}
+use Rattle.dossier_terms.specs.Table.{Reaches}
+use Rattle.dossier_terms.specs.LeafTable.{after_table, after_phi, after_extra}
 use Rattle.dossier_laws.proofs.SoFar.{TablesHold, leaf_so_far}
 use Rattle.dossier_laws.proofs.Rules.{reaches-append}
 

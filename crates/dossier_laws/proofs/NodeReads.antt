@@ -11,7 +11,9 @@ use Rattle.crew_terms.specs.declared.TreeCounts.{TreeCounts}
 use Rattle.dossier_terms.specs.Dossier.{Written, IsGood}
 use Rattle.dossier_terms.specs.Lines.{choice_line, tree_line, end_line, node_lines}
 use Rattle.dossier_terms.specs.Reading.{Reading, Answer, node_done, whole, Trees, Nodes, Ends, Begun, Above}
-use Rattle.dossier_terms.specs.Table.{tree_row, node_row, leaf_row, after_split, end_row}
+use Rattle.dossier_terms.specs.BodyTable.{tree_row}
+use Rattle.dossier_terms.specs.NodeTable.{node_row, leaf_row, after_split}
+use Rattle.dossier_terms.specs.Table.{end_row}
 use Rattle.dossier_laws.proofs.SoFar.{IsPlanned, IsTreePart, NodeHolds, FramesHold, IsReading, spelled, Follows, begun_lines, nodes_so_far, frames_lines}
 use Rattle.dossier_laws.proofs.Rules.{must_then, when_then, spells_then, goes_then, finish_then}
 

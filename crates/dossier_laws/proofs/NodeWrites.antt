@@ -17,7 +17,8 @@ use Rattle.dossier_terms.specs.Dossier.{Written, Leaf}
 use Rattle.dossier_terms.specs.Lines.{choice_line, node_lines}
 use Rattle.dossier_terms.specs.Reading.{Answer, More, node_done, Nodes, Prices, Begun, Above}
 use Rattle.dossier_terms.specs.Rules.{Holds, Then, Else, Spelled, On}
-use Rattle.dossier_terms.specs.Table.{Reaches, HasSplitRoom, node_row, leaf_row}
+use Rattle.dossier_terms.specs.Table.{Reaches}
+use Rattle.dossier_terms.specs.NodeTable.{HasSplitRoom, node_row, leaf_row}
 use Rattle.dossier_laws.proofs.SoFar.{NodeHolds}
 use Rattle.dossier_laws.proofs.Rules.{reaches-append}
 use Rattle.dossier_laws.proofs.Days.{IsDay, last_minute, root_day, child_day}

@@ -13,7 +13,9 @@ use Rattle.crew_terms.specs.Words.{Words}
 use Rattle.dossier_terms.specs.Lines.{plan_line, do_line, jobs_from, plan_lines}
 use Rattle.dossier_terms.specs.Reading.{Reading, Answer, More, Plans, Jobs, Trees, jobs_due, Begun}
 use Rattle.dossier_terms.specs.Rules.{Holds, HoldsBy, Spelled, On}
-use Rattle.dossier_terms.specs.Table.{Reaches, IsDoLine, plan_row, job_row, after_job}
+use Rattle.dossier_terms.specs.Table.{Reaches}
+use Rattle.dossier_terms.specs.Ranges.{IsDoLine}
+use Rattle.dossier_terms.specs.BodyTable.{plan_row, job_row, after_job}
 use Rattle.dossier_laws.proofs.SoFar.{IsPoolPart, AreRoutes, IsPlanPart, AreJobs, IsReading, spelled, Follows, routes_lines, jobs_lines}
 use Rattle.dossier_laws.proofs.Empty.{job_none, empty_legal}
 use Rattle.dossier_laws.proofs.Lists.{map_more}

@@ -13,7 +13,9 @@ use Rattle.crew_terms.specs.Words.{Words}
 use Rattle.dossier_terms.specs.Lines.{pool_line, route_line, visit_words, head_lines, pool_lines}
 use Rattle.dossier_terms.specs.Reading.{Reading, Answer, More, Pools, Routes, Plans, routes_due, Begun}
 use Rattle.dossier_terms.specs.Rules.{Holds, Spelled, On}
-use Rattle.dossier_terms.specs.Table.{Says, Reaches, IsPairs, pool_row, route_row, begin}
+use Rattle.dossier_terms.specs.Table.{Says, Reaches}
+use Rattle.dossier_terms.specs.Ranges.{IsPairs}
+use Rattle.dossier_terms.specs.BodyTable.{pool_row, route_row, begin}
 use Rattle.dossier_terms.specs.Counted.{route_pairs}
 use Rattle.dossier_laws.proofs.SoFar.{IsHead, IsPoolPart, AreRoutes, IsReading, spelled, Follows, routes_lines}
 use Rattle.crew_terms.specs.declared.TheConstants.{LAST_MINUTE}

@@ -11,7 +11,9 @@ use Rattle.dossier_terms.specs.Dossier.{Dossier, Leaf, Potentials}
 use Rattle.crew_terms.specs.Words.{Words}
 use Rattle.dossier_terms.specs.Reading.{Reading, Answer, No, Form, Sizes, Places, Travels, Teams, Tasks, Pools, Routes, Plans, Jobs, Trees, Nodes, Prices, Extras, Worths, Phis, Ends, Begun, LeafSite}
 use Rattle.dossier_terms.specs.Rules.{Must, Holds, Fails, MustEach, HoldsOfAll, FailsAt, MustBy, HoldsBy, FailsBy, When, Then, Else, MustSpell, Spelled, Unspelled, Goes, On}
-use Rattle.dossier_terms.specs.Table.{Says, Finishes, Finish, BreaksPlan, after_job, after_table, after_phi, after_extra}
+use Rattle.dossier_terms.specs.Table.{Says, Finishes, Finish}
+use Rattle.dossier_terms.specs.BodyTable.{BreaksPlan, after_job}
+use Rattle.dossier_terms.specs.LeafTable.{after_table, after_phi, after_extra}
 use Rattle.dossier_laws.proofs.SoFar.{IsReading}
 use Rattle.dossier_laws.proofs.Spellings.{size_one, name_one, travel_one, team_one, task_one, pool_one, plan_one, window_one, node_pair_one, tree_one, route_one, do_one, prices_one, signed_one, worth_one}
 

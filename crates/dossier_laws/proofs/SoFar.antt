@@ -21,7 +21,7 @@ use Rattle.dossier_terms.specs.declared.Size.{Size}
 use Rattle.dossier_terms.specs.Dossier.{Written, Leaf, Potentials, IsPooled, IsGood, tree_of, AreWritten, AreRows, IsWorthNumber, IsSigned, IsTable, prices_of, phi_in}
 use Rattle.dossier_terms.specs.Lines.{form_line, size_line, place_line, travel_line, team_line, task_line, pool_line, route_line, plan_line, do_line, tree_line, choice_line, open_line, closed_line, price_line, extra_line, worth_line, phi_line, rows_lines, table_lines, node_lines, head_lines, plan_lines, jobs_from, lines_of}
 use Rattle.dossier_terms.specs.Reading.{Reading, Answer, More, Whole, No, limits_of, Form, Sizes, Places, Travels, Teams, Tasks, Pools, Routes, Plans, Jobs, Trees, Nodes, Prices, Extras, Worths, Phis, Ends, Begun, Above, LeafSite}
-use Rattle.dossier_terms.specs.Table.{IsSize, IsTravel}
+use Rattle.dossier_terms.specs.Ranges.{IsSize, IsTravel}
 
 abbrev pub head_so_far : Size → Instance → List Words
 head_so_far z i = form_line ∷ size_line z ∷ (map place_line i.places ++ map travel_line i.travel ++ map team_line i.teams ++ map task_line i.tasks)

@@ -19,7 +19,7 @@ use Rattle.crew_terms.specs.Limits.{Route}
 use Rattle.crew_terms.specs.Leaf.{IsPrice}
 use Rattle.dossier_terms.specs.Lines.{size_line, place_line, travel_line, team_words, task_words, pool_line, route_line, visit_words, plan_line, do_line, tree_line, window_line, pair_line, worth_line}
 use Rattle.crew_terms.specs.declared.TreeCounts.{TreeCounts}
-use Rattle.dossier_terms.specs.Table.{IsSize, IsTravel, IsTeamLine, IsTaskLine, IsRouteLine, IsDoLine, IsCounts, AreNumbers}
+use Rattle.dossier_terms.specs.Ranges.{IsSize, IsTravel, IsTeamLine, IsTaskLine, IsRouteLine, IsDoLine, IsCounts, AreNumbers}
 use Rattle.dossier_terms.specs.Counted.{IsWide, price_wide, worth_wide, signed_wide}
 use Rattle.std.proofs.lemmas.List.Elements.{recursion_from_All}
 
