@@ -1,13 +1,15 @@
--- laws of the numbers of trees, of the words of routes, and of numbers in their ranges
-use Rattle.std.proofs.Common.{◌≡◌, ◌≤◌, ◌+◌, ◌-◌, ◌*◌, ℕ, ℤ, List, [], ◌∷◌, length, refl, arith, length-append}
+-- laws of the numbers and the nodes of trees, of the words of routes, and of numbers in their ranges
+use Rattle.std.proofs.Common.{◌≡◌, ◌≤◌, ◌+◌, ◌-◌, ◌*◌, ℕ, ℤ, List, [], ◌∷◌, length, refl, ◌∙◌, arith, length-append}
 use Rattle.std.specs.Prelude.{pos, negsuc, ◌≤ℤ◌}
 use Rattle.std.specs.List.{flat_map}
 use Rattle.std.proofs.lemmas.Int.{ints}
-use Rattle.crew_terms.specs.Branches.{LeafNode, SplitNode, Bare, Open, Closed, splits, closed, left_open, depth}
+use Rattle.crew_terms.specs.Branches.{LeafNode, SplitNode, Bare, Open, Closed, splits, closed, left_open, depth, split_of, side_of}
 use Rattle.crew_terms.specs.Leaf.{IsPrice}
-use Rattle.crew_terms.specs.Limits.{Route}
+use Rattle.crew_terms.specs.Limits.{Limits, Route}
+use Rattle.crew_terms.specs.Nodes.{child_instance}
 use Rattle.crew_terms.specs.declared.Visit.{Visit}
 use Rattle.dossier_terms.specs.Dossier.{Written, Cause, NoCause, unshown_in, unshown, IsWorthNumber, IsSigned}
+use Rattle.dossier_terms.specs.Reading.{Above, limits_below}
 use Rattle.dossier_terms.specs.Runs.{Run}
 use Rattle.dossier_terms.specs.Lines.{visit_words, route_line, run_words, steps_line}
 use Rattle.dossier_terms.specs.Ranges.{IsPairs}
@@ -36,6 +38,11 @@ unshown_is_splits (SplitNode split first second) =
     let b = unshown_is_splits second in
     let c = cause_is_unshown split.cause in
     omega arith
+
+-- each node is over the instance of the root
+pub instance_below : (root : Limits) (above : List Above) → (limits_below root above).instance ≡ root.instance
+instance_below root [] = refl
+instance_below root (frame ∷ above) = child_instance (limits_below root above) (split_of frame).choice (side_of frame) ∙ instance_below root above
 
 -- visits have two words each
 pub visits_length : (vs : List Visit) → length (flat_map visit_words vs) ≡ 2 * length vs
