@@ -48,7 +48,7 @@ price_in n is = record { fits = price_fits n is; low = is.least; high = is.most 
 in_price : (n : ℤ) → IsIn price_field n → IsPrice n
 in_price n is = record { least = is.low; most = is.high }
 
-signed_in : (n : ℤ) → IsSigned n → IsIn potential_field n
+pub signed_in : (n : ℤ) → IsSigned n → IsIn potential_field n
 signed_in n is = record { fits = is; low = grind (arith, ints, is); high = grind (arith, ints, is) }
 
 in_signed : (n : ℤ) → IsIn potential_field n → IsSigned n
