@@ -7,4 +7,5 @@ use Rattle.cert_checker.specs.declared.checker.Verdict.{Verdict}
 -- the yes line with these numbers
 abbrev pub verdict_line : Verdict → List ℕ
 verdict_line v = line_text (codes "yes" ∷ codes "unassigned" ∷ decimal v.unassigned ∷ codes "bound" ∷ decimal v.bound
-    ∷ codes "splits" ∷ decimal v.splits ∷ codes "closed" ∷ decimal v.closed ∷ codes "open" ∷ decimal v.left_open ∷ [])
+    ∷ codes "splits" ∷ decimal v.splits ∷ codes "closed" ∷ decimal v.closed ∷ codes "open" ∷ decimal v.left_open
+    ∷ codes "unshown" ∷ decimal v.unshown ∷ [])

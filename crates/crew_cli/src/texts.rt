@@ -33,6 +33,8 @@ pub fn put_yes<K: Sink>(out: &mut K, verdict: Verdict) -> Result<(), WriteFault>
         Part::Number(verdict.closed as u64),
         Part::Word(b"open"),
         Part::Number(verdict.left_open as u64),
+        Part::Word(b"unshown"),
+        Part::Number(verdict.unshown as u64),
     ];
     put_line(out, &parts)
 }
@@ -128,6 +130,7 @@ pub fn put_no<K: Sink>(out: &mut K, line: u64, reason: Reason) -> Result<(), Wri
         Reason::Count => put_word(out, b"no", line, b"Count"),
         Reason::Cut => put_word(out, b"no", line, b"Cut"),
         Reason::Pair => put_word(out, b"no", line, b"Pair"),
+        Reason::Steps => put_word(out, b"no", line, b"Steps"),
         Reason::Potential(k, j) => {
             put_line(
                 out,

@@ -16,10 +16,11 @@ use Rattle.crew_terms.specs.Rules.{IsShift, IsWindow}
 use Rattle.crew_terms.specs.declared.Team.{Team}
 use Rattle.crew_terms.specs.declared.Task.{Task}
 use Rattle.crew_instance.specs.Draft.{Draft as Parts, time_of, with_row, minutes_of, minutes_from}
+use Rattle.dossier_terms.specs.declared.DossierForm.{DossierForm}
 use Rattle.dossier_terms.specs.declared.Size.{Size}
 use Rattle.dossier_terms.specs.Dossier.{mask_of}
 use Rattle.dossier_terms.specs.Lines.{size_line, place_line, travel_line, team_words, task_words}
-use Rattle.dossier_terms.specs.Reading.{Answer, More as Goes, nothing, places_due, teams_due, tasks_due}
+use Rattle.dossier_terms.specs.Reading.{Answer, Opening, More as Goes, nothing, places_due, teams_due, tasks_due}
 use Rattle.dossier_terms.specs.Rules.{Holds, Fails, Spelled, On, IsShape}
 use Rattle.dossier_terms.specs.Ranges.{IsSize, IsTravel, IsTeamLine, IsTaskLine}
 use Rattle.dossier_terms.specs.HeadTable.{size_row, place_row, travel_row, team_row, task_row, after_place, after_travel, after_team, after_task}
@@ -81,20 +82,20 @@ travel_parts d r row below n =
 
 -- ---- one row after another, for the fields that the line spells
 
-pub size_more : (ws : Words) (z : Size) (said : Answer) → IsSize z → ws ≡ size_line z → said ≡ Goes (places_due z z.places nothing) → size_row ws said
-size_more ws z said fits is e = Holds (_, is, refl) (Spelled z fits is (On e))
+pub size_more : (form : DossierForm) (ws : Words) (z : Size) (said : Answer) → IsSize z → ws ≡ size_line z → said ≡ Goes (places_due (record { form = form; size = z }) z.places nothing) → size_row form ws said
+size_more form ws z said fits is e = Holds (_, is, refl) (Spelled z fits is (On e))
 
 place_shape : (ws : Words) (name : List ℕ) → ws ≡ place_line name → IsShape (codes "place") 1 ws
 place_shape ws name is = (name ∷ [], is, refl)
 
-pub team_says : (z : Size) (k : ℕ) (i : Instance) (ws : Words) (p : Team × List ℕ) (said : Answer) → IsTeamLine z.places p → ws ≡ team_words p
-    → after_team z k i (record p.0 { skills = mask_of p.1 }) (IsStrictlyIncreasing p.1) said → team_row z k i ws said
-team_says z k i ws p said fits is rest = Holds (_, is, omega arith)
+pub team_says : (o : Opening) (k : ℕ) (i : Instance) (ws : Words) (p : Team × List ℕ) (said : Answer) → IsTeamLine o.size.places p → ws ≡ team_words p
+    → after_team o k i (record p.0 { skills = mask_of p.1 }) (IsStrictlyIncreasing p.1) said → team_row o k i ws said
+team_says o k i ws p said fits is rest = Holds (_, is, omega arith)
     (Holds (subst (λ w. IsName (slice_index_or w 1 [])) (sym is) fits.name) (Spelled p fits is rest))
 
-pub task_says : (z : Size) (k : ℕ) (i : Instance) (ws : Words) (p : Task × List ℕ) (said : Answer) → IsTaskLine z.places p → ws ≡ task_words p
-    → after_task z k i (record p.0 { skills = mask_of p.1 }) (IsStrictlyIncreasing p.1) said → task_row z k i ws said
-task_says z k i ws p said fits is rest = Holds (_, is, omega arith)
+pub task_says : (o : Opening) (k : ℕ) (i : Instance) (ws : Words) (p : Task × List ℕ) (said : Answer) → IsTaskLine o.size.places p → ws ≡ task_words p
+    → after_task o k i (record p.0 { skills = mask_of p.1 }) (IsStrictlyIncreasing p.1) said → task_row o k i ws said
+task_says o k i ws p said fits is rest = Holds (_, is, omega arith)
     (Holds (subst (λ w. IsName (slice_index_or w 1 [])) (sym is) fits.name) (Spelled p fits is rest))
 
 -- nothing of a list has what none has
@@ -109,30 +110,30 @@ same_window : (t : Task) (skills : ℕ) → IsWindow t → IsWindow (record t { 
 same_window t skills w = record { order = w.order; width = w.width; day = w.day; some_minutes = w.some_minutes; minutes = w.minutes }
 
 -- the rules of a team, told by its value and whether its skills rise
-pub team_rules : (z : Size) (k : ℕ) (i : Instance) (t : Team) (ss : List ℕ) (Rises : Type 0) (said : Answer)
+pub team_rules : (o : Opening) (k : ℕ) (i : Instance) (t : Team) (ss : List ℕ) (Rises : Type 0) (said : Answer)
     → (Rises → IsStrictlyIncreasing ss × (t.skills ≡ mask_of ss)) → ((Rises → ⊥) → IsStrictlyIncreasing ss → ⊥)
-    → after_team z k i t Rises said → after_team z k i (record t { skills = mask_of ss }) (IsStrictlyIncreasing ss) said
-team_rules z k i t ss Rises said rise fall (Fails broken told) = Fails broken told
-team_rules z k i t ss Rises said rise fall (Holds new (Fails broken told)) =
+    → after_team o k i t Rises said → after_team o k i (record t { skills = mask_of ss }) (IsStrictlyIncreasing ss) said
+team_rules o k i t ss Rises said rise fall (Fails broken told) = Fails broken told
+team_rules o k i t ss Rises said rise fall (Holds new (Fails broken told)) =
     Holds new (Fails (λ h. fall (λ r. broken (same_shift (record t { skills = mask_of ss }) t.skills h.0, r)) h.1) told)
-team_rules z k i t ss Rises said rise fall (Holds new (Holds fact (On e))) =
+team_rules o k i t ss Rises said rise fall (Holds new (Holds fact (On e))) =
     let y = rise fact.1 in
-    Holds new (Holds (same_shift t (mask_of ss) fact.0, y.0) (On (e ∙ ap (λ s. Goes (teams_due z k (record i { teams = i.teams ++ record t { skills = s } ∷ [] }))) y.1)))
+    Holds new (Holds (same_shift t (mask_of ss) fact.0, y.0) (On (e ∙ ap (λ s. Goes (teams_due o k (record i { teams = i.teams ++ record t { skills = s } ∷ [] }))) y.1)))
 
-pub task_rules : (z : Size) (k : ℕ) (i : Instance) (t : Task) (ss : List ℕ) (Rises : Type 0) (said : Answer)
+pub task_rules : (o : Opening) (k : ℕ) (i : Instance) (t : Task) (ss : List ℕ) (Rises : Type 0) (said : Answer)
     → (Rises → IsStrictlyIncreasing ss × (t.skills ≡ mask_of ss)) → ((Rises → ⊥) → IsStrictlyIncreasing ss → ⊥)
-    → after_task z k i t Rises said → after_task z k i (record t { skills = mask_of ss }) (IsStrictlyIncreasing ss) said
-task_rules z k i t ss Rises said rise fall (Fails broken told) = Fails broken told
-task_rules z k i t ss Rises said rise fall (Holds new (Fails broken told)) =
+    → after_task o k i t Rises said → after_task o k i (record t { skills = mask_of ss }) (IsStrictlyIncreasing ss) said
+task_rules o k i t ss Rises said rise fall (Fails broken told) = Fails broken told
+task_rules o k i t ss Rises said rise fall (Holds new (Fails broken told)) =
     Holds new (Fails (λ h. fall (λ r. broken (same_window (record t { skills = mask_of ss }) t.skills h.0, r)) h.1) told)
-task_rules z k i t ss Rises said rise fall (Holds new (Holds fact (On e))) =
+task_rules o k i t ss Rises said rise fall (Holds new (Holds fact (On e))) =
     let y = rise fact.1 in
-    Holds new (Holds (same_window t (mask_of ss) fact.0, y.0) (On (e ∙ ap (λ s. Goes (tasks_due z k (record i { tasks = i.tasks ++ record t { skills = s } ∷ []; frozen = i.frozen ++ None ∷ [] }))) y.1)))
+    Holds new (Holds (same_window t (mask_of ss) fact.0, y.0) (On (e ∙ ap (λ s. Goes (tasks_due o k (record i { tasks = i.tasks ++ record t { skills = s } ∷ []; frozen = i.frozen ++ None ∷ [] }))) y.1)))
 
-pub place_says : (z : Size) (k : ℕ) (i : Instance) (ws : Words) (name : List ℕ) (said : Answer) → IsName name → ws ≡ place_line name
-    → after_place z k i name said → place_row z k i ws said
-place_says z k i ws name said fits is rest = Holds (place_shape ws name is) (Spelled name fits is rest)
+pub place_says : (o : Opening) (k : ℕ) (i : Instance) (ws : Words) (name : List ℕ) (said : Answer) → IsName name → ws ≡ place_line name
+    → after_place o k i name said → place_row o k i ws said
+place_says o k i ws name said fits is rest = Holds (place_shape ws name is) (Spelled name fits is rest)
 
-pub travel_says : (z : Size) (k : ℕ) (i : Instance) (ws : Words) (row : List ℕ) (said : Answer) → IsTravel z.places row → ws ≡ travel_line row
-    → after_travel z k i row said → travel_row z k i ws said
-travel_says z k i ws row said fits is rest = Holds (map decimal row, is, length-map row decimal ∙ fits.count) (Spelled row fits is rest)
+pub travel_says : (o : Opening) (k : ℕ) (i : Instance) (ws : Words) (row : List ℕ) (said : Answer) → IsTravel o.size.places row → ws ≡ travel_line row
+    → after_travel o k i row said → travel_row o k i ws said
+travel_says o k i ws row said fits is rest = Holds (map decimal row, is, length-map row decimal ∙ fits.count) (Spelled row fits is rest)

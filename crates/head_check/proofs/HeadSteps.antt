@@ -9,9 +9,10 @@ use Rattle.crew_instance.specs.Draft.{Draft as Parts, time_of, with_row, with_ta
 use Rattle.crew_instance.specs.Rules.{HasTeam, HasTask, TakesTeam, TakesTask}
 use Rattle.crew_terms.specs.Rules.{IsShift, IsWindow}
 use Rattle.crew_terms.specs.declared.TheConstants.{MOST_TEAMS, MOST_TASKS, LAST_MINUTE, WIDEST_WINDOW}
+use Rattle.dossier_terms.specs.declared.DossierForm.{DossierForm}
 use Rattle.dossier_terms.specs.declared.Size.{Size}
 use Rattle.dossier_terms.specs.Dossier.{mask_of}
-use Rattle.dossier_terms.specs.Reading.{More as Goes, teams_due, tasks_due}
+use Rattle.dossier_terms.specs.Reading.{Opening, More as Goes, teams_due, tasks_due}
 use Rattle.dossier_terms.specs.Rules.{Holds, On}
 use Rattle.head_check.specs.Numbers.{naturals, AreBelow}
 use Rattle.head_check.specs.Head.{IsHead, IsDue, HeadTells, instance_so_far}
@@ -27,7 +28,7 @@ pub if_ok : {X E : Type 0} (r : Result X E) (P Q : X → Type 0) → IfOk r P �
 if_ok (Ok x) P Q h f = f x h
 if_ok (Err e) P Q h f = tt
 
-at_most : (a b : ℕ) → ((a ≤ b → ⊥) → ⊥) → a ≤ b
+pub at_most : (a b : ℕ) → ((a ≤ b → ⊥) → ⊥) → a ≤ b
 at_most a b h = elim (cases_lt b a) [
   | inl l ↦ absurd (h (λ le. absurd (omega arith)))
   | inr l ↦ l
@@ -50,31 +51,31 @@ window_held t h = record {
 }
 
 -- a team that is taken
-pub team_more : (z : Size) (k : ℕ) (d new : Parts) (p : ℕ) (t : Team) (Rises : Type 0) (due : HeadDue) → Rises
+pub team_more : (o : Opening) (k : ℕ) (d new : Parts) (p : ℕ) (t : Team) (Rises : Type 0) (due : HeadDue) → Rises
     → length d.teams < MOST_TEAMS → length d.places ≡ p → t.home < p
     → ((length d.teams < MOST_TEAMS) × HasTeam d t.name → ⊥)
     → (TakesTeam d t.name × (t.home < length d.places) × (IsShift t → ⊥) → ⊥)
-    → new ≡ record d { teams = d.teams ++ t ∷ [] } → IsDue (teams_due z k (instance_so_far new p)) due → HeadTells (after_team z k (instance_so_far d p) t Rises) (More due)
-team_more z k d new p t Rises due rises room places home same shift is next =
+    → new ≡ record d { teams = d.teams ++ t ∷ [] } → IsDue (teams_due o k (instance_so_far new p)) due → HeadTells (after_team o k (instance_so_far d p) t Rises) (More due)
+team_more o k d new p t Rises due rises room places home same shift is next =
     let held = shift_held t (λ broken. shift (record { room = room; new = λ has. same (room, has) }, omega arith, broken)) in
-    plainly (Holds (none_of (λ (o : Team). o.name ≡ t.name) d.teams (λ has. same (room, has)))
-    (Holds (held, rises) (On (ap Goes (next.is ∙ ap (λ x. teams_due z k (instance_so_far x p)) is))))) next.holds
+    plainly (Holds (none_of (λ (x : Team). x.name ≡ t.name) d.teams (λ has. same (room, has)))
+    (Holds (held, rises) (On (ap Goes (next.is ∙ ap (λ x. teams_due o k (instance_so_far x p)) is))))) next.holds
 
 -- a task that is taken
-pub task_more : (z : Size) (k : ℕ) (d new : Parts) (p : ℕ) (t : Task) (Rises : Type 0) (due : HeadDue) → Rises
+pub task_more : (o : Opening) (k : ℕ) (d new : Parts) (p : ℕ) (t : Task) (Rises : Type 0) (due : HeadDue) → Rises
     → length d.tasks < MOST_TASKS → length d.places ≡ p → t.place < p
     → ((length d.tasks < MOST_TASKS) × HasTask d t.name → ⊥)
     → (TakesTask d t.name × (t.place < length d.places) × (IsWindow t → ⊥) → ⊥)
-    → new ≡ with_task d t → IsDue (tasks_due z k (instance_so_far new p)) due → HeadTells (after_task z k (instance_so_far d p) t Rises) (More due)
-task_more z k d new p t Rises due rises room places place same window is next =
+    → new ≡ with_task d t → IsDue (tasks_due o k (instance_so_far new p)) due → HeadTells (after_task o k (instance_so_far d p) t Rises) (More due)
+task_more o k d new p t Rises due rises room places place same window is next =
     let held = window_held t (λ broken. window (record { room = room; new = λ has. same (room, has) }, omega arith, broken)) in
-    plainly (Holds (none_of (λ (o : Task). o.name ≡ t.name) d.tasks (λ has. same (room, has)))
-    (Holds (held, rises) (On (ap Goes (next.is ∙ ap (λ x. tasks_due z k (instance_so_far x p)) is))))) next.holds
+    plainly (Holds (none_of (λ (x : Task). x.name ≡ t.name) d.tasks (λ has. same (room, has)))
+    (Holds (held, rises) (On (ap Goes (next.is ∙ ap (λ x. tasks_due o k (instance_so_far x p)) is))))) next.holds
 
 -- a row of travel times more is given
-pub head_more : (z : Size) (d : Parts) (r p : ℕ) (row : List ℕ) → IsHead (record { size = z; builder = d }) p r 0 0
-    → r < length d.times → length row ≡ p → IsHead (record { size = z; builder = with_row d r row }) p (r + 1) 0 0
-head_more z d r p row h below n = record { size = h.size; places = h.places; given = λ a b l m. at a b l m (cases_eq a r); teams = h.teams; tasks = h.tasks; frozen = h.frozen }
+pub head_more : (form : DossierForm) (z : Size) (d : Parts) (r p : ℕ) (row : List ℕ) → IsHead (record { form = form; size = z; builder = d }) p r 0 0
+    → r < length d.times → length row ≡ p → IsHead (record { form = form; size = z; builder = with_row d r row }) p (r + 1) 0 0
+head_more form z d r p row h below n = record { size = h.size; places = h.places; given = λ a b l m. at a b l m (cases_eq a r); teams = h.teams; tasks = h.tasks; frozen = h.frozen }
   where
     at : (a b : ℕ) → a < r + 1 → b < length d.places → (a ≡ r) ⊎ (a ≢ r) → time_of (with_row d r row) a b ≢ None
     at a b l m (inl e) none =

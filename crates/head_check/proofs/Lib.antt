@@ -3,3 +3,4 @@ pub mod Listed
 pub mod HeadRows
 pub mod HeadSteps
 pub mod GivenRow
+pub mod FrozenSteps

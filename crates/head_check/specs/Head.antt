@@ -5,14 +5,18 @@ use Rattle.crew_terms.specs.Words.{Words}
 use Rattle.crew_terms.specs.Instance.{Instance}
 use Rattle.crew_terms.specs.Rules.{HasNoFrozen}
 use Rattle.crew_instance.specs.Draft.{Draft as Parts, time_of, minutes_from}
-use Rattle.dossier_terms.specs.Reading.{Reading, Answer, More as Goes, No as Refuses, Form as FormDue, Sizes, Places, Travels, Teams, Tasks, Pools}
+use Rattle.dossier_terms.specs.Reading.{Reading, Answer, Opening, More as Goes, No as Refuses, Form as FormDue, Sizes, Places, Travels, Teams, Tasks, Frozens, Keeps, Pools}
 use Rattle.dossier_terms.specs.Ranges.{IsSize}
 use Rattle.dossier_terms.specs.Table.{Says}
 use Rattle.head_check.specs.declared.due.Head.{Head}
 use Rattle.head_check.specs.declared.due.HeadDue.{HeadDue}
-use Rattle.head_check.specs.declared.due.HeadDue.TheVariants.{Form, Size, Place, Travel, Team, Task, Whole}
+use Rattle.head_check.specs.declared.due.HeadDue.TheVariants.{Form, Size, Place, Travel, Team, Task, Frozen, Keep, Whole}
 use Rattle.head_check.specs.declared.due.HeadStep.{HeadStep}
 use Rattle.head_check.specs.declared.due.HeadStep.TheVariants.{More, No}
+
+-- what the first two lines said
+abbrev pub opening_of : Head → Opening
+opening_of head = record { form = head.form; size = head.size }
 
 -- the parts of an instance that a builder holds, of whose travel times the first rows are read
 abbrev pub instance_so_far : Parts → ℕ → Instance
@@ -24,6 +28,10 @@ instance_so_far d rows = record {
   frozen = d.frozen;
 }
 
+-- the instance of which all places, travel times, teams and tasks are read
+abbrev pub read_of : Head → Instance
+read_of head = instance_so_far head.builder head.size.places
+
 -- how many rows of travel times are read where so many more come after the next
 abbrev pub rows_read : Head → ℕ → ℕ
 rows_read head more = head.size.places - suc more
@@ -31,12 +39,14 @@ rows_read head more = head.size.places - suc more
 -- the state of the table of lines
 abbrev pub reading_of : HeadDue → Reading
 reading_of Form = FormDue
-reading_of Size = Sizes
-reading_of (Place head more) = Places head.value.size more (instance_so_far head.value.builder 0)
-reading_of (Travel head more) = Travels head.value.size more (instance_so_far head.value.builder (rows_read head.value more))
-reading_of (Team head more) = Teams head.value.size more (instance_so_far head.value.builder head.value.size.places)
-reading_of (Task head more) = Tasks head.value.size more (instance_so_far head.value.builder head.value.size.places)
-reading_of (Whole base) = Pools base.value.instance base.value.nodes
+reading_of (Size form) = Sizes form
+reading_of (Place head more) = Places (opening_of head.value) more (instance_so_far head.value.builder 0)
+reading_of (Travel head more) = Travels (opening_of head.value) more (instance_so_far head.value.builder (rows_read head.value more))
+reading_of (Team head more) = Teams (opening_of head.value) more (read_of head.value)
+reading_of (Task head more) = Tasks (opening_of head.value) more (read_of head.value)
+reading_of (Frozen head) = Frozens (opening_of head.value) (read_of head.value)
+reading_of (Keep head more from) = Keeps (opening_of head.value) more from (read_of head.value)
+reading_of (Whole base) = Pools base.value.form base.value.instance base.value.nodes
 
 -- a line of the head is due
 abbrev pub IsLineDue : HeadDue → Type 0
@@ -56,15 +66,25 @@ pub record IsHead (head : Head) (p r m n : ℕ) : Type 0 where
   pub tasks : length head.builder.tasks ≡ n
   pub frozen : HasNoFrozen (instance_so_far head.builder r)
 
+-- what holds of a head of which all places, travel times, teams and tasks are read
+pub record IsFull (head : Head) : Type 0 where
+  pub size : IsSize head.size
+  pub places : length head.builder.places ≡ head.size.places
+  pub given : AreGiven head.builder head.size.places
+  pub teams : length head.builder.teams ≡ head.size.teams
+  pub tasks : length head.builder.tasks ≡ head.size.tasks
+
 -- what holds of what is held
 abbrev pub Holds : HeadDue → Type 0
 Holds Form = Unit {0}
-Holds Size = Unit {0}
+Holds (Size form) = Unit {0}
 Holds (Place head more) = (p : ℕ) × (p + suc more ≡ head.value.size.places) × IsHead head.value p 0 0 0
 Holds (Travel head more) = (p : ℕ) × (p + suc more ≡ head.value.size.places) × IsHead head.value head.value.size.places p 0 0
 Holds (Team head more) = (p : ℕ) × (p + suc more ≡ head.value.size.teams) × IsHead head.value head.value.size.places head.value.size.places p 0
 Holds (Task head more) = (p : ℕ) × (p + suc more ≡ head.value.size.tasks) × IsHead head.value head.value.size.places head.value.size.places head.value.size.teams p
-Holds (Whole base) = HasNoFrozen base.value.instance
+Holds (Frozen head) = IsHead head.value head.value.size.places head.value.size.places head.value.size.teams head.value.size.tasks
+Holds (Keep head more from) = IsFull head.value
+Holds (Whole base) = Unit {0}
 
 -- this is due, and what is held stands for it
 pub record IsDue (reading : Reading) (due : HeadDue) : Type 0 where

@@ -1,4 +1,4 @@
-// The lines of an instance: `size`, `place`, `travel`, `team` and `task`.
+// The lines of an instance: `size`, `place`, `travel`, `team` and `task`, behind the first line of the dossier.
 ghost use Rattle.std.specs.Prelude.{◌≡◌, ◌<◌, ◌≤◌, ◌+◌, ◌-◌, ℕ, List, pos, map, length, IfOk, OnOk, IsTrue};
 ghost use Rattle.crew_terms.specs.Rules.{IsTeamCount};
 ghost use Rattle.crew_terms.specs.declared.TheConstants.{LAST_MINUTE};
@@ -7,13 +7,13 @@ ghost use Rattle.dossier_terms.specs.HeadTable.{after_place, after_travel, after
 ghost use Rattle.crew_instance.specs.Draft.{with_row};
 ghost use Rattle.head_check.specs.Numbers.{AreBelow, naturals};
 ghost use Rattle.dossier_terms.specs.Reading.{places_due, travels_due, teams_due, tasks_due};
-ghost use Rattle.head_check.specs.Head.{Holds, IsHead, IsHeadStep, IsDue, HeadTells, instance_so_far, rows_read};
+ghost use Rattle.head_check.specs.Head.{Holds, IsHead, IsHeadStep, IsDue, HeadTells, instance_so_far, opening_of, rows_read};
 
 use crate::due::{Base, Head, HeadDue, HeadStep};
 use crate::numbers::{number_list, skill_set};
 use cert_format::{Expect, LineKind, LineNumbers, fault_is_refused, read_line};
 use crew_instance::{BuildFault, Builder, Name, Task, Team};
-use dossier_terms::Reason;
+use dossier_terms::{DossierForm, Reason};
 use field_table::LineWords;
 use std::alloc::{AllocError, Global};
 
@@ -28,7 +28,7 @@ fn out_of_memory(fault: BuildFault) -> AllocError
 /// What is due where so many tasks are to come.
 fn due_tasks(alloc: Global, head: Box<Head>, more: u32) -> Result<HeadDue, AllocError>
     requires { (p : ℕ) × (p + more ≡ head.value.size.tasks) × IsHead head.value head.value.size.places head.value.size.places head.value.size.teams p }
-    ensures { IfOk result (λ due. IsDue (tasks_due head.value.size more (instance_so_far head.value.builder head.value.size.places)) due) }
+    ensures { IfOk result (λ due. IsDue (tasks_due (opening_of head.value) more (instance_so_far head.value.builder head.value.size.places)) due) }
 {
     if more > 0 {
         return Ok(HeadDue::Task {
@@ -36,10 +36,18 @@ fn due_tasks(alloc: Global, head: Box<Head>, more: u32) -> Result<HeadDue, Alloc
             more: more - 1,
         });
     }
-    let Head { size, builder } = Box::into_inner(head);
+    if let DossierForm::Two = head.form {
+        return Ok(HeadDue::Frozen { head });
+    }
+    let Head {
+        form,
+        size,
+        builder,
+    } = Box::into_inner(head);
     match builder.into_instance() {
         Ok(instance) => {
             let base = Base {
+                form,
                 instance,
                 nodes: size.nodes,
             };
@@ -54,7 +62,7 @@ fn due_tasks(alloc: Global, head: Box<Head>, more: u32) -> Result<HeadDue, Alloc
 /// What is due where so many teams are to come.
 fn due_teams(alloc: Global, head: Box<Head>, more: u32) -> Result<HeadDue, AllocError>
     requires { (p : ℕ) × (p + more ≡ head.value.size.teams) × IsHead head.value head.value.size.places head.value.size.places p 0 }
-    ensures { IfOk result (λ due. IsDue (teams_due head.value.size more (instance_so_far head.value.builder head.value.size.places)) due) }
+    ensures { IfOk result (λ due. IsDue (teams_due (opening_of head.value) more (instance_so_far head.value.builder head.value.size.places)) due) }
 {
     if more > 0 {
         return Ok(HeadDue::Team {
@@ -69,7 +77,7 @@ fn due_teams(alloc: Global, head: Box<Head>, more: u32) -> Result<HeadDue, Alloc
 /// What is due where so many rows of travel times are to come.
 fn due_travels(alloc: Global, head: Box<Head>, more: u32) -> Result<HeadDue, AllocError>
     requires { (p : ℕ) × (p + more ≡ head.value.size.places) × IsHead head.value head.value.size.places p 0 0 }
-    ensures { IfOk result (λ due. IsDue (travels_due head.value.size more (instance_so_far head.value.builder (head.value.size.places - more))) due) }
+    ensures { IfOk result (λ due. IsDue (travels_due (opening_of head.value) more (instance_so_far head.value.builder (head.value.size.places - more))) due) }
 {
     if more > 0 {
         return Ok(HeadDue::Travel {
@@ -84,7 +92,7 @@ fn due_travels(alloc: Global, head: Box<Head>, more: u32) -> Result<HeadDue, All
 /// What is due where so many places are to come.
 fn due_places(alloc: Global, head: Box<Head>, more: u32) -> Result<HeadDue, AllocError>
     requires { (p : ℕ) × (p + more ≡ head.value.size.places) × IsHead head.value p 0 0 0 }
-    ensures { IfOk result (λ due. IsDue (places_due head.value.size more (instance_so_far head.value.builder 0)) due) }
+    ensures { IfOk result (λ due. IsDue (places_due (opening_of head.value) more (instance_so_far head.value.builder 0)) due) }
 {
     if more > 0 {
         return Ok(HeadDue::Place {
@@ -96,20 +104,28 @@ fn due_places(alloc: Global, head: Box<Head>, more: u32) -> Result<HeadDue, Allo
     due_travels(alloc, head, places)
 }
 
-/// The line `crew dossier 1`.
+/// The first line.
 pub fn form_line(words: LineWords<'_>) -> HeadStep
     ensures { IsHeadStep HeadDue.Form words.entry result }
 {
     fault_is_refused();
-    match read_line(Expect::Form, words) {
-        Ok(_) => HeadStep::More(HeadDue::Size),
-        Err(fault) => HeadStep::No(fault.reason()),
-    }
+    let kind = match read_line(Expect::Form, words) {
+        Ok(kind) => kind,
+        Err(fault) => return HeadStep::No(fault.reason()),
+    };
+    let LineKind::Form { form } = kind else {
+        unreachable!()
+    };
+    HeadStep::More(HeadDue::Size { form })
 }
 
 /// The line `size`.
-pub fn size_line(alloc: Global, words: LineWords<'_>) -> Result<HeadStep, AllocError>
-    ensures { IfOk result (IsHeadStep HeadDue.Size words.entry) }
+pub fn size_line(
+    alloc: Global,
+    form: DossierForm,
+    words: LineWords<'_>,
+) -> Result<HeadStep, AllocError>
+    ensures { IfOk result (IsHeadStep (HeadDue.Size form) words.entry) }
 {
     fault_is_refused();
     let kind = match read_line(Expect::Size, words) {
@@ -120,6 +136,7 @@ pub fn size_line(alloc: Global, words: LineWords<'_>) -> Result<HeadStep, AllocE
         unreachable!()
     };
     let head = Head {
+        form,
         size,
         builder: Builder::new(alloc),
     };
@@ -135,7 +152,7 @@ fn add_place(
     name: Name,
 ) -> Result<HeadStep, AllocError>
     requires { Holds (HeadDue.Place head more) }
-    ensures { IfOk result (HeadTells (after_place head.value.size more (instance_so_far head.value.builder 0) name)) }
+    ensures { IfOk result (HeadTells (after_place (opening_of head.value) more (instance_so_far head.value.builder 0) name)) }
 {
     let held = &mut *head;
     match held.builder.place(name) {
@@ -195,7 +212,7 @@ fn add_travel(
 ) -> Result<HeadStep, AllocError>
     requires held { Holds (HeadDue.Travel head more) }
     requires times { (row : List ℕ) × (times.now ≡ map pos row) × IsTravel head.value.size.places row }
-    ensures { IfOk result (λ step. (row : List ℕ) → times.now ≡ map pos row → HeadTells (after_travel head.value.size more (instance_so_far head.value.builder (rows_read head.value more)) row) step) }
+    ensures { IfOk result (λ step. (row : List ℕ) → times.now ≡ map pos row → HeadTells (after_travel (opening_of head.value) more (instance_so_far head.value.builder (rows_read head.value more)) row) step) }
 {
     let held = &mut *head;
     let from = held.builder.places() as u32 - 1 - more;
@@ -235,7 +252,7 @@ fn add_team(
 ) -> Result<HeadStep, AllocError>
     requires held { Holds (HeadDue.Team head more) }
     requires home { team.home < head.value.size.places }
-    ensures { IfOk result (HeadTells (after_team head.value.size more (instance_so_far head.value.builder head.value.size.places) team (IsTrue rises))) }
+    ensures { IfOk result (HeadTells (after_team (opening_of head.value) more (instance_so_far head.value.builder head.value.size.places) team (IsTrue rises))) }
 {
     let held = &mut *head;
     match held.builder.team(team) {
@@ -295,7 +312,7 @@ fn add_task(
     requires held { Holds (HeadDue.Task head more) }
     requires place { task.place < head.value.size.places }
     requires teams { IsTeamCount task.teams }
-    ensures { IfOk result (HeadTells (after_task head.value.size more (instance_so_far head.value.builder head.value.size.places) task (IsTrue rises))) }
+    ensures { IfOk result (HeadTells (after_task (opening_of head.value) more (instance_so_far head.value.builder head.value.size.places) task (IsTrue rises))) }
 {
     let held = &mut *head;
     match held.builder.task(task) {

@@ -1,16 +1,18 @@
-// The head of a dossier: its first line, its size, its places, travel times, teams and tasks, each judged by the row
-// of the table of lines that is due.
+// The head of a dossier: its first line, its size, its places, travel times, teams, tasks and frozen jobs, each judged
+// by the row of the table of lines that is due.
 #![tactic(auto)]
 
 ghost use Rattle.std.specs.Prelude.{IfOk};
 ghost use Rattle.head_check.specs.Head.{Holds, IsLineDue, IsHeadStep};
 
 mod due;
+mod frozen;
 mod head;
 pub mod numbers;
 
 pub use due::{Base, Head, HeadDue, HeadStep};
 use field_table::LineWords;
+use frozen::{frozen_line, keep_line};
 use head::{form_line, place_line, size_line, task_line, team_line, travel_line};
 use std::alloc::{AllocError, Global};
 
@@ -23,11 +25,13 @@ pub fn judge_head(alloc: Global, due: HeadDue, words: LineWords<'_>) -> Result<H
 {
     match due {
         HeadDue::Form => Ok(form_line(words)),
-        HeadDue::Size => size_line(alloc, words),
+        HeadDue::Size { form } => size_line(alloc, form, words),
         HeadDue::Place { head, more } => place_line(alloc, head, more, words),
         HeadDue::Travel { head, more } => travel_line(alloc, head, more, words),
         HeadDue::Team { head, more } => team_line(alloc, head, more, words),
         HeadDue::Task { head, more } => task_line(alloc, head, more, words),
+        HeadDue::Frozen { head } => frozen_line(alloc, head, words),
+        HeadDue::Keep { head, more, from } => keep_line(alloc, head, more, from, words),
         HeadDue::Whole { .. } => unreachable!(),
     }
 }

@@ -11,7 +11,7 @@ use Rattle.dossier_terms.specs.Dossier.{Leaf, Potentials, phi_in, prices_of, wor
 use Rattle.dossier_terms.specs.Reading.{Reading, Answer, More as Goes, No as Refuses, Extras, Worths, Phis, limits_of, leaf_done, LeafSite}
 use Rattle.dossier_terms.specs.Rules.{Holds, Fails, HoldsOfAll, FailsAt, On}
 use Rattle.dossier_terms.specs.Table.{Says}
-use Rattle.dossier_terms.specs.LeafTable.{after_extra, after_phi, after_table, extra_row, phi_row, price_row, worth_row}
+use Rattle.dossier_terms.specs.LeafTable.{after_extra, after_phi, after_table, extra_row, price_row, table_row, worth_row}
 use Rattle.potentials.specs.Table.{phi}
 use Rattle.potentials.specs.Rules.{IsLocalVerdict}
 use Rattle.potentials.specs.declared.rules.LocalVerdict.TheVariants as verdicts
@@ -33,24 +33,24 @@ tells_rest a Rest Rules step new f (TellsNo reason says is) = TellsNo reason (f 
 -- ---- a line is due
 
 pub extra_due : (a : LeafSite) (n : Limits) (r : LeafReader) (prices : List ℤ) (rows : List (List ℤ)) (j : ℕ) (js all : List ℕ) → limits_of a ≡ n → r.due ≡ due.Extra j
-    → HasReadLeaf n r (priced_leaf prices rows) → all ≡ j ∷ js → IsRowDue (has_required n) (tasks_in n) rows j js → LeafTells a (after_extra a prices rows all) More r
+    → HasReadLeaf n r (priced_leaf prices rows) → all ≡ j ∷ js → IsRowDue (has_required n) (tasks_in n) rows j js → LeafTells a (after_extra a (priced_leaf prices rows) all) More r
 extra_due a n r prices rows j js all e line read keys row =
-    subst (λ ks. LeafTells a (after_extra a prices rows ks) More r) (sym keys)
-    (TellsMore (Extras a prices rows j js) (On refl)
+    subst (λ ks. LeafTells a (after_extra a (priced_leaf prices rows) ks) More r) (sym keys)
+    (TellsMore (Extras a (priced_leaf prices rows) j js) (On refl)
     (AtExtras prices rows j js line (subst (λ m. HasReadLeaf m r (priced_leaf prices rows)) (sym e) read) (subst (λ m. IsRowDue (has_required m) (tasks_in m) rows j js) (sym e) row) refl) refl)
 
 pub worth_due : (a : LeafSite) (n : Limits) (r : LeafReader) (leaf : Leaf) (team left : ℕ) → limits_of a ≡ n → r.due ≡ due.Worth team → length leaf.tables ≡ team
     → HasReadLeaf n r leaf → team + suc left ≡ teams_in n → LeafTells a (after_table a leaf (suc left)) More r
 worth_due a n r leaf team left e line count read teams =
-    TellsMore (Worths a leaf.prices leaf.extras leaf.tables left) (On refl)
+    TellsMore (Worths a leaf left) (On refl)
     (AtWorths leaf left (line ∙ ap due.Worth (sym count)) (subst (λ m. HasReadLeaf m r leaf) (sym e) read) (ap (λ k. k + suc left) count ∙ teams ∙ ap teams_in (sym e)) refl) refl
 
 pub phi_due : (a : LeafSite) (n : Limits) (r : LeafReader) (leaf : Leaf) (team left : ℕ) (table : Potentials) (j : ℕ) (js all : List ℕ) → limits_of a ≡ n → r.due ≡ due.Phi team j → length leaf.tables ≡ team
     → HasReadLeaf n r leaf → team + suc left ≡ teams_in n → HasPotentials n r team table j → all ≡ j ∷ js → IsRowDue (has_minutes n team) (tasks_in n) table.phi j js
-    → LeafTells a (after_phi a leaf.prices leaf.extras leaf.tables left table.worth table.phi all) More r
+    → LeafTells a (after_phi a leaf left table all) More r
 phi_due a n r leaf team left table j js all e line count read teams potentials keys row =
-    subst (λ ks. LeafTells a (after_phi a leaf.prices leaf.extras leaf.tables left table.worth table.phi ks) More r) (sym keys)
-    (TellsMore (Phis a leaf.prices leaf.extras leaf.tables left table.worth table.phi j js) (On refl)
+    subst (λ ks. LeafTells a (after_phi a leaf left table ks) More r) (sym keys)
+    (TellsMore (Phis a leaf left table j js) (On refl)
     (AtPhis leaf left table j js
     (line ∙ ap (λ k. due.Phi k j) (sym count))
     (subst (λ m. HasReadLeaf m r leaf) (sym e) read)
@@ -131,7 +131,7 @@ module _ (a : LeafSite) (n : Limits) (r : LeafReader) (leaf : Leaf) (team left :
   from_table j t v = sym (to_table j t v)
 
   abbrev pub Rules : Limits → ℕ → Answer → Type 0
-  Rules m k = after_phi a leaf.prices leaf.extras leaf.tables left table.worth table.phi []
+  Rules m k = after_phi a leaf left table []
 
   potential_to : (j : ℕ) → HoldsPotential n r.prices team (phi r.table) j → HoldsPotential n (prices_of n leaf) team (phi_in n team table) j
   potential_to j h = subst (λ p. HoldsPotential n p team (phi_in n team table) j) read.prices (same_potential n r.prices team (phi r.table) (phi_in n team table) to_table j h)
@@ -193,19 +193,19 @@ at_price a r new s ws step e (AtWorths leaf left line read teams is) told = othe
 at_price a r new s ws step e (AtPhis leaf left table j js line read teams potentials row is) told = other_line r due.Price (due.Phi (length leaf.tables) j) e line (λ f. cc)
 
 pub at_extra : (a : LeafSite) (n : Limits) (r new : LeafReader) (s : Reading) (ws : Words) (step : LeafStep) (task : ℕ) → limits_of a ≡ n → r.due ≡ due.Extra task → StandsFor a r s
-    → ((prices : List ℤ) (rows : List (List ℤ)) (js : List ℕ) → HasReadLeaf n r (priced_leaf prices rows) → IsRowDue (has_required n) (tasks_in n) rows task js → LeafTells a (extra_row a prices rows task js ws) step new)
+    → ((prices : List ℤ) (rows : List (List ℤ)) (js : List ℕ) → HasReadLeaf n r (priced_leaf prices rows) → IsRowDue (has_required n) (tasks_in n) rows task js → LeafTells a (extra_row a (priced_leaf prices rows) task js ws) step new)
     → LeafTells a (Says s ws) step new
 at_extra a n r new s ws step task l e (AtPrices line is) told = other_line r (due.Extra task) due.Price e line (λ f. cc)
 at_extra a n r new s ws step task l e (AtExtras prices rows j js line read row is) told =
     let same : j ≡ task = (let f = line in let g = e in cc) in
-    subst (λ s. LeafTells a (Says s ws) step new) (sym (is ∙ ap (λ i. Extras a prices rows i js) same))
+    subst (λ s. LeafTells a (Says s ws) step new) (sym (is ∙ ap (λ i. Extras a (priced_leaf prices rows) i js) same))
     (told prices rows js (subst (λ m. HasReadLeaf m r (priced_leaf prices rows)) l read)
     (subst (λ i. IsRowDue (has_required n) (tasks_in n) rows i js) same (subst (λ m. IsRowDue (has_required m) (tasks_in m) rows j js) l row)))
 at_extra a n r new s ws step task l e (AtWorths leaf left line read teams is) told = other_line r (due.Extra task) (due.Worth (length leaf.tables)) e line (λ f. cc)
 at_extra a n r new s ws step task l e (AtPhis leaf left table j js line read teams potentials row is) told = other_line r (due.Extra task) (due.Phi (length leaf.tables) j) e line (λ f. cc)
 
 pub at_worth : (a : LeafSite) (n : Limits) (r new : LeafReader) (s : Reading) (ws : Words) (step : LeafStep) (team : ℕ) → limits_of a ≡ n → r.due ≡ due.Worth team → StandsFor a r s
-    → ((leaf : Leaf) (left : ℕ) → HasReadLeaf n r leaf → length leaf.tables ≡ team → team + suc left ≡ teams_in n → LeafTells a (worth_row a leaf.prices leaf.extras leaf.tables left ws) step new)
+    → ((leaf : Leaf) (left : ℕ) → HasReadLeaf n r leaf → length leaf.tables ≡ team → team + suc left ≡ teams_in n → LeafTells a (worth_row a leaf left ws) step new)
     → LeafTells a (Says s ws) step new
 at_worth a n r new s ws step team l e (AtPrices line is) told = other_line r (due.Worth team) due.Price e line (λ f. cc)
 at_worth a n r new s ws step team l e (AtExtras prices rows j js line read row is) told = other_line r (due.Worth team) (due.Extra j) e line (λ f. cc)
@@ -217,7 +217,7 @@ at_worth a n r new s ws step team l e (AtPhis leaf left table j js line read tea
 
 pub at_phi : (a : LeafSite) (n : Limits) (r new : LeafReader) (s : Reading) (ws : Words) (step : LeafStep) (team task : ℕ) → limits_of a ≡ n → r.due ≡ due.Phi team task → StandsFor a r s
     → ((leaf : Leaf) (left : ℕ) (table : Potentials) (js : List ℕ) → HasReadLeaf n r leaf → length leaf.tables ≡ team → team + suc left ≡ teams_in n → HasPotentials n r team table task
-    → IsRowDue (has_minutes n team) (tasks_in n) table.phi task js → LeafTells a (phi_row a leaf.prices leaf.extras leaf.tables left table.worth table.phi task js ws) step new)
+    → IsRowDue (has_minutes n team) (tasks_in n) table.phi task js → LeafTells a (table_row a leaf left table task js ws) step new)
     → LeafTells a (Says s ws) step new
 at_phi a n r new s ws step team task l e (AtPrices line is) told = other_line r (due.Phi team task) due.Price e line (λ f. cc)
 at_phi a n r new s ws step team task l e (AtExtras prices rows j js line read row is) told = other_line r (due.Phi team task) (due.Extra j) e line (λ f. cc)
@@ -228,7 +228,7 @@ at_phi a n r new s ws step team task l e (AtPhis leaf left table j js line read 
     let here : j ≡ task = (let f = line in let g = e in cc) in
     let p : HasPotentials n r k table j = subst (λ m. HasPotentials m r k table j) l potentials in
     let q : IsRowDue (has_minutes n k) (tasks_in n) table.phi j js = subst (λ m. IsRowDue (has_minutes m k) (tasks_in m) table.phi j js) l row in
-    subst (λ s. LeafTells a (Says s ws) step new) (sym (is ∙ ap (λ i. Phis a leaf.prices leaf.extras leaf.tables left table.worth table.phi i js) here))
+    subst (λ s. LeafTells a (Says s ws) step new) (sym (is ∙ ap (λ i. Phis a leaf left table i js) here))
     (told leaf left table js (subst (λ m. HasReadLeaf m r leaf) l read) same (ap (λ k. k + suc left) (sym same) ∙ teams ∙ ap teams_in l)
     (subst (HasPotentials n r team table) here (subst (λ k. HasPotentials n r k table j) same p))
     (subst (λ i. IsRowDue (has_minutes n team) (tasks_in n) table.phi i js) here (subst (λ k. IsRowDue (has_minutes n k) (tasks_in n) table.phi j js) same q)))

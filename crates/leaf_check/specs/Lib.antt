@@ -1,4 +1,5 @@
 pub mod Keys
 pub mod Prices
 pub mod Rows
+pub mod Runs
 pub mod Reader

@@ -1,5 +1,5 @@
 -- what a reader of a leaf keeps, and what it says of a line
-use Rattle.std.specs.Prelude.{◌≡◌, ◌<◌, ◌+◌, ℕ, suc, ℤ, pos, List, [], length, take, slice_index_or, Option, None, Some}
+use Rattle.std.specs.Prelude.{◌≡◌, ◌<◌, ◌+◌, ℕ, suc, ℤ, pos, List, [], ◌∷◌, ◌++◌, length, take, slice_index_or, Option, None, Some}
 use Rattle.crew_terms.specs.Words.{Words}
 use Rattle.crew_terms.specs.Plan.{unassigned_count}
 use Rattle.crew_terms.specs.Limits.{Limits, IsPermittedVisit, has_required, tasks_in, teams_in}
@@ -9,6 +9,8 @@ use Rattle.dossier_terms.specs.declared.Reason.{Reason}
 use Rattle.dossier_terms.specs.Dossier.{Leaf, Potentials, phi_in, prices_of, worths_of}
 use Rattle.crew_terms.specs.Minutes.{minute_count}
 use Rattle.dossier_terms.specs.Reading.{Reading, Answer, More as Goes, No as Refuses, Prices, Extras, Worths, Phis, limits_of, leaf_done, LeafSite}
+use Rattle.dossier_terms.specs.declared.DossierForm.{DossierForm}
+use Rattle.dossier_terms.specs.LeafTable.{after_phi, potentials_row}
 use Rattle.dossier_terms.specs.Table.{Says}
 use Rattle.leaf_check.specs.Keys.{IsRowDue, has_minutes}
 use Rattle.leaf_check.specs.Prices.{ArePricesIn}
@@ -64,25 +66,31 @@ pub data StandsFor (a : LeafSite) (r : LeafReader) (s : Reading) : Type 0 where
       (line : r.due ≡ due.Extra j)
       (read : HasReadLeaf (limits_of a) r (priced_leaf prices rows))
       (row : IsRowDue (has_required (limits_of a)) (tasks_in (limits_of a)) rows j js)
-      (is : s ≡ Extras a prices rows j js) → StandsFor a r s
+      (is : s ≡ Extras a (priced_leaf prices rows) j js) → StandsFor a r s
   AtWorths : (leaf : Leaf) (left : ℕ)
       (line : r.due ≡ due.Worth (length leaf.tables))
       (read : HasReadLeaf (limits_of a) r leaf)
       (teams : length leaf.tables + suc left ≡ teams_in (limits_of a))
-      (is : s ≡ Worths a leaf.prices leaf.extras leaf.tables left) → StandsFor a r s
+      (is : s ≡ Worths a leaf left) → StandsFor a r s
   AtPhis : (leaf : Leaf) (left : ℕ) (table : Potentials) (j : ℕ) (js : List ℕ)
       (line : r.due ≡ due.Phi (length leaf.tables) j)
       (read : HasReadLeaf (limits_of a) r leaf)
       (teams : length leaf.tables + suc left ≡ teams_in (limits_of a))
       (potentials : HasPotentials (limits_of a) r (length leaf.tables) table j)
       (row : IsRowDue (has_minutes (limits_of a) (length leaf.tables)) (tasks_in (limits_of a)) table.phi j js)
-      (is : s ≡ Phis a leaf.prices leaf.extras leaf.tables left table.worth table.phi j js) → StandsFor a r s
+      (is : s ≡ Phis a leaf left table j js) → StandsFor a r s
+
+-- the rules of a line of the next team's potentials at task j, in this form
+abbrev pub row_in : DossierForm → LeafSite → Leaf → ℕ → Potentials → ℕ → List ℕ → Words → Answer → Type 0
+row_in form a leaf left table j js ws = potentials_row form (limits_of a) (length leaf.tables) j ws λ vs.
+    after_phi a leaf left (record table { phi = table.phi ++ vs ∷ [] }) js
 
 -- ---- what a reader says of a line
 
--- the limits are those of the site, and the leaf has to prove what is asked for there
+-- the form and the limits are those of the site, and the leaf has to prove what is asked for there
 pub record IsGoalAt (a : LeafSite) (n : Limits) (goal : Goal) : Type 0 where
   pub limits : limits_of a ≡ n
+  pub form : goal.form ≡ a.begun.form
   pub bound : goal.bound ≡ a.begun.bound
   pub unassigned : goal.unassigned ≡ unassigned_count a.begun.plan
   pub is_closed : goal.is_closed ≡ a.is_closed

@@ -5,5 +5,6 @@ mod keys;
 mod prices;
 mod reader;
 mod rows;
+mod runs;
 
 pub use reader::{Goal, LeafReader, LeafStep};

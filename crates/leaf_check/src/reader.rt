@@ -4,25 +4,27 @@ ghost use Rattle.crew_terms.specs.Limits.{Limits as NodeLimits, has_required, ta
 ghost use Rattle.dossier_terms.specs.Dossier.{Leaf, Potentials};
 ghost use Rattle.crew_terms.specs.Minutes.{minute_count};
 ghost use Rattle.dossier_terms.specs.Reading.{Prices as PriceDue, LeafSite};
-ghost use Rattle.dossier_terms.specs.LeafTable.{after_extra, after_phi, after_table, extra_row, phi_row, price_row, worth_row};
+ghost use Rattle.dossier_terms.specs.LeafTable.{after_extra, after_phi, after_table, extra_row, price_row, table_row, worth_row};
 ghost use Rattle.leaf_check.specs.Keys.{AreLeft, IsRowDue, has_minutes};
 ghost use Rattle.leaf_check.specs.Reader.{HasPotentials, HasReadLeaf, IsGoalAt, IsLeafStep, IsReady, StandsFor, LeafTells, below_next, priced_leaf};
 
 use crate::keys::{counted_minutes, next_open, next_priced, required_count};
 use crate::prices::{set_extras, set_prices};
 use crate::rows::set_potentials;
+use crate::runs::{are_runs, set_runs};
 use cert_format::{Expect, LineKind, fault_is_refused, read_line};
 use crew_laws::minutes_are_permitted;
-use dossier_terms::Reason;
+use dossier_terms::{DossierForm, Reason};
 use field_table::LineWords;
 use node_limits::Limits;
 use potentials::{LocalVerdict, Prices, Room, Table, bound, local, proves};
 use std::alloc::{AllocError, Global};
 
-/// What a leaf has to prove: that every plan of its node leaves at least `bound` tasks unassigned and, where it is
-/// closed, at least `unassigned`.
+/// In which form a leaf is written, and what it has to prove: that every plan of its node leaves at least `bound` tasks
+/// unassigned and, where it is closed, at least `unassigned`.
 #[derive(Clone, Copy, Debug, PartialEq, Eq)]
 pub struct Goal {
+    pub form: DossierForm,
     pub bound: u32,
     pub unassigned: u32,
     pub is_closed: bool,
@@ -106,7 +108,7 @@ impl LeafReader {
             LeafDue::Price => self.price_line(limits, goal, words),
             LeafDue::Extra { task } => self.extra_line(limits, goal, task, words),
             LeafDue::Worth { team } => self.worth_line(limits, goal, team, words),
-            LeafDue::Phi { team, task } => self.phi_line(limits, goal, team, task, words),
+            LeafDue::Phi { team, task } => { self.potentials_line(limits, goal, team, task, words) }
         }
     }
 
@@ -143,7 +145,7 @@ impl LeafReader {
         ensures tells { (a : LeafSite) (prices : List ℤ) (rows : List (List ℤ)) (js : List ℕ) → IsGoalAt a limits.now.limits goal
             → HasReadLeaf limits.now.limits self.old (priced_leaf prices rows)
             → IsRowDue (has_required limits.now.limits) (tasks_in limits.now.limits) rows task js
-            → LeafTells a (extra_row a prices rows task js words.entry) result self.new }
+            → LeafTells a (extra_row a (priced_leaf prices rows) task js words.entry) result self.new }
     {
         fault_is_refused();
         let count = required_count(limits, task);
@@ -166,7 +168,7 @@ impl LeafReader {
         ensures tells { (a : LeafSite) (prices : List ℤ) (rows : List (List ℤ)) (js : List ℕ) → IsGoalAt a limits.now.limits goal
             → HasReadLeaf limits.now.limits self.old (priced_leaf prices rows)
             → AreLeft (has_required limits.now.limits) (tasks_in limits.now.limits) rows next js
-            → LeafTells a (after_extra a prices rows js) result self.new }
+            → LeafTells a (after_extra a (priced_leaf prices rows) js) result self.new }
     {
         match next {
             Some(task) => {
@@ -190,7 +192,7 @@ impl LeafReader {
         ensures ready { IsReady limits.now.limits self.new }
         ensures tells { (a : LeafSite) (leaf : Leaf) (left : ℕ) → IsGoalAt a limits.now.limits goal
             → HasReadLeaf limits.now.limits self.old leaf → length leaf.tables ≡ team → team + suc left ≡ teams_in limits.now.limits
-            → LeafTells a (worth_row a leaf.prices leaf.extras leaf.tables left words.entry) result self.new }
+            → LeafTells a (worth_row a leaf left words.entry) result self.new }
     {
         fault_is_refused();
         minutes_are_permitted();
@@ -205,8 +207,8 @@ impl LeafReader {
         self.after_phi(limits, goal, team, next_open(limits, team, 0))
     }
 
-    /// A line `phi`.
-    fn phi_line(
+    /// A line of a team's potentials at a task, as the form has it.
+    fn potentials_line(
         &mut self,
         limits: &Limits<'_>,
         goal: Goal,
@@ -223,7 +225,34 @@ impl LeafReader {
             → HasReadLeaf limits.now.limits self.old leaf → length leaf.tables ≡ team → team + suc left ≡ teams_in limits.now.limits
             → HasPotentials limits.now.limits self.old team table task
             → IsRowDue (has_minutes limits.now.limits team) (tasks_in limits.now.limits) table.phi task js
-            → LeafTells a (phi_row a leaf.prices leaf.extras leaf.tables left table.worth table.phi task js words.entry) result self.new }
+            → LeafTells a (table_row a leaf left table task js words.entry) result self.new }
+    {
+        match goal.form {
+            DossierForm::One => self.phi_line(limits, goal, team, task, words),
+            DossierForm::Two => self.steps_line(limits, goal, team, task, words),
+        }
+    }
+
+    /// A line `phi`.
+    fn phi_line(
+        &mut self,
+        limits: &Limits<'_>,
+        goal: Goal,
+        team: u32,
+        task: u32,
+        words: LineWords<'_>,
+    ) -> LeafStep
+        requires form { goal.form ≡ DossierForm.One }
+        requires ready { IsReady limits.now.limits self.old }
+        requires team { team < teams_in limits.now.limits }
+        requires task { task < tasks_in limits.now.limits }
+        requires minutes { 0 < minute_count limits.now.limits team task }
+        ensures ready { IsReady limits.now.limits self.new }
+        ensures tells { (a : LeafSite) (leaf : Leaf) (left : ℕ) (table : Potentials) (js : List ℕ) → IsGoalAt a limits.now.limits goal
+            → HasReadLeaf limits.now.limits self.old leaf → length leaf.tables ≡ team → team + suc left ≡ teams_in limits.now.limits
+            → HasPotentials limits.now.limits self.old team table task
+            → IsRowDue (has_minutes limits.now.limits team) (tasks_in limits.now.limits) table.phi task js
+            → LeafTells a (table_row a leaf left table task js words.entry) result self.new }
     {
         fault_is_refused();
         minutes_are_permitted();
@@ -246,6 +275,48 @@ impl LeafReader {
         )
     }
 
+    /// A line `steps`.
+    fn steps_line(
+        &mut self,
+        limits: &Limits<'_>,
+        goal: Goal,
+        team: u32,
+        task: u32,
+        words: LineWords<'_>,
+    ) -> LeafStep
+        requires form { goal.form ≡ DossierForm.Two }
+        requires ready { IsReady limits.now.limits self.old }
+        requires team { team < teams_in limits.now.limits }
+        requires task { task < tasks_in limits.now.limits }
+        requires minutes { 0 < minute_count limits.now.limits team task }
+        ensures ready { IsReady limits.now.limits self.new }
+        ensures tells { (a : LeafSite) (leaf : Leaf) (left : ℕ) (table : Potentials) (js : List ℕ) → IsGoalAt a limits.now.limits goal
+            → HasReadLeaf limits.now.limits self.old leaf → length leaf.tables ≡ team → team + suc left ≡ teams_in limits.now.limits
+            → HasPotentials limits.now.limits self.old team table task
+            → IsRowDue (has_minutes limits.now.limits team) (tasks_in limits.now.limits) table.phi task js
+            → LeafTells a (table_row a leaf left table task js words.entry) result self.new }
+    {
+        fault_is_refused();
+        minutes_are_permitted();
+        let Some((first, count)) = counted_minutes(limits, team, task) else {
+            unreachable!()
+        };
+        let kind = match read_line(Expect::Steps { task }, words) {
+            Ok(kind) => kind,
+            Err(fault) => return LeafStep::No(fault.reason()),
+        };
+        let LineKind::Steps { pairs, .. } = kind else {
+            unreachable!()
+        };
+        let past = first + count;
+        if !are_runs(&pairs, first, past) {
+            return LeafStep::No(Reason::Steps);
+        }
+        set_runs(&mut self.table, task, past, &pairs);
+        let later = task as usize + 1;
+        self.after_phi(limits, goal, team, next_open(limits, team, later))
+    }
+
     /// What is said after a line of a team, where this is the next task that it may begin.
     fn after_phi(
         &mut self,
@@ -262,7 +333,7 @@ impl LeafReader {
             → HasReadLeaf limits.now.limits self.old leaf → length leaf.tables ≡ team → team + suc left ≡ teams_in limits.now.limits
             → HasPotentials limits.now.limits self.old team table (below_next limits.now.limits next)
             → AreLeft (has_minutes limits.now.limits team) (tasks_in limits.now.limits) table.phi next js
-            → LeafTells a (after_phi a leaf.prices leaf.extras leaf.tables left table.worth table.phi js) result self.new }
+            → LeafTells a (after_phi a leaf left table js) result self.new }
     {
         match next {
             Some(task) => {
@@ -281,7 +352,7 @@ impl LeafReader {
         ensures tells { (a : LeafSite) (leaf : Leaf) (left : ℕ) (table : Potentials) → IsGoalAt a limits.now.limits goal
             → HasReadLeaf limits.now.limits self.old leaf → length leaf.tables ≡ team → team + suc left ≡ teams_in limits.now.limits
             → HasPotentials limits.now.limits self.old team table (tasks_in limits.now.limits)
-            → LeafTells a (after_phi a leaf.prices leaf.extras leaf.tables left table.worth table.phi []) result self.new }
+            → LeafTells a (after_phi a leaf left table []) result self.new }
     {
         let worth = self.worths[team as usize];
         match local(

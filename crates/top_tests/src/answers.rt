@@ -48,7 +48,7 @@ pub fn assert_told(rt: &impl Abort, told: &(Status, Vec<u8>), status: Status, te
 }
 
 /// The line of a good dossier that leaves no task unassigned.
-pub const YES: &[u8] = b"yes unassigned 0 bound 0 splits 0 closed 0 open 1\n";
+pub const YES: &[u8] = b"yes unassigned 0 bound 0 splits 0 closed 0 open 1 unshown 0\n";
 
 /// The status that belongs to the lines of a check.
 pub fn status_of(lines: &[u8]) -> Status {

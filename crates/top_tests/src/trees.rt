@@ -8,11 +8,11 @@ use crew_fixtures::{joined, text_of, with_line};
 use std::alloc::Global;
 use std::test::Fail;
 
-const YES_CLOSED: &[u8] = b"yes unassigned 1 bound 1 splits 0 closed 1 open 0\n";
+const YES_CLOSED: &[u8] = b"yes unassigned 1 bound 1 splits 0 closed 1 open 0 unshown 0\n";
 
-const YES_OPEN: &[u8] = b"yes unassigned 1 bound 0 splits 0 closed 0 open 1\n";
+const YES_OPEN: &[u8] = b"yes unassigned 1 bound 0 splits 0 closed 0 open 1 unshown 0\n";
 
-const YES_SPLIT: &[u8] = b"yes unassigned 1 bound 1 splits 1 closed 2 open 0\n";
+const YES_SPLIT: &[u8] = b"yes unassigned 1 bound 1 splits 1 closed 2 open 0 unshown 1\n";
 
 /// A dossier, the number of a line of it, another line in its place, and what is written then.
 type Case = (Lines, usize, &'static [u8], &'static [u8]);
@@ -76,7 +76,7 @@ const LEAVES: &[Case] = &[
 ];
 
 /// The yes line where the plan's bound is told as 0.
-const YES_CLOSED_LOW: &[u8] = b"yes unassigned 1 bound 0 splits 0 closed 1 open 0\n";
+const YES_CLOSED_LOW: &[u8] = b"yes unassigned 1 bound 0 splits 0 closed 1 open 0 unshown 0\n";
 
 const TREES: &[Case] = &[
     (WITH_WINDOW, 15, b"window 0 480", b"no 15 Cut\n"),

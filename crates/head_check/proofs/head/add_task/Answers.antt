@@ -2,7 +2,7 @@ use Rattle.std.proofs.Common.{◌≡◌, ◌+◌, ◌<◌, ℕ, suc, sym, subst,
 use Rattle.std.specs.Prelude.{IsTrue}
 use Rattle.head_check.specs.declared.due.Head.{Head}
 use Rattle.head_check.specs.declared.due.HeadStep.TheVariants.{More}
-use Rattle.head_check.specs.Head.{IsHead, HeadTells, instance_so_far}
+use Rattle.head_check.specs.Head.{IsHead, HeadTells, instance_so_far, opening_of}
 use Rattle.dossier_terms.specs.HeadTable.{after_task}
 use Rattle.head_check.proofs.HeadSteps.{task_more}
 use Rattle.head_check.proofs.head.add_task.Goals as goal
@@ -18,7 +18,7 @@ returns-in_ok-due_tasks-in-Ok c =
     let read = head.tasks in
     let all = held.1 in
     let due = c.in_ok-due_tasks-in-Ok.field-0 in
-    subst (λ (h : Head). HeadTells (after_task h.size c.args.more (instance_so_far h.builder h.size.places) c.args.task (IsTrue c.args.rises)) (More due)) e
-    (task_more b.size c.args.more b.builder c.task.new.self b.size.places c.args.task (IsTrue c.args.rises) due
+    subst (λ (h : Head). HeadTells (after_task (opening_of h) c.args.more (instance_so_far h.builder h.size.places) c.args.task (IsTrue c.args.rises)) (More due)) e
+    (task_more (opening_of b) c.args.more b.builder c.task.new.self b.size.places c.args.task (IsTrue c.args.rises) due
     c.if-rises.true (omega arith) head.places (subst (λ (h : Head). c.args.task.place < h.size.places) (sym e) c.requires.place)
     (λ h. let e = (c.in-Ok.ensures.same_name).1 h in cc) (λ h. let e = (c.in-Ok.ensures.bad_window).1 h in cc) c.in-Ok.ensures.ok c.in_ok-due_tasks-in-Ok.ensures)

@@ -10,7 +10,7 @@ use Rattle.dossier_terms.specs.HeadTable.{after_travel}
 use Rattle.head_check.specs.declared.due.Head.{Head}
 use Rattle.head_check.specs.declared.due.HeadStep.TheVariants.{More}
 use Rattle.head_check.specs.Numbers.{AreBelow, naturals}
-use Rattle.head_check.specs.Head.{IsHead, HeadTells, instance_so_far, rows_read}
+use Rattle.head_check.specs.Head.{IsHead, HeadTells, instance_so_far, rows_read, opening_of}
 use Rattle.head_check.proofs.Steps.{plainly}
 use Rattle.head_check.proofs.Listed.{naturals-pos}
 use Rattle.head_check.proofs.HeadRows.{travel_parts}
@@ -64,8 +64,8 @@ due_travels-requires c =
     c.in_ok-set_row.ensures ∙ ap (λ a. with_row b.builder a (naturals c.args.times.now)) from ∙ ap (with_row b.builder p) row in (
       p + 1,
       (omega arith),
-      subst (λ d. IsHead (record { size = b.size; builder = d }) b.size.places (p + 1) 0 0) (sym sets)
-          (head_more b.size b.builder p b.size.places t.0 held.2 (omega arith) t.2.count),
+      subst (λ d. IsHead (record { form = b.form; size = b.size; builder = d }) b.size.places (p + 1) 0 0) (sym sets)
+          (head_more b.form b.size b.builder p b.size.places t.0 held.2 (omega arith) t.2.count),
     )
 
 pub returns : goal.returns
@@ -87,7 +87,7 @@ returns c = λ row is.
     let next : b.size.places - c.args.more ≡ suc r = omega arith in
     let size : length row ≡ b.size.places = sym (length-map row pos) ∙ sym (ap length is) ∙ counted c.args.times.now b t in
     let parts = travel_parts b.builder r row (omega arith) (omega arith) in
-    subst (λ (h : Head). HeadTells (after_travel h.size c.args.more (instance_so_far h.builder (rows_read h c.args.more)) row) (More c.in_ok-due_travels.field-0)) e
-    (plainly (On (ap Goes (c.in_ok-due_travels.ensures.is ∙ ap (λ x. travels_due b.size c.args.more (instance_so_far new x)) next
-    ∙ ap (λ d. travels_due b.size c.args.more (instance_so_far d (suc r))) sets ∙ ap (travels_due b.size c.args.more) parts)))
+    subst (λ (h : Head). HeadTells (after_travel (opening_of h) c.args.more (instance_so_far h.builder (rows_read h c.args.more)) row) (More c.in_ok-due_travels.field-0)) e
+    (plainly (On (ap Goes (c.in_ok-due_travels.ensures.is ∙ ap (λ x. travels_due (opening_of b) c.args.more (instance_so_far new x)) next
+    ∙ ap (λ d. travels_due (opening_of b) c.args.more (instance_so_far d (suc r))) sets ∙ ap (travels_due (opening_of b) c.args.more) parts)))
     c.in_ok-due_travels.ensures.holds)

@@ -19,8 +19,8 @@ only_memory d places _ e given is missing = absurd is
 
 pub out_of_memory-requires : goal.out_of_memory-requires
 out_of_memory-requires c =
-    let b : Head = c.into_inner-builder.result in
+    let b : Head = c.into_inner-form.result in
     let head : IsHead b b.size.places b.size.places b.size.teams c.requires.0 =
-    subst (λ (h : Head). IsHead h h.size.places h.size.places h.size.teams c.requires.0) (sym c.into_inner-builder.ensures) c.requires.2 in
+    subst (λ (h : Head). IsHead h h.size.places h.size.places h.size.teams c.requires.0) (sym c.into_inner-form.ensures) c.requires.2 in
     only_memory b.builder b.size.places c.in-Err.fault head.places head.given (c.in-Err.ensures.free head.frozen)
     (λ a b e. (c.in-Err.ensures.missing a b).0 (ap Err e))

@@ -1,7 +1,7 @@
 use Rattle.std.proofs.Common.{sym, subst}
 use Rattle.cert_format.specs.Lines.{IsPlaceLine}
 use Rattle.dossier_terms.specs.HeadTable.{after_place}
-use Rattle.head_check.specs.Head.{reading_of, IsHeadStep, HeadTells, instance_so_far}
+use Rattle.head_check.specs.Head.{reading_of, IsHeadStep, HeadTells, instance_so_far, opening_of}
 use Rattle.head_check.specs.declared.due.HeadDue.TheVariants.{Place}
 use Rattle.head_check.specs.declared.due.HeadStep.TheVariants.{No}
 use Rattle.head_check.proofs.Steps.{says_step, tells_step}
@@ -18,6 +18,6 @@ pub returns : goal.returns
 returns c =
     let h = subst (IsPlaceLine c.args.words) c.in-Place.is c.in-Ok.ensures in
     let due = Place c.args.head c.args.more in
-    let rules = after_place c.args.head.value.size c.args.more (instance_so_far c.args.head.value.builder 0) c.in-Place.name in
+    let rules = after_place (opening_of c.args.head.value) c.args.more (instance_so_far c.args.head.value.builder 0) c.in-Place.name in
     if_ok c.add_place.result (HeadTells rules) (IsHeadStep due c.args.words) c.add_place.ensures (λ step t.
-    tells_step due c.args.words step rules (λ said rest. place_says c.args.head.value.size c.args.more (instance_so_far c.args.head.value.builder 0) c.args.words c.in-Place.name said h.0 h.1 rest) t)
+    tells_step due c.args.words step rules (λ said rest. place_says (opening_of c.args.head.value) c.args.more (instance_so_far c.args.head.value.builder 0) c.args.words c.in-Place.name said h.0 h.1 rest) t)

@@ -3,7 +3,7 @@ use Rattle.cert_format.specs.Lines.{IsFaultOf, IsTaskOf}
 use Rattle.cert_format.specs.declared.kinds.Expect.TheVariants as expects
 use Rattle.head_check.specs.Numbers.{AreBelow}
 use Rattle.dossier_terms.specs.HeadTable.{after_task}
-use Rattle.head_check.specs.Head.{reading_of, IsHeadStep, HeadTells, instance_so_far}
+use Rattle.head_check.specs.Head.{reading_of, IsHeadStep, HeadTells, instance_so_far, opening_of}
 use Rattle.std.specs.Prelude.{IsTrue}
 use Rattle.crew_terms.specs.declared.Task.{Task}
 use Rattle.crew_terms.specs.declared.TheConstants.{SKILLS}
@@ -28,16 +28,16 @@ skill_set-set-requires c =
 
 pub returns : goal.returns
 returns c =
-    let z = c.args.head.value.size in
-    let h = subst (IsTaskOf z.places c.args.words) c.in-Task.is (subst (λ (h : Head). IsTaskOf h.size.places c.args.words c.in-Ok.kind) c.deref.ensures c.in-Ok.ensures) in
+    let o = opening_of c.args.head.value in
+    let h = subst (IsTaskOf o.size.places c.args.words) c.in-Task.is (subst (λ (h : Head). IsTaskOf h.size.places c.args.words c.in-Ok.kind) c.deref.ensures c.in-Ok.ensures) in
     let due = TaskDue c.args.head c.args.more in
-    let i = instance_so_far c.args.head.value.builder z.places in
+    let i = instance_so_far c.args.head.value.builder o.size.places in
     let facts = set_facts c.in-Task.skills h.0 c.skill_set-set.result h.1 c.skill_set-set.ensures in
     let spelled : Task = record { name = c.in-Task.name; place = c.in-Task.place; earliest = c.in-Task.earliest; latest = c.in-Task.latest; minutes = c.in-Task.minutes; teams = c.in-Task.teams; skills = 0 } in
     let task : Task = record spelled { skills = c.unwrap_or-skills.result } in
-    let rules = after_task z c.args.more i task (IsTrue c.is_some.result) in
+    let rules = after_task o c.args.more i task (IsTrue c.is_some.result) in
     if_ok c.add_task.result (HeadTells rules) (IsHeadStep due c.args.words) c.add_task.ensures (λ step t.
-    tells_step due c.args.words step rules (λ said rest. task_says z c.args.more i c.args.words (spelled, h.0) said h.2 h.3
-    (task_rules z c.args.more i task h.0 (IsTrue c.is_some.result) said
+    tells_step due c.args.words step rules (λ said rest. task_says o c.args.more i c.args.words (spelled, h.0) said h.2 h.3
+    (task_rules o c.args.more i task h.0 (IsTrue c.is_some.result) said
     (λ is. let f = facts.0 (subst IsTrue c.is_some.ensures is) in (f.0, c.unwrap_or-skills.ensures ∙ f.1))
     (λ not rise. facts.1 (λ is. not (subst IsTrue (sym c.is_some.ensures) is)) rise) rest)) t)

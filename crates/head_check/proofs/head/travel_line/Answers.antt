@@ -2,7 +2,7 @@ use Rattle.std.proofs.Common.{sym, subst}
 use Rattle.cert_format.specs.Lines.{IsFaultOf, IsTimesLine}
 use Rattle.cert_format.specs.declared.kinds.Expect.TheVariants as expects
 use Rattle.dossier_terms.specs.HeadTable.{after_travel}
-use Rattle.head_check.specs.Head.{reading_of, IsHeadStep, instance_so_far, rows_read}
+use Rattle.head_check.specs.Head.{reading_of, IsHeadStep, instance_so_far, rows_read, opening_of}
 use Rattle.head_check.specs.declared.due.Head.{Head}
 use Rattle.head_check.specs.declared.due.HeadDue.TheVariants.{Travel}
 use Rattle.head_check.specs.declared.due.HeadStep.TheVariants.{No}
@@ -18,10 +18,10 @@ returns-in-Err c =
 
 pub returns : goal.returns
 returns c =
-    let z = c.args.head.value.size in
-    let h = subst (IsTimesLine z.places c.args.words) c.in-Travel.is (subst (λ (h : Head). IsTimesLine h.size.places c.args.words c.in-Ok.kind) c.deref.ensures c.in-Ok.ensures) in
+    let o = opening_of c.args.head.value in
+    let h = subst (IsTimesLine o.size.places c.args.words) c.in-Travel.is (subst (λ (h : Head). IsTimesLine h.size.places c.args.words c.in-Ok.kind) c.deref.ensures c.in-Ok.ensures) in
     let due = Travel c.args.head c.args.more in
     let i = instance_so_far c.args.head.value.builder (rows_read c.args.head.value c.args.more) in
-    let rules = after_travel z c.args.more i h.0 in
+    let rules = after_travel o c.args.more i h.0 in
     if_ok c.add_travel.result _ (IsHeadStep due c.args.words) c.add_travel.ensures (λ step t.
-    tells_step due c.args.words step rules (λ said rest. travel_says z c.args.more i c.args.words h.0 said h.2 h.3 rest) (t h.0 h.1))
+    tells_step due c.args.words step rules (λ said rest. travel_says o c.args.more i c.args.words h.0 said h.2 h.3 rest) (t h.0 h.1))

@@ -19,5 +19,5 @@ pub returns-in-None-clause-tells : goal.returns-in-None-clause-tells
 returns-in-None-clause-tells c = λ a prices rows js g read left.
     let n = c.args.limits.now.limits in
     let h = subst (λ next. AreLeft (has_required n) (tasks_in n) rows next js) c.in-None.is left in
-    subst (λ ks. LeafTells a (after_extra a prices rows ks) c.after_table.result c.after_table.new.self) (sym h)
+    subst (λ ks. LeafTells a (after_extra a (priced_leaf prices rows) ks) c.after_table.result c.after_table.new.self) (sym h)
     (c.after_table.ensures.tells a (priced_leaf prices rows) (teams_in (limits_of a)) g read refl (zero-add (teams_in (limits_of a)) ∙ ap teams_in g.limits))

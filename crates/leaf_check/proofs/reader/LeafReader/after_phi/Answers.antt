@@ -20,5 +20,5 @@ returns-in-None-clause-tells c = λ a leaf left table js g read count teams pote
     let n = c.args.limits.now.limits in
     let h = subst (λ next. AreLeft (has_minutes n c.args.team) (tasks_in n) table.phi next js) c.in-None.is keys in
     let p = subst (λ next. HasPotentials n c.args.self.now c.args.team table (below_next n next)) c.in-None.is potentials in
-    subst (λ ks. LeafTells a (after_phi a leaf.prices leaf.extras leaf.tables left table.worth table.phi ks) c.judge_team.result c.judge_team.new.self) (sym h)
+    subst (λ ks. LeafTells a (after_phi a leaf left table ks) c.judge_team.result c.judge_team.new.self) (sym h)
     (c.judge_team.ensures.tells a leaf left table g read count teams p)

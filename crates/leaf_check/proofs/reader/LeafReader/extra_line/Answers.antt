@@ -19,8 +19,8 @@ use Rattle.leaf_check.proofs.reader.LeafReader.extra_line.Goals as goal
 pub returns-in-Err-clause-tells : goal.returns-in-Err-clause-tells
 returns-in-Err-clause-tells c = λ a prices rows js g read row.
     let up : c.required_count-count.result ≡ length (required_teams (limits_of a) c.args.task) = c.required_count-count.ensures ∙ ap (λ m. length (required_teams m c.args.task)) (sym g.limits) in
-    TellsNo c.reason.result (subst (λ r. extra_row a prices rows c.args.task js c.args.words (Refuses r)) (sym c.reason.ensures)
-    (c.fault_is_refused.ensures (Extras a prices rows c.args.task js) c.args.words c.in-Err.fault (subst (λ m. IsFaultOf (expected.Extra c.args.task m) c.args.words c.in-Err.fault) up c.in-Err.ensures))) refl
+    TellsNo c.reason.result (subst (λ r. extra_row a (priced_leaf prices rows) c.args.task js c.args.words (Refuses r)) (sym c.reason.ensures)
+    (c.fault_is_refused.ensures (Extras a (priced_leaf prices rows) c.args.task js) c.args.words c.in-Err.fault (subst (λ m. IsFaultOf (expected.Extra c.args.task m) c.args.words c.in-Err.fault) up c.in-Err.ensures))) refl
 
 pub returns-clause-tells : goal.returns-clause-tells
 returns-clause-tells c = λ a prices rows js g read row.
@@ -37,6 +37,6 @@ returns-clause-tells c = λ a prices rows js g read row.
       worths = refl;
     } in
     let next : IsNextKey (has_required n) (tasks_in n) (suc task) c.next_priced.result = subst (λ m. IsNextKey (has_required n) (tasks_in n) m c.next_priced.result) (add-one task) c.next_priced.ensures in
-    tells_rest a (after_extra a prices (rows ++ vs ∷ []) js) (extra_row a prices rows task js c.args.words) c.after_extra.result c.after_extra.new.self
+    tells_rest a (after_extra a (priced_leaf prices (rows ++ vs ∷ [])) js) (extra_row a (priced_leaf prices rows) task js c.args.words) c.after_extra.result c.after_extra.new.self
     (λ said others. extra_read a prices rows task js c.args.words vs said fits h.2 others)
     (c.after_extra.ensures.tells a prices (rows ++ vs ∷ []) js g more (left_after (has_required n) (tasks_in n) rows task js row vs c.next_priced.result next))

@@ -17,5 +17,5 @@ returns-in-Worth-clause-judged c = λ a s g stands.
 
 pub returns-in-Phi-clause-judged : goal.returns-in-Phi-clause-judged
 returns-in-Phi-clause-judged c = λ a s g stands.
-    at_phi a c.args.limits.now.limits c.args.self.now c.phi_line.new.self s c.args.words c.phi_line.result c.in-Phi.team c.in-Phi.task g.limits c.in-Phi.is stands
-    (λ leaf left table js read count teams potentials row. c.phi_line.ensures.tells a leaf left table js g read count teams potentials row)
+    at_phi a c.args.limits.now.limits c.args.self.now c.potentials_line.new.self s c.args.words c.potentials_line.result c.in-Phi.team c.in-Phi.task g.limits c.in-Phi.is stands
+    (λ leaf left table js read count teams potentials row. c.potentials_line.ensures.tells a leaf left table js g read count teams potentials row)

@@ -31,7 +31,7 @@ returns-clause-tells c = λ a g.
     let r : LeafReader = record c.args.self.now { prices = c.set_prices.new.prices } in
     let set = c.set_prices.ensures in
     let read : HasReadLeaf n r (priced_leaf vs []) = record { prices = first_prices n c.set_prices.new.prices vs set.prices set.tasks set.pairs; worths = refl } in
-    tells_rest a (after_extra a vs [] (priced (limits_of a))) (price_row a c.args.words) c.after_extra.result c.after_extra.new.self
+    tells_rest a (after_extra a (priced_leaf vs []) (priced (limits_of a))) (price_row a c.args.words) c.after_extra.result c.after_extra.new.self
     (λ said others. price_read a c.args.words vs said fits h.1 others)
-    (subst (λ m. LeafTells a (after_extra a vs [] (priced m)) c.after_extra.result c.after_extra.new.self) (sym g.limits)
+    (subst (λ m. LeafTells a (after_extra a (priced_leaf vs []) (priced m)) c.after_extra.result c.after_extra.new.self) (sym g.limits)
     (c.after_extra.ensures.tells a vs [] (priced n) g read (left_first (has_required n) (tasks_in n) c.next_priced.result c.next_priced.ensures)))

@@ -20,8 +20,8 @@ use Rattle.leaf_check.proofs.reader.LeafReader.worth_line.Goals as goal
 
 pub returns-in-Err-clause-tells : goal.returns-in-Err-clause-tells
 returns-in-Err-clause-tells c = λ a leaf left g read count teams.
-    TellsNo c.reason.result (subst (λ r. worth_row a leaf.prices leaf.extras leaf.tables left c.args.words (Refuses r)) (sym c.reason.ensures)
-    (c.fault_is_refused.ensures (Worths a leaf.prices leaf.extras leaf.tables left) c.args.words c.in-Err.fault c.in-Err.ensures)) refl
+    TellsNo c.reason.result (subst (λ r. worth_row a leaf left c.args.words (Refuses r)) (sym c.reason.ensures)
+    (c.fault_is_refused.ensures (Worths a leaf left) c.args.words c.in-Err.fault c.in-Err.ensures)) refl
 
 pub returns-clause-tells : goal.returns-clause-tells
 returns-clause-tells c = λ a leaf left g read count teams.
@@ -43,9 +43,9 @@ returns-clause-tells c = λ a leaf left g read count teams.
       worth = get_or-set_same old.items team v (pos 0) short ∙ is;
       phi = none_yet c.minutes_are_permitted.ensures n team c.next_open.result c.args.self.now.table table c.next_open.ensures;
     } in
-    tells_rest a (after_phi a leaf.prices leaf.extras leaf.tables left worth [] (open_tasks (limits_of a) (length leaf.tables)))
-    (worth_row a leaf.prices leaf.extras leaf.tables left c.args.words) c.after_phi.result c.after_phi.new.self
-    (λ said others. worth_read a leaf.prices leaf.extras leaf.tables left c.args.words worth said h.0 h.1 others)
-    (subst (λ ks. LeafTells a (after_phi a leaf.prices leaf.extras leaf.tables left worth [] ks) c.after_phi.result c.after_phi.new.self)
+    tells_rest a (after_phi a leaf left table (open_tasks (limits_of a) (length leaf.tables)))
+    (worth_row a leaf left c.args.words) c.after_phi.result c.after_phi.new.self
+    (λ said others. worth_read a leaf left c.args.words worth said h.0 h.1 others)
+    (subst (λ ks. LeafTells a (after_phi a leaf left table ks) c.after_phi.result c.after_phi.new.self)
     (ap (λ m. open_tasks m team) (sym g.limits) ∙ ap (λ k. open_tasks (limits_of a) k) (sym count))
     (c.after_phi.ensures.tells a leaf left table (open_tasks n team) g kept count teams holds (left_first (has_minutes n team) (tasks_in n) c.next_open.result c.next_open.ensures)))
