@@ -5,7 +5,7 @@ use crate::asserts::{same, same_at};
 use crew_fixtures::{FixtureFault, Shown, gate_instance, hardly_overlapping, task, two_at_once};
 use crew_instance::Instance;
 use crew_terms::Task;
-use dossier_terms::Reason;
+use dossier_terms::{DossierForm, Reason};
 use field_table::Cuts;
 use leaf_check::{Goal, LeafReader, LeafStep};
 use node_limits::Limits;
@@ -60,12 +60,14 @@ fn read_root(
 }
 
 const CLOSED: Goal = Goal {
+    form: DossierForm::One,
     bound: 1,
     unassigned: 1,
     is_closed: true,
 };
 
 const OPEN: Goal = Goal {
+    form: DossierForm::One,
     bound: 0,
     unassigned: 1,
     is_closed: false,

@@ -10,11 +10,21 @@ const ROUTE: Expect = Expect::Route { teams: 2, tasks: 3 };
 
 const NODE: Expect = Expect::Node { teams: 2, tasks: 3 };
 
+const KEEP: Expect = Expect::Keep { teams: 2, tasks: 3 };
+
 /// A kind of line, and a good line of it.
 type Good = (Expect, &'static [u8]);
 
-const GOOD: [Good; 22] = [
+const GOOD: [Good; 27] = [
     (Expect::Form, b"crew dossier 1"),
+    (Expect::Form, b"crew dossier 2"),
+    (Expect::Frozen { most: 2 }, b"frozen 2"),
+    (KEEP, b"keep 2 2880 0 1"),
+    (Expect::Why, b"why none"),
+    (
+        Expect::Steps { task: 7 },
+        b"steps 7 0 -9223372036854775808 2880 9223372036854775807",
+    ),
     (Expect::Size, b"size 1 1 2 1"),
     (Expect::Place, b"place G1"),
     (Expect::Travel { places: 2 }, b"travel 0 10"),
@@ -110,6 +120,30 @@ const PRICES: &[Bad] = &[
 
 const PHI: Expect = Expect::Phi { task: 12, count: 1 };
 
+const STEPS: Expect = Expect::Steps { task: 12 };
+
+const SECOND_FORM: &[Bad] = &[
+    (Expect::Form, b"crew dossier 3", LineFault::Shape),
+    (Expect::Frozen { most: 2 }, b"frozen", LineFault::Shape),
+    (Expect::Frozen { most: 2 }, b"frozen 3", LineFault::Number),
+    (KEEP, b"keep 2", LineFault::Shape),
+    (KEEP, b"do 2 420", LineFault::Shape),
+    (KEEP, b"keep 3 420", LineFault::Number),
+    (KEEP, b"keep 2 2881", LineFault::Number),
+    (KEEP, b"keep 2 420 2", LineFault::Number),
+    (Expect::Why, b"why", LineFault::Shape),
+    (Expect::Why, b"why not", LineFault::Shape),
+    (Expect::Why, b"why none 0", LineFault::Shape),
+    (STEPS, b"steps 12", LineFault::Shape),
+    (STEPS, b"steps 12 420", LineFault::Shape),
+    (STEPS, b"steps 12 420 1 421", LineFault::Shape),
+    (STEPS, b"steps 1 420 1", LineFault::Shape),
+    (STEPS, b"steps 012 420 1", LineFault::Shape),
+    (STEPS, b"steps 12 2881 1", LineFault::Number),
+    (STEPS, b"steps 12 -1 1", LineFault::Number),
+    (STEPS, b"steps 12 420 9223372036854775808", LineFault::Number),
+];
+
 const POTENTIALS: &[Bad] = &[
     (Expect::Worth, b"worth", LineFault::Shape),
     (Expect::Worth, b"worth 1 2", LineFault::Shape),
@@ -141,7 +175,7 @@ fn tells_faults(rt: &impl Abort, cuts: &mut Cuts, table: &[Bad]) {
 #[test]
 fn tells_the_first_fault(rt: HostRuntime) -> Result<(), Fail> {
     let mut cuts = Cuts::new(rt.alloc())?;
-    for table in [HEADS, ROUTES, PRICES, POTENTIALS] {
+    for table in [HEADS, ROUTES, PRICES, SECOND_FORM, POTENTIALS] {
         tells_faults(&rt, &mut cuts, table);
     }
     Ok(())

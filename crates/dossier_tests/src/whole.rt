@@ -12,6 +12,7 @@ const SPLIT_SAYS: Verdict = Verdict {
     splits: 1,
     closed: 2,
     left_open: 0,
+    unshown: 1,
 };
 
 /// What the dossier with a bare leaf says.
@@ -21,6 +22,7 @@ const HALF_BARE_SAYS: Verdict = Verdict {
     splits: 1,
     closed: 0,
     left_open: 2,
+    unshown: 1,
 };
 
 /// What is said of one more line.
