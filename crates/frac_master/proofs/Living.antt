@@ -1,9 +1,10 @@
 -- a master that no overflow has ended goes on
-use Rattle.std.proofs.Common.{◌≡◌, ℕ, zero, suc, List, length, refl, ap, sym, ◌∙◌, subst}
+use Rattle.std.proofs.Common.{◌≡◌, ◌<◌, unsigned_abs, ℕ, zero, suc, List, length, refl, ap, sym, ◌∙◌, subst}
+use Rattle.std.specs.Int.{◌∣◌}
 use Rattle.crew_num.specs.declared.Overflow.{Overflow}
 use Rattle.crew_terms.specs.Limits.{Limits}
 use Rattle.search_terms.specs.declared.Place.{Place}
-use Rattle.search_terms.specs.Rows.{Rows, width, AreBasic, AreFeasible}
+use Rattle.search_terms.specs.Rows.{Rows, number, row_of, width, AreBasic, AreFeasible}
 use Rattle.search_terms.specs.Pivot.{ArePivots, IsPivot, IsImproving, IsBounding}
 use Rattle.crew_terms.specs.Limits.{Route}
 use Rattle.search_terms.specs.MasterRun.{IsMasterRun}
@@ -18,6 +19,7 @@ pub record Laws : Type 0 where
   pub widths : (t next : Rows) → AreBasic t → IsPivot t next → width next ≡ width t
   pub feasible : (n : Limits) (routes : List Route) (made : ℕ) (t : Rows) → IsMasterRun n routes made t → AreFeasible t
   pub bounds : (n : Limits) (routes : List Route) (made v : ℕ) (t : Rows) → IsMasterRun n routes made t → IsImproving t v → ((h : ℕ) → IsBounding t v h → ⊥) → ⊥
+  pub lowest : (n : Limits) (routes : List Route) (made h d : ℕ) (t : Rows) → IsMasterRun n routes made t → h < length t.rows → ((j : ℕ) → j < length (row_of t h) → d ∣ unsigned_abs (number (row_of t h) j)) → d ≡ 1
 
 pub extend : (k : ℕ) (ps : List Place) (t u : Rows) → IsOfRun ps t → ArePivots k t u → IsOfRun ps u
 extend zero ps t u o e = subst (IsOfRun ps) e o
@@ -35,7 +37,11 @@ pub can_run : (l : Laws) (room : ℕ) (ps : List Place) (t : Rows) → IsOfRun p
 can_run l room ps t o e = record {
   each = λ k u p.
       let m = extend k ps t u o p in
-      record { basic = (l.feasible m.limits m.routes m.made u m.run).basic; bounded = λ v i idle. l.bounds m.limits m.routes m.made v u m.run i idle };
+      record {
+        basic = (l.feasible m.limits m.routes m.made u m.run).basic;
+        bounded = λ v i idle. l.bounds m.limits m.routes m.made v u m.run i idle;
+        lowest = λ h below. record { only = λ d all. l.lowest m.limits m.routes m.made h d u m.run below all };
+      };
   wide = λ k u p. e ∙ sym (same_widths l k ps t u o p);
 }
 

@@ -1,11 +1,12 @@
 -- one pivot
-use Rattle.std.specs.Prelude.{◌≡◌, ◌<◌, Bool, true, false, ℕ}
+use Rattle.std.specs.Prelude.{◌≡◌, ◌<◌, Bool, true, false, ℕ, length}
 use Rattle.crew_num.specs.declared.Overflow.{Overflow}
 use Rattle.crew_num.specs.Exact.{IsOverflow}
-use Rattle.search_terms.specs.Rows.{Rows, width, AreBasic}
+use Rattle.search_terms.specs.Rows.{Rows, row_of, width, AreBasic}
 use Rattle.search_terms.specs.declared.TheConstants.{VALUE}
 use Rattle.search_terms.specs.Pivot.{IsBounding, IsImproving, IsOptimal, IsPivot}
 use Rattle.search_terms.specs.Overflows.{IsOfPivot}
+use Rattle.frac_master.specs.Replacement.{IsLowest}
 
 -- the variable at place v can enter at row h
 pub record CanPivot (t : Rows) (v h : ℕ) : Type 0 where
@@ -13,11 +14,13 @@ pub record CanPivot (t : Rows) (v h : ℕ) : Type 0 where
   pub variable : VALUE < v
   pub known : v < width t
   pub bounds : IsBounding t v h
+  pub lowest : (i : ℕ) → i < length t.rows → IsLowest (row_of t i)
 
 -- rows that can be pivoted as long as a variable has a negative reduced cost
 pub record CanStep (t : Rows) : Type 0 where
   pub basic : AreBasic t
   pub bounded : (v : ℕ) → IsImproving t v → ((h : ℕ) → IsBounding t v h → ⊥) → ⊥
+  pub lowest : (i : ℕ) → i < length t.rows → IsLowest (row_of t i)
 
 -- the overflow is of the next pivot
 pub record IsPivotFault (t : Rows) (f : Overflow) : Type 0 where

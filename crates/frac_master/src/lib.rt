@@ -12,6 +12,7 @@ mod master;
 mod opening;
 mod pivots;
 mod places;
+mod rounding;
 mod routes;
 mod running;
 mod shares;
@@ -19,5 +20,6 @@ mod solved;
 mod widening;
 
 pub use master::Master;
+pub use rounding::round_price;
 pub use shares::Share;
 pub use solved::{Added, Solved};

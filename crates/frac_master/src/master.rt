@@ -32,8 +32,8 @@ use crew_num::Overflow;
 use crew_terms::Visit;
 use master_laws::{
     duals_stand, entering_keeps_duals, openers_differ, openers_within, optimal_choice,
-    optimal_prices, pivot_keeps_width, places_are, run_keeps, shares_are_parts, some_row_bounds,
-    strong_duality,
+    optimal_prices, pivot_keeps_width, places_are, rows_are_lowest, run_keeps, shares_are_parts,
+    some_row_bounds, strong_duality,
 };
 use node_limits::Limits;
 use search_terms::{Place, RIGHT, VALUE};
@@ -170,6 +170,7 @@ impl Master {
         pivot_keeps_width();
         run_keeps();
         some_row_bounds();
+        rows_are_lowest();
 
         let (made, solved) = run(&mut self.rows, &mut self.basis, &mut self.room, pivots);
         self.made = made;
