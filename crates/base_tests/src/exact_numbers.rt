@@ -1,4 +1,5 @@
 // Tests of exact numbers, at the ends of i128 and over small denominators.
+use crate::asserts::{same, same_at};
 use crew_num::{
     Mixed, Op, Overflow, add, cmp_ratio, cross, floor_scaled, gcd, gcd_of, mixed_add, mixed_gap,
     mixed_times, mul, sub,
@@ -33,42 +34,53 @@ fn ends_of_sums_differences_and_products(rt: HostRuntime) {
             Op::Sub => sub(a, b),
             Op::Mul => mul(a, b),
         };
-        assert_eq!(rt; result, exact.ok_or(Overflow { op, a, b }));
+        same_at(&rt, &result, &exact.ok_or(Overflow { op, a, b }), &(a, b));
     }
+}
+
+/// The fault of an operation that leaves i128.
+fn overflow<T>(op: Op, a: i128, b: i128) -> Result<T, Overflow> {
+    Err(Overflow { op, a, b })
 }
 
 #[test]
 fn first_overflow_of_a_difference_of_products(rt: HostRuntime) {
-    let fault = |op, a, b| Err(Overflow { op, a, b });
-    assert_eq!(rt; cross(3, 5, 2, 4), Ok(7));
-    assert_eq!(rt; cross(MAX, 2, MAX, 3), fault(Op::Mul, MAX, 2));
-    assert_eq!(rt; cross(1, 2, MAX, 3), fault(Op::Mul, MAX, 3));
-    assert_eq!(rt; cross(1, MAX, -1, 1), fault(Op::Sub, MAX, -1));
+    for (a, b, c, d, told) in [
+        (3, 5, 2, 4, Ok(7)),
+        (MAX, 2, MAX, 3, overflow(Op::Mul, MAX, 2)),
+        (1, 2, MAX, 3, overflow(Op::Mul, MAX, 3)),
+        (1, MAX, -1, 1, overflow(Op::Sub, MAX, -1)),
+    ] {
+        same_at(&rt, &cross(a, b, c, d), &told, &(a, b, c, d));
+    }
 }
 
 #[test]
 fn common_divisors(rt: HostRuntime) {
-    assert_eq!(rt; gcd(0, 0), 0);
-    assert_eq!(rt; gcd(0, -7), 7);
-    assert_eq!(rt; gcd(12, -18), 6);
-    assert_eq!(rt; gcd(MIN, MIN), 1 << 127);
-    assert_eq!(rt; gcd(MIN, 6), 2);
-    assert_eq!(rt; gcd(MAX, MIN), 1);
-    assert_eq!(rt; gcd_of(3 << 100, 1 << 101), 1 << 100);
+    for (a, b, divisor) in [
+        (0, 0, 0),
+        (0, -7, 7),
+        (12, -18, 6),
+        (MIN, MIN, 1 << 127),
+        (MIN, 6, 2),
+        (MAX, MIN, 1),
+    ] {
+        same_at(&rt, &gcd(a, b), &divisor, &(a, b));
+    }
+    same(&rt, &gcd_of(3 << 100, 1 << 101), &(1 << 100));
 }
 
 #[test]
 fn orders_of_ratios(rt: HostRuntime) {
-    assert_eq!(rt; cmp_ratio(1, 2, 2, 3), Ok(Ordering::Less));
-    assert_eq!(rt; cmp_ratio(-1, 3, -2, 6), Ok(Ordering::Equal));
-    assert_eq!(rt; cmp_ratio(MAX, 1, MIN, 1), Ok(Ordering::Greater));
-    let fault = Err(Overflow {
-        op: Op::Mul,
-        a: MAX,
-        b: 2,
-    });
-    assert_eq!(rt; cmp_ratio(MAX, 2, 1, 2), fault);
-    assert_eq!(rt; cmp_ratio(1, 2, MAX, 1), fault);
+    for (a, p, b, q, told) in [
+        (1, 2, 2, 3, Ok(Ordering::Less)),
+        (-1, 3, -2, 6, Ok(Ordering::Equal)),
+        (MAX, 1, MIN, 1, Ok(Ordering::Greater)),
+        (MAX, 2, 1, 2, overflow(Op::Mul, MAX, 2)),
+        (1, 2, MAX, 1, overflow(Op::Mul, MAX, 2)),
+    ] {
+        same_at(&rt, &cmp_ratio(a, p, b, q), &told, &(a, p, b, q));
+    }
 }
 
 #[test]
@@ -91,17 +103,17 @@ fn floors_of_scaled_ratios(rt: HostRuntime) {
             a: num,
             b: scale,
         };
-        assert_eq!(rt; floor_scaled(num, den, scale), floor.ok_or(fault));
+        same_at(&rt, &floor_scaled(num, den, scale), &floor.ok_or(fault), &(num, den, scale));
     }
 }
 
 #[test]
 fn numbers_over_three(rt: HostRuntime) {
     let mixed = |whole, part| Mixed { whole, part };
-    assert_eq!(rt; mixed_add(mixed(0, 2), mixed(0, 2), 3), mixed(1, 1));
-    assert_eq!(rt; mixed_gap(mixed(1, 0), mixed(0, 2), 3), mixed(0, 1));
-    assert_eq!(rt; mixed_gap(mixed(0, 2), mixed(1, 0), 3), mixed(0, 1));
-    assert_eq!(rt; mixed_times(mixed(0, 2), 3, 3), mixed(2, 0));
+    same(&rt, &mixed_add(mixed(0, 2), mixed(0, 2), 3), &mixed(1, 1));
+    same(&rt, &mixed_gap(mixed(1, 0), mixed(0, 2), 3), &mixed(0, 1));
+    same(&rt, &mixed_gap(mixed(0, 2), mixed(1, 0), 3), &mixed(0, 1));
+    same(&rt, &mixed_times(mixed(0, 2), 3, 3), &mixed(2, 0));
 }
 
 #[test]
@@ -115,10 +127,10 @@ fn numbers_over_the_greatest_denominator(rt: HostRuntime) {
         whole: (1 << 41) + 1,
         part: q - 2,
     };
-    assert_eq!(rt; mixed_add(most, most, q), double);
+    same(&rt, &mixed_add(most, most, q), &double);
     let product = Mixed {
         whole: 1_000_000 * (1 << 40) + 999_999,
         part: q - 1_000_000,
     };
-    assert_eq!(rt; mixed_times(most, 1_000_000, q), product);
+    same(&rt, &mixed_times(most, 1_000_000, q), &product);
 }

@@ -2,6 +2,8 @@
 #![tactic(auto)]
 
 #[cfg(test)]
+mod asserts;
+#[cfg(test)]
 mod exact_numbers;
 #[cfg(test)]
 mod node_queues;

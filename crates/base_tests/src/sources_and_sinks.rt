@@ -1,4 +1,5 @@
 // Each public call once, and lines at the edges of what a reader may hand out.
+use crate::asserts::{same, same_at};
 use crew_io::lines::{Got, LineReader, Progress};
 use crew_io::sink::{MemSink, Sink, StdSink, SteadySink, WriteFault, put_all};
 use crew_io::source::{Failed, MemSource, Source, StdSource, SteadySource};
@@ -57,9 +58,9 @@ fn hands_out_as_much_as_it_may(rt: HostRuntime) -> Result<(), Fail> {
     for (bytes, last) in cases {
         let mut src = MemSource::new(bytes.to_vec(alloc)?, 64, Vec::new(alloc));
         let mut reader = LineReader::open(alloc, 5)?;
-        assert_eq!(rt; reader.advance(&mut src), Progress::Line);
-        assert_eq!(rt; reader.line(), b"abcd".as_slice());
-        assert_eq!(rt; reader.advance(&mut src), last);
+        same(&rt, &reader.advance(&mut src), &Progress::Line);
+        same(&rt, &reader.line(), &b"abcd".as_slice());
+        same(&rt, &reader.advance(&mut src), &last);
     }
     Ok(())
 }
@@ -94,7 +95,7 @@ fn tells_a_line_that_is_too_long(rt: HostRuntime) -> Result<(), Fail> {
         bytes.push(b'\n')?;
         let mut src = SteadySource::new(bytes, 1000);
         let mut reader = LineReader::open(alloc, u64::MAX)?;
-        assert_eq!(rt; reader.advance(&mut src), answer);
+        same_at(&rt, &reader.advance(&mut src), &answer, &len);
     }
     Ok(())
 }
@@ -103,11 +104,11 @@ fn tells_a_line_that_is_too_long(rt: HostRuntime) -> Result<(), Fail> {
 fn sinks_in_memory_fill_and_fail(rt: HostRuntime) -> Result<(), Fail> {
     let alloc = rt.alloc();
     let mut sink = MemSink::new(alloc, 5, 2, [3].to_vec(alloc)?)?;
-    assert_eq!(rt; put_all(&mut sink, b"abc"), Ok(()));
-    assert_eq!(rt; sink.flush(), Err(Failed));
-    assert_eq!(rt; put_all(&mut sink, b"def"), Err(WriteFault));
-    assert_eq!(rt; sink.got(), b"abcde".as_slice());
-    assert_eq!(rt; put_all(&mut SteadySink::new(), b"abc"), Ok(()));
+    same(&rt, &put_all(&mut sink, b"abc"), &Ok(()));
+    same(&rt, &sink.flush(), &Err(Failed));
+    same(&rt, &put_all(&mut sink, b"def"), &Err(WriteFault));
+    same(&rt, &sink.got(), &b"abcde".as_slice());
+    same(&rt, &put_all(&mut SteadySink::new(), b"abc"), &Ok(()));
     Ok(())
 }
 
@@ -115,10 +116,10 @@ fn sinks_in_memory_fill_and_fail(rt: HostRuntime) -> Result<(), Fail> {
 fn writes_through_to_std(rt: HostRuntime) -> Result<(), Fail> {
     let mut bytes = Vec::new(rt.alloc());
     let mut sink = StdSink::new(BufWriter::new(rt.alloc(), &mut bytes)?);
-    assert_eq!(rt; put_all(&mut sink, b"abc"), Ok(()));
-    assert_eq!(rt; sink.flush(), Ok(()));
+    same(&rt, &put_all(&mut sink, b"abc"), &Ok(()));
+    same(&rt, &sink.flush(), &Ok(()));
     drop(sink);
-    assert_eq!(rt; bytes.as_slice(), b"abc".as_slice());
+    same(&rt, &bytes.as_slice(), &b"abc".as_slice());
     Ok(())
 }
 
@@ -129,13 +130,13 @@ fn tells_each_fault_of_a_reader_of_std(rt: HostRuntime) {
         let mut src = StdSource::new(Halting { inner, calls, kind });
         let mut buf = [0u8; 4];
         for _ in 0..2 {
-            assert_eq!(rt; src.read(&mut buf), Ok(1));
-            assert_eq!(rt; src.read(&mut buf), Ok(1));
-            assert_eq!(rt; src.read(&mut buf), Err(Failed));
+            same(&rt, &src.read(&mut buf), &Ok(1));
+            same(&rt, &src.read(&mut buf), &Ok(1));
+            same(&rt, &src.read(&mut buf), &Err(Failed));
         }
-        assert_eq!(rt; src.read(&mut buf), Ok(1));
-        assert_eq!(rt; src.read(&mut buf), Ok(0));
-        assert_eq!(rt; src.read(&mut buf), Err(Failed));
+        same(&rt, &src.read(&mut buf), &Ok(1));
+        same(&rt, &src.read(&mut buf), &Ok(0));
+        same(&rt, &src.read(&mut buf), &Err(Failed));
     }
 }
 
@@ -147,15 +148,15 @@ fn tells_each_fault_of_a_writer_of_std(rt: HostRuntime) -> Result<(), Fail> {
         let writer = BufWriter::with_capacity(rt.alloc(), 0, Halting { inner, calls, kind })?;
         let mut sink = StdSink::new(writer);
         for piece in [b"ab".as_slice(), b"cd".as_slice()] {
-            assert_eq!(rt; sink.write(piece), Ok(1));
-            assert_eq!(rt; sink.flush(), Ok(()));
-            assert_eq!(rt; sink.write(piece), Err(Failed));
-            assert_eq!(rt; sink.write(piece), Ok(1));
-            assert_eq!(rt; sink.write(piece), Ok(1));
-            assert_eq!(rt; sink.flush(), Err(Failed));
+            same(&rt, &sink.write(piece), &Ok(1));
+            same(&rt, &sink.flush(), &Ok(()));
+            same(&rt, &sink.write(piece), &Err(Failed));
+            same(&rt, &sink.write(piece), &Ok(1));
+            same(&rt, &sink.write(piece), &Ok(1));
+            same(&rt, &sink.flush(), &Err(Failed));
         }
         drop(sink);
-        assert_eq!(rt; bytes.as_slice(), b"aaaccc".as_slice());
+        same(&rt, &bytes.as_slice(), &b"aaaccc".as_slice());
     }
     Ok(())
 }

@@ -1,43 +1,59 @@
 // Tests of words, numbers, clocks and rows.
+use crate::asserts::{holds_at, same};
 use field_table::{
     Cause, Cuts, Field, FieldFault, Kind, Row, Schema, Words, fields, read_at, read_clock,
     read_number, write_clock, write_number,
 };
+use std::process::Abort;
 use std::test::Fail;
+
+/// Asserts the words of a line.
+fn assert_words(rt: &impl Abort, cuts: &mut Cuts, line: &[u8], wanted: &[&[u8]]) {
+    assert!(rt; line.len() <= 100);
+    let words = cuts.split(line);
+    same(rt, &words.count(), &wanted.len());
+    for (n, word) in wanted.iter().enumerate() {
+        holds_at(rt, n < words.count() && words.word(n) == *word, &n);
+    }
+}
+
+/// Asserts the numbers of the words of a line, as many as are wanted.
+fn assert_numbers(rt: &impl Abort, cuts: &mut Cuts, line: &[u8], wanted: &[Option<i64>]) {
+    assert!(rt; line.len() <= 100);
+    let words = cuts.split(line);
+    same(rt, &words.count(), &wanted.len());
+    for (n, number) in wanted.iter().enumerate() {
+        holds_at(rt, n < words.count() && words.number(n) == *number, &n);
+    }
+}
 
 #[test]
 fn cuts_at_each_space(rt: HostRuntime) -> Result<(), Fail> {
     let mut cuts = Cuts::new(rt.alloc())?;
-    let words = cuts.split(b"size 4  2 ");
-    assert_eq!(rt; words.count(), 5);
-    assert!(rt; words.word(0) == b"size".as_slice());
-    assert!(rt; words.word(1) == b"4".as_slice());
-    assert!(rt; words.word(2).is_empty());
-    assert!(rt; words.word(3) == b"2".as_slice());
-    assert!(rt; words.word(4).is_empty());
+    assert_words(&rt, &mut cuts, b"size 4  2 ", &[b"size", b"4", b"", b"2", b""]);
     Ok(())
 }
 
 #[test]
 fn reads_each_words_number(rt: HostRuntime) -> Result<(), Fail> {
     let mut cuts = Cuts::new(rt.alloc())?;
-    let words = cuts.split(
+    assert_numbers(
+        &rt,
+        &mut cuts,
         b"size 4 -70 007 9x  999999999999999999 9223372036854775807 9223372036854775808",
+        &[
+            None,
+            Some(4),
+            Some(-70),
+            None,
+            None,
+            None,
+            Some(999_999_999_999_999_999),
+            Some(i64::MAX),
+            None,
+        ],
     );
-    assert_eq!(rt; words.count(), 9);
-    assert_eq!(rt; words.number(0), None);
-    assert_eq!(rt; words.number(1), Some(4));
-    assert_eq!(rt; words.number(2), Some(-70));
-    assert_eq!(rt; words.number(3), None);
-    assert_eq!(rt; words.number(4), None);
-    assert_eq!(rt; words.number(5), None);
-    assert_eq!(rt; words.number(6), Some(999_999_999_999_999_999));
-    assert_eq!(rt; words.number(7), Some(i64::MAX));
-    assert_eq!(rt; words.number(8), None);
-    let words = cuts.split(b"0 -0");
-    assert_eq!(rt; words.count(), 2);
-    assert_eq!(rt; words.number(0), Some(0));
-    assert_eq!(rt; words.number(1), None);
+    assert_numbers(&rt, &mut cuts, b"0 -0", &[Some(0), None]);
     Ok(())
 }
 
@@ -67,10 +83,7 @@ fn reads_the_number_of_each_form_of_word(rt: HostRuntime) -> Result<(), Fail> {
         (b"9999999999999999999", None),
         (b"-9223372036854775808", Some(i64::MIN)),
     ] {
-        assert!(rt; word.len() <= 20);
-        let words = cuts.split(word);
-        assert_eq!(rt; words.count(), 1);
-        assert_eq!(rt; words.number(0), number);
+        assert_numbers(&rt, &mut cuts, word, &[number]);
     }
     Ok(())
 }
@@ -78,33 +91,50 @@ fn reads_the_number_of_each_form_of_word(rt: HostRuntime) -> Result<(), Fail> {
 #[test]
 fn reads_numbers_before_a_space_as_at_the_end(rt: HostRuntime) -> Result<(), Fail> {
     let mut cuts = Cuts::new(rt.alloc())?;
-    let words = cuts.split(b" 123456789012345678 1234567890123456789 10 0 00 2x 3 ");
-    assert_eq!(rt; words.count(), 9);
-    assert_eq!(rt; words.number(0), None);
-    assert_eq!(rt; words.number(1), Some(123_456_789_012_345_678));
-    assert_eq!(rt; words.number(2), Some(1_234_567_890_123_456_789));
-    assert_eq!(rt; words.number(3), Some(10));
-    assert_eq!(rt; words.number(4), Some(0));
-    assert_eq!(rt; words.number(5), None);
-    assert_eq!(rt; words.number(6), None);
-    assert_eq!(rt; words.number(7), Some(3));
-    assert_eq!(rt; words.number(8), None);
-    assert!(rt; words.word(2) == b"1234567890123456789".as_slice());
-    assert!(rt; words.word(6) == b"2x".as_slice());
-    assert!(rt; words.word(8).is_empty());
+    let line = b" 123456789012345678 1234567890123456789 10 0 00 2x 3 ";
+    let number = Some(1_234_567_890_123_456_789);
+    assert_numbers(
+        &rt,
+        &mut cuts,
+        line,
+        &[
+            None,
+            Some(123_456_789_012_345_678),
+            number,
+            Some(10),
+            Some(0),
+            None,
+            None,
+            Some(3),
+            None,
+        ],
+    );
+    let words: [&[u8]; 9] = [
+        b"",
+        b"123456789012345678",
+        b"1234567890123456789",
+        b"10",
+        b"0",
+        b"00",
+        b"2x",
+        b"3",
+        b"",
+    ];
+    assert_words(&rt, &mut cuts, line, &words);
     Ok(())
 }
 
 #[test]
 fn reads_numbers(rt: HostRuntime) {
-    assert_eq!(rt; read_number(b"0"), Some(0));
-    assert_eq!(rt; read_number(b"-1"), Some(-1));
-    assert_eq!(rt;
-        read_number(b"-840000000000000"),
-        Some(-840_000_000_000_000)
-    );
-    assert_eq!(rt; read_number(b"9223372036854775807"), Some(i64::MAX));
-    assert_eq!(rt; read_number(b"-9223372036854775808"), Some(i64::MIN));
+    for (word, number) in [
+        (b"0".as_slice(), 0),
+        (b"-1", -1),
+        (b"-840000000000000", -840_000_000_000_000),
+        (b"9223372036854775807", i64::MAX),
+        (b"-9223372036854775808", i64::MIN),
+    ] {
+        same(&rt, &read_number(word), &Some(number));
+    }
 }
 
 #[test]
@@ -131,10 +161,14 @@ fn refuses_other_spellings_of_numbers(rt: HostRuntime) {
 
 #[test]
 fn reads_clocks(rt: HostRuntime) {
-    assert_eq!(rt; read_clock(b"00:00"), Some(0));
-    assert_eq!(rt; read_clock(b"23:59"), Some(1439));
-    assert_eq!(rt; read_clock(b"48:00"), Some(2880));
-    assert_eq!(rt; read_clock(b"99:59"), Some(5999));
+    for (word, minute) in [
+        (b"00:00", 0),
+        (b"23:59", 1439),
+        (b"48:00", 2880),
+        (b"99:59", 5999),
+    ] {
+        same(&rt, &read_clock(word), &Some(minute));
+    }
 }
 
 #[test]
@@ -162,7 +196,7 @@ fn is_read_back(n: i64, length: usize) -> bool {
 #[test]
 fn writes_numbers(rt: HostRuntime) {
     let mut room = [0u8; 20];
-    assert_eq!(rt; write_number(i64::MIN, &mut room), 20);
+    same(&rt, &write_number(i64::MIN, &mut room), &20);
     assert!(rt; room.as_slice() == b"-9223372036854775808".as_slice());
     assert!(rt; is_read_back(0, 1));
     assert!(rt; is_read_back(-1, 2));
@@ -179,7 +213,7 @@ fn writes_clocks(rt: HostRuntime) {
     assert!(rt; room.as_slice() == b"07:47".as_slice());
     for n in 0..2881u32 {
         write_clock(n, &mut room);
-        assert_eq!(rt; read_clock(&room), Some(n as i64));
+        same(&rt, &read_clock(&room), &Some(n as i64));
     }
 }
 
@@ -220,42 +254,22 @@ fn fault(place: usize, cause: Cause) -> Result<[i64; 3], FieldFault> {
 #[test]
 fn reads_rows(rt: HostRuntime) -> Result<(), Fail> {
     let mut cuts = Cuts::new(rt.alloc())?;
-    assert_eq!(rt; reads(&mut cuts, b"trip LH-42 07:47 -5"), Ok([5, 467, -5]));
-    assert_eq!(rt;
-        reads(&mut cuts, b"trip a 48:00 5 and more"),
-        Ok([1, 2880, 5])
-    );
-    assert_eq!(rt; reads(&mut cuts, b"trip a 48:00"), fault(3, Cause::Count));
-    assert_eq!(rt; reads(&mut cuts, b""), fault(1, Cause::Count));
-    assert_eq!(rt;
-        reads(&mut cuts, b"trip LH*42 07:60 05"),
-        fault(1, Cause::Spelling)
-    );
-    assert_eq!(rt;
-        reads(&mut cuts, b"trip a 48:01 05"),
-        fault(2, Cause::Range)
-    );
-    assert_eq!(rt;
-        reads(&mut cuts, b"trip a 99:60 6"),
-        fault(2, Cause::Spelling)
-    );
-    assert_eq!(rt; reads(&mut cuts, b"trip a 00:00 6"), fault(3, Cause::Range));
-    assert_eq!(rt;
-        reads(&mut cuts, b"trip a 00:00 -6"),
-        fault(3, Cause::Range)
-    );
-    assert_eq!(rt;
-        reads(&mut cuts, b"trip a 00:00 06"),
-        fault(3, Cause::Spelling)
-    );
-    assert_eq!(rt;
-        reads(&mut cuts, b"trip a 00:00 9223372036854775808"),
-        fault(3, Cause::Spelling)
-    );
-    assert_eq!(rt;
-        reads(&mut cuts, b"trip  00:00 0"),
-        fault(1, Cause::Spelling)
-    );
+    for (line, told) in [
+        (b"trip LH-42 07:47 -5".as_slice(), Ok([5, 467, -5])),
+        (b"trip a 48:00 5 and more", Ok([1, 2880, 5])),
+        (b"trip a 48:00", fault(3, Cause::Count)),
+        (b"", fault(1, Cause::Count)),
+        (b"trip LH*42 07:60 05", fault(1, Cause::Spelling)),
+        (b"trip a 48:01 05", fault(2, Cause::Range)),
+        (b"trip a 99:60 6", fault(2, Cause::Spelling)),
+        (b"trip a 00:00 6", fault(3, Cause::Range)),
+        (b"trip a 00:00 -6", fault(3, Cause::Range)),
+        (b"trip a 00:00 06", fault(3, Cause::Spelling)),
+        (b"trip a 00:00 9223372036854775808", fault(3, Cause::Spelling)),
+        (b"trip  00:00 0", fault(1, Cause::Spelling)),
+    ] {
+        same(&rt, &reads(&mut cuts, line), &told);
+    }
     Ok(())
 }
 
@@ -263,13 +277,13 @@ fn reads_rows(rt: HostRuntime) -> Result<(), Fail> {
 fn reads_a_word_alone(rt: HostRuntime) -> Result<(), Fail> {
     let mut cuts = Cuts::new(rt.alloc())?;
     let words = cuts.split(b"07:47 3");
-    assert_eq!(rt; read_at(&words, 0, &MINUTE), Ok(467));
-    assert_eq!(rt; read_at(&words, 1, &LEVEL), Ok(3));
+    same(&rt, &read_at(&words, 0, &MINUTE), &Ok(467));
+    same(&rt, &read_at(&words, 1, &LEVEL), &Ok(3));
     let fault = FieldFault {
         place: 1,
         cause: Cause::Spelling,
     };
-    assert_eq!(rt; read_at(&words, 1, &MINUTE), Err(fault));
+    same(&rt, &read_at(&words, 1, &MINUTE), &Err(fault));
     Ok(())
 }
 
@@ -287,15 +301,15 @@ fn start_or_place(words: &impl Words) -> Result<i64, usize> {
 fn names_its_fields(rt: HostRuntime) -> Result<(), Fail> {
     let mut cuts = Cuts::new(rt.alloc())?;
     let words = cuts.split(b"do 4 07:47");
-    assert_eq!(rt; task_and_start(&words, 5), Ok((4, 467)));
+    same(&rt, &task_and_start(&words, 5), &Ok((4, 467)));
     let fault = FieldFault {
         place: 1,
         cause: Cause::Range,
     };
-    assert_eq!(rt; task_and_start(&words, 4), Err(fault));
-    assert_eq!(rt; start_or_place(&words), Ok(471));
+    same(&rt, &task_and_start(&words, 4), &Err(fault));
+    same(&rt, &start_or_place(&words), &Ok(471));
     let words = cuts.split(b"do 4 07:7");
-    assert_eq!(rt; start_or_place(&words), Err(2));
+    same(&rt, &start_or_place(&words), &Err(2));
     Ok(())
 }
 
@@ -305,9 +319,13 @@ const DAY: Schema = Schema {
 
 #[test]
 fn finds_keys(rt: HostRuntime) {
-    assert_eq!(rt; DAY.find(b"PLACE"), Some(0));
-    assert_eq!(rt; DAY.find(b"TRAVEL"), Some(1));
-    assert_eq!(rt; DAY.find(b"TASK"), Some(2));
-    assert_eq!(rt; DAY.find(b"TASKS"), None);
-    assert_eq!(rt; DAY.find(b""), None);
+    for (key, place) in [
+        (b"PLACE".as_slice(), Some(0)),
+        (b"TRAVEL", Some(1)),
+        (b"TASK", Some(2)),
+        (b"TASKS", None),
+        (b"", None),
+    ] {
+        same(&rt, &DAY.find(key), &place);
+    }
 }

@@ -1,5 +1,5 @@
 -- the rules by which a node is split
-use Rattle.std.specs.Prelude.{◌≡◌, ◌≤◌, ◌<◌, ◌+◌, ◌/◌, ℕ, List}
+use Rattle.std.specs.Prelude.{◌≡◌, ◌≤◌, ◌<◌, ◌+◌, ◌/◌, ◌⊎◌, ℕ, List}
 use Rattle.crew_terms.specs.Limits.{Limits, tasks_in, window_of}
 use Rattle.crew_terms.specs.Tree.{IsFreePair}
 use Rattle.crew_terms.specs.declared.Choice.{Choice}
@@ -13,6 +13,10 @@ pub record IsLowest (Holds : ℕ → Type 0) (j : ℕ) : Type 0 where
   pub holds : Holds j
   pub lowest : (h : ℕ) → Holds h → j ≤ h
 
+-- the pair of team k and task j is lower than that of team g and task h, by task and then by team
+abbrev pub IsPairBelow : ℕ → ℕ → ℕ → ℕ → Type 0
+IsPairBelow k j g h = (j < h) ⊎ ((j ≡ h) × (k < g))
+
 -- of the pairs of a team and a task of which the fact holds, this one has the lowest task, and then the lowest team
 pub record IsLowestPair (Holds : ℕ → ℕ → Type 0) (k j : ℕ) : Type 0 where
   pub holds : Holds k j
@@ -20,7 +24,7 @@ pub record IsLowestPair (Holds : ℕ → ℕ → Type 0) (k j : ℕ) : Type 0 wh
   pub team : (g : ℕ) → Holds g j → k ≤ g
 
 -- the window of task j is wider than one minute
-pub record IsWide (n : Limits) (j : ℕ) : Type 0 where
+pub record IsWideWindow (n : Limits) (j : ℕ) : Type 0 where
   pub task : j < tasks_in n
   pub wide : (window_of n j).0 < (window_of n j).1
 
@@ -44,7 +48,7 @@ pub record IsUsesCut (uses : List Use) (j cut : ℕ) : Type 0 where
 
 -- task j is the lowest with a window wider than one minute, and the cut is half the sum of its ends
 pub record IsWindowCut (n : Limits) (j cut : ℕ) : Type 0 where
-  pub task : IsLowest (IsWide n) j
+  pub task : IsLowest (IsWideWindow n) j
   pub half : cut ≡ ((window_of n j).0 + (window_of n j).1) / 2
 
 -- no task has uses at two minutes

@@ -66,7 +66,8 @@ fn middle(ends: Option<Ends>) -> Option<u32>
 /// The lowest task with uses at two minutes, and the cut between them.
 pub(crate) fn uses_cut(limits: &Limits<'_>, uses: &[Use]) -> Option<(u32, u32)>
     requires { All (IsPermittedUse limits.now.limits) uses.now }
-    ensures { MatchOption result (HaveOneStart uses.now) (λ found. IsUsesCut uses.now found.0 found.1) }
+    ensures { MatchOption result (HaveOneStart uses.now)
+        (λ found. IsUsesCut uses.now found.0 found.1) }
 {
     let tasks = limits.instance().tasks();
     let ends = ends_by_task(uses);

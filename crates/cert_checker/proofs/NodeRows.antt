@@ -20,7 +20,9 @@ use Rattle.crew_terms.specs.declared.Side.{Side}
 use Rattle.crew_terms.specs.declared.Side.TheVariants.{First, Second}
 use Rattle.crew_terms.specs.declared.TheConstants.{LAST_MINUTE}
 use Rattle.dossier_terms.specs.Rules.{Holds, Fails, Spelled, Then, Else, On, Begins}
-use Rattle.dossier_terms.specs.Table.{IsCounts, Says, node_row, after_bare, after_leaf, HasSplitRoom, after_split, split_fault}
+use Rattle.dossier_terms.specs.Ranges.{IsCounts}
+use Rattle.dossier_terms.specs.Table.{Says}
+use Rattle.dossier_terms.specs.NodeTable.{node_row, after_bare, after_leaf, HasSplitRoom, after_split, split_fault}
 use Rattle.node_limits.specs.Trail.{Trail}
 use Rattle.node_limits.specs.Rest.{Rest, IsRestOver, trail_over}
 use Rattle.tree_walk.specs.Way.{Walked, IsAt, IsLeaf, LeavesLeaf, Enters, branch_of}

@@ -15,7 +15,8 @@ use Rattle.dossier_terms.specs.declared.Reason.TheVariants as reasons
 use Rattle.dossier_terms.specs.Lines.{plan_line, do_line}
 use Rattle.dossier_terms.specs.Reading.{Answer, More as Goes, Jobs, Trees, jobs_due, Begun}
 use Rattle.dossier_terms.specs.Rules.{Must, Holds, HoldsBy, FailsBy, Spelled, On}
-use Rattle.dossier_terms.specs.Table.{IsDoLine, plan_row, job_row, after_job}
+use Rattle.dossier_terms.specs.Ranges.{IsDoLine}
+use Rattle.dossier_terms.specs.BodyTable.{plan_row, job_row, after_job}
 use Rattle.head_check.specs.Numbers.{naturals, AreBelow}
 use Rattle.cert_checker.specs.Due.{IsBegun, Tells, draft_of}
 use Rattle.cert_checker.specs.declared.due.BegunDossier.{BegunDossier as Held}

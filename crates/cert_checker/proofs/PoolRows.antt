@@ -16,7 +16,8 @@ use Rattle.dossier_terms.specs.declared.Reason.TheVariants as reasons
 use Rattle.dossier_terms.specs.Lines.{pool_line, route_line, visit_words}
 use Rattle.dossier_terms.specs.Reading.{More as Goes, No as Refuses, routes_due, Begun}
 use Rattle.dossier_terms.specs.Rules.{Holds, Fails, Spelled, On, Begins}
-use Rattle.dossier_terms.specs.Table.{IsRouteLine, IsPairs, pool_row, route_row, begin}
+use Rattle.dossier_terms.specs.Ranges.{IsRouteLine, IsPairs}
+use Rattle.dossier_terms.specs.BodyTable.{pool_row, route_row, begin}
 use Rattle.dossier_terms.specs.Counted.{route_pairs}
 use Rattle.node_limits.specs.Rest.{NodeState, Rest, IsRestOver, limits_over, trail_over}
 use Rattle.node_limits.specs.Trail.{Trail}

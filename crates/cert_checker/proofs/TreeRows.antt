@@ -9,7 +9,8 @@ use Rattle.dossier_terms.specs.Lines.{tree_line}
 use Rattle.dossier_terms.specs.Reading.{Answer, More as Goes, No as Refuses, Nodes, Begun}
 use Rattle.crew_terms.specs.declared.TreeCounts.{TreeCounts}
 use Rattle.dossier_terms.specs.Rules.{Holds, Spelled, On}
-use Rattle.dossier_terms.specs.Table.{IsCounts, tree_row, after_counts}
+use Rattle.dossier_terms.specs.Ranges.{IsCounts}
+use Rattle.dossier_terms.specs.BodyTable.{tree_row, after_counts}
 use Rattle.node_limits.specs.Rest.{Rest, limits_over, trail_over}
 use Rattle.node_limits.specs.Trail.{Trail}
 use Rattle.tree_walk.specs.Way.{Walked, IsAt}

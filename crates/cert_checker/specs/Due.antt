@@ -7,7 +7,8 @@ use Rattle.crew_terms.specs.Limits.{Limits as NodeLimits, root_limits}
 use Rattle.crew_terms.specs.Verdict.{IsPlanOf}
 use Rattle.dossier_terms.specs.Dossier.{Dossier, Written}
 use Rattle.dossier_terms.specs.Reading.{Reading, Answer, More as Goes, Whole as Ends, No as Refuses, whole, limits_of, Pools, Routes, Plans, Jobs, Trees, Nodes, Ends as EndDue, Begun as Read, Above, LeafSite}
-use Rattle.dossier_terms.specs.Table.{IsCounts, Says}
+use Rattle.dossier_terms.specs.Ranges.{IsCounts}
+use Rattle.dossier_terms.specs.Table.{Says}
 use Rattle.node_limits.specs.Rest.{Rest, IsRestOver, limits_over, trail_over}
 use Rattle.head_check.specs.Head.{Holds as HoldsHead, IsLineDue, reading_of}
 use Rattle.leaf_check.specs.Reader.{IsReady, StandsFor}

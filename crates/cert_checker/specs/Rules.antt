@@ -5,7 +5,7 @@ use Rattle.dossier_terms.specs.declared.Reason.TheVariants.{Pool}
 use Rattle.dossier_terms.specs.Reading.{Answer, No as Refuses, Nodes, routes_due, Begun}
 use Rattle.crew_terms.specs.declared.TreeCounts.{TreeCounts}
 use Rattle.dossier_terms.specs.Rules.{Goes}
-use Rattle.dossier_terms.specs.Table.{after_counts}
+use Rattle.dossier_terms.specs.BodyTable.{after_counts}
 use Rattle.route_pool.specs.declared.pool.PoolVerdict.{PoolVerdict}
 use Rattle.route_pool.specs.declared.pool.PoolVerdict.TheVariants.{Added, NotRoute, Repeated}
 use Rattle.cert_checker.specs.Due.{Awaits, draft_of}

@@ -8,7 +8,7 @@ ghost use Rattle.leaf_check.specs.Reader.{IsReady, StandsFor};
 ghost use Rattle.crew_terms.specs.Tree.{CanSplit, IsFreePair};
 ghost use Rattle.tree_walk.specs.Way.{IsLeaf};
 ghost use Rattle.cert_checker.specs.Due.{Awaits, HasLeafRoom, HasSplitLeft, IsAwaited, IsInTree, IsKnown, IsAtNode, IsReaderFor, IsStep, Tells, draft_of};
-ghost use Rattle.dossier_terms.specs.Table.{after_bare, after_leaf, after_split, split_fault};
+ghost use Rattle.dossier_terms.specs.NodeTable.{after_bare, after_leaf, after_split, split_fault};
 
 use crate::due::{Due, Step, TreeDraft};
 use cert_format::{Expect, LineKind, fault_is_refused, read_line};

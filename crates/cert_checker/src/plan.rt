@@ -1,7 +1,7 @@
 // The lines of a plan: `plan`, and each `do`.
 ghost use Rattle.std.specs.Prelude.{IfOk};
 ghost use Rattle.dossier_terms.specs.Reading.{jobs_due};
-ghost use Rattle.dossier_terms.specs.Table.{after_job};
+ghost use Rattle.dossier_terms.specs.BodyTable.{after_job};
 ghost use Rattle.cert_checker.specs.Due.{Awaits, IsAwaited, IsBegun, IsStep, Tells, draft_of};
 
 use crate::due::{BegunDossier, Due, Step};

@@ -1,7 +1,7 @@
 // The lines of a pool: `pool`, and each `route`.
 ghost use Rattle.std.specs.Prelude.{◌≡◌, ℕ, pos, IfOk};
 ghost use Rattle.dossier_terms.specs.Reading.{routes_due};
-ghost use Rattle.dossier_terms.specs.Table.{begin};
+ghost use Rattle.dossier_terms.specs.BodyTable.{begin};
 ghost use Rattle.cert_checker.specs.Due.{Awaits, IsAwaited, IsBegun, IsStep, draft_of};
 ghost use Rattle.cert_checker.specs.Rules.{TellsRoute};
 

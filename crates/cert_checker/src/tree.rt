@@ -1,6 +1,6 @@
 // The line `tree`: the numbers of a branch tree.
 ghost use Rattle.std.specs.Prelude.{◌≡◌, [], IfOk};
-ghost use Rattle.dossier_terms.specs.Table.{IsCounts};
+ghost use Rattle.dossier_terms.specs.Ranges.{IsCounts};
 ghost use Rattle.cert_checker.specs.Due.{IsAwaited, IsAtNode, IsRoot, IsStep, draft_of};
 ghost use Rattle.cert_checker.specs.Rules.{IsTreeFault};
 

@@ -1,20 +1,25 @@
 -- a fault of the line that is due is told by its row of the table
 use Rattle.std.proofs.Common.{◌≡◌, ℕ, true, false, List, [], ◌∷◌, length, map, ap, sym, refl, ◌∙◌, arith, ◌⊎◌, inl, inr}
-use Rattle.std.specs.Prelude.{pos, codes}
+use Rattle.std.specs.Prelude.{ℤ, pos, codes}
 use Rattle.std.specs.Str.{bytes_eq}
 use Rattle.std.proofs.lemmas.Slice.Eq.{bytes_eq-Decides}
 use Rattle.std.proofs.lemmas.Bool.{cases_Bool}
 use Rattle.crew_terms.specs.Words.{Words}
 use Rattle.dossier_terms.specs.Rules.{Holds, Fails, Unspelled, Then, Else, IsShape, Begins}
-use Rattle.dossier_terms.specs.Reading.{Reading, No as Refuses, Form, Sizes, Places, Travels, Teams, Tasks, Pools, Routes, Plans, Jobs, Trees, Nodes, Prices, Extras, Worths, Phis, Ends}
+use Rattle.dossier_terms.specs.Reading.{Reading, Answer, No as Refuses, Form, Sizes, Places, Travels, Teams, Tasks, Frozens, Keeps, Pools, Routes, Plans, Jobs, Trees, Nodes, Whys, Prices, Extras, Worths, Phis, Ends, limits_of}
+use Rattle.dossier_terms.specs.declared.DossierForm.{DossierForm}
+use Rattle.dossier_terms.specs.declared.DossierForm.TheVariants.{One, Two}
+use Rattle.dossier_terms.specs.LeafTable.{potentials_row}
 use Rattle.dossier_terms.specs.Table.{Says}
 use Rattle.std.specs.List.{flat_map}
-use Rattle.cert_format.specs.Fields.{visit_numbers}
+use Rattle.crew_terms.specs.Limits.{Limits}
+use Rattle.crew_terms.specs.Minutes.{minute_count}
+use Rattle.cert_format.specs.Fields.{visit_numbers, run_numbers}
 use Rattle.cert_format.specs.Lines.{IsFaultOf, HasNodeShape, WindowShape, PairShape, BareShape, OpenShape, ClosedShape}
 use Rattle.cert_format.specs.declared.kinds.LineKind.TheVariants as kinds
 use Rattle.cert_format.specs.declared.kinds.LineFault.{LineFault}
 use Rattle.cert_format.specs.declared.kinds.LineFault.TheVariants.{Shape, Number, Name}
-use Rattle.cert_format.specs.Expected.{expect_of, reason_for}
+use Rattle.cert_format.specs.Expected.{expect_of, potentials_expect, reason_for}
 
 -- whether a line begins with a word
 begins : (w : List ℕ) (ws : Words) → Begins w ws ⊎ (Begins w ws → ⊥)
@@ -43,30 +48,47 @@ not_both v w ws differ a b = differ (let e = a.1 in let f = b.1 in cc)
 pair_not_window : codes "pair" ≡ codes "window" → ⊥
 pair_not_window e = let f : ◌≡◌ {A = ℕ} 112 119 = cc in absurd (omega arith)
 
+-- a fault of a line of potentials
+potentials_fault : (form : DossierForm) (n : Limits) (k j : ℕ) (ws : Words) (rest : List ℤ → Answer → Type 0) (fault : LineFault)
+    → IsFaultOf (potentials_expect form j (minute_count n k j)) ws fault → potentials_row form n k j ws rest (Refuses (reason_for fault))
+potentials_fault One n k j ws rest Shape h = Fails h refl
+potentials_fault One n k j ws rest Number h = Holds h.0 (Unspelled (λ vs fits is. h.2 (kinds.Phi j vs) (refl, fits, is)) refl)
+potentials_fault One n k j ws rest Name h = absurd (h.1 tt)
+potentials_fault Two n k j ws rest Shape h = Fails h refl
+potentials_fault Two n k j ws rest Number h = Holds h.0 (Unspelled (λ runs fits is. h.2 (kinds.Steps j (flat_map run_numbers runs)) (runs, refl, refl, fits, is)) refl)
+potentials_fault Two n k j ws rest Name h = absurd (h.1 tt)
+
 pub fault_says : (due : Reading) (ws : Words) (fault : LineFault) → IsFaultOf (expect_of due) ws fault → Says due ws (Refuses (reason_for fault))
-fault_says Form ws Shape h = Fails h refl
-fault_says Form ws Number h = absurd (h.2 kinds.Form h.0)
+fault_says Form ws Shape h = Unspelled (λ form fits is. h (form, is)) refl
+fault_says Form ws Number h = absurd (h.2 (kinds.Form h.0.0) h.0.1)
 fault_says Form ws Name h = absurd (h.1 tt)
-fault_says Sizes ws Shape h = Fails h refl
-fault_says Sizes ws Number h = Holds h.0 (Unspelled (λ z fits is. h.2 (kinds.Size z) (fits, is)) refl)
-fault_says Sizes ws Name h = absurd (h.1 tt)
-fault_says (Places z k i) ws Shape h = Fails h refl
-fault_says (Places z k i) ws Number h = absurd (h.2 (kinds.Place h.1.0) (h.1.1, h.1.2))
-fault_says (Places z k i) ws Name h = Holds h.0 (Unspelled (λ name fits is. h.1 (name, fits, is)) refl)
-fault_says (Travels z k i) ws Shape h = Fails h refl
-fault_says (Travels z k i) ws Number h = Holds h.0 (Unspelled (λ row fits is. h.2 (kinds.Travel (map pos row)) (row, refl, fits, is)) refl)
-fault_says (Travels z k i) ws Name h = absurd (h.1 tt)
-fault_says (Teams z k i) ws Shape h = Fails h refl
-fault_says (Teams z k i) ws Number h = Holds h.0 (Holds h.1 (Unspelled (λ p fits is. h.2 (kinds.Team p.0.name p.0.home p.0.from p.0.until (map pos p.1))
+fault_says (Sizes form) ws Shape h = Fails h refl
+fault_says (Sizes form) ws Number h = Holds h.0 (Unspelled (λ z fits is. h.2 (kinds.Size z) (fits, is)) refl)
+fault_says (Sizes form) ws Name h = absurd (h.1 tt)
+fault_says (Places o k i) ws Shape h = Fails h refl
+fault_says (Places o k i) ws Number h = absurd (h.2 (kinds.Place h.1.0) (h.1.1, h.1.2))
+fault_says (Places o k i) ws Name h = Holds h.0 (Unspelled (λ name fits is. h.1 (name, fits, is)) refl)
+fault_says (Travels o k i) ws Shape h = Fails h refl
+fault_says (Travels o k i) ws Number h = Holds h.0 (Unspelled (λ row fits is. h.2 (kinds.Travel (map pos row)) (row, refl, fits, is)) refl)
+fault_says (Travels o k i) ws Name h = absurd (h.1 tt)
+fault_says (Teams o k i) ws Shape h = Fails h refl
+fault_says (Teams o k i) ws Number h = Holds h.0 (Holds h.1 (Unspelled (λ p fits is. h.2 (kinds.Team p.0.name p.0.home p.0.from p.0.until (map pos p.1))
     (p.1, refl, record { name = fits.name; home = fits.home; from = fits.from; until = fits.until; none = refl; skills = fits.skills }, is)) refl))
-fault_says (Teams z k i) ws Name h = Holds h.0 (Fails h.1 refl)
-fault_says (Tasks z k i) ws Shape h = Fails h refl
-fault_says (Tasks z k i) ws Number h = Holds h.0 (Holds h.1 (Unspelled (λ p fits is. h.2 (kinds.Task p.0.name p.0.place p.0.earliest p.0.latest p.0.minutes p.0.teams (map pos p.1))
+fault_says (Teams o k i) ws Name h = Holds h.0 (Fails h.1 refl)
+fault_says (Tasks o k i) ws Shape h = Fails h refl
+fault_says (Tasks o k i) ws Number h = Holds h.0 (Holds h.1 (Unspelled (λ p fits is. h.2 (kinds.Task p.0.name p.0.place p.0.earliest p.0.latest p.0.minutes p.0.teams (map pos p.1))
     (p.1, refl, record { name = fits.name; place = fits.place; earliest = fits.earliest; latest = fits.latest; some_minutes = fits.some_minutes; minutes = fits.minutes; teams = fits.teams; none = refl; skills = fits.skills }, is)) refl))
-fault_says (Tasks z k i) ws Name h = Holds h.0 (Fails h.1 refl)
-fault_says (Pools i budget) ws Shape h = Fails h refl
-fault_says (Pools i budget) ws Number h = Holds h.0 (Unspelled (λ p fits is. h.2 (kinds.Pool (pos p.0) (pos p.1)) (p.0, p.1, refl, refl, fits.0, fits.1, is)) refl)
-fault_says (Pools i budget) ws Name h = absurd (h.1 tt)
+fault_says (Tasks o k i) ws Name h = Holds h.0 (Fails h.1 refl)
+fault_says (Frozens o i) ws Shape h = Fails h refl
+fault_says (Frozens o i) ws Number h = Holds h.0 (Unspelled (λ count fits is. h.2 (kinds.Frozen count) (fits, is)) refl)
+fault_says (Frozens o i) ws Name h = absurd (h.1 tt)
+fault_says (Keeps o k from i) ws Shape h = Fails h refl
+fault_says (Keeps o k from i) ws Number h = Holds h.0 (Unspelled (λ p fits is. h.2 (kinds.Keep p.0 p.1.start (map pos p.1.teams))
+    (p.1.teams, refl, record { task = fits.task; start = fits.start; teams = fits.teams }, is)) refl)
+fault_says (Keeps o k from i) ws Name h = absurd (h.1 tt)
+fault_says (Pools form i budget) ws Shape h = Fails h refl
+fault_says (Pools form i budget) ws Number h = Holds h.0 (Unspelled (λ p fits is. h.2 (kinds.Pool (pos p.0) (pos p.1)) (p.0, p.1, refl, refl, fits.0, fits.1, is)) refl)
+fault_says (Pools form i budget) ws Name h = absurd (h.1 tt)
 fault_says (Routes b k) ws Shape h = Fails h refl
 fault_says (Routes b k) ws Number h = Holds h.0 (Unspelled (λ r fits is. h.2 (kinds.Route r.team (map pos (flat_map visit_numbers r.visits)))
     (r.visits, refl, record { team = fits.team; some = fits.some; tasks = fits.tasks; starts = fits.starts }, is)) refl)
@@ -101,18 +123,19 @@ fault_says (Nodes b c above) ws Number h = at h.0
     at (OpenShape e) = absurd (h.2 kinds.LeafOpen e)
     at (ClosedShape e) = absurd (h.2 kinds.LeafClosed e)
 fault_says (Nodes b c above) ws Name h = absurd (h.1 tt)
+fault_says (Whys b c above choice) ws Shape h = Fails h refl
+fault_says (Whys b c above choice) ws Number h = absurd (h.2 kinds.WhyNone h.0)
+fault_says (Whys b c above choice) ws Name h = absurd (h.1 tt)
 fault_says (Prices a) ws Shape h = Fails h refl
 fault_says (Prices a) ws Number h = Holds h.0 (Unspelled (λ vs fits is. h.2 (kinds.Price vs) (fits, is)) refl)
 fault_says (Prices a) ws Name h = absurd (h.1 tt)
-fault_says (Extras a prices rows j js) ws Shape h = Fails h refl
-fault_says (Extras a prices rows j js) ws Number h = Holds h.0 (Unspelled (λ vs fits is. h.2 (kinds.Extra j vs) (refl, fits, is)) refl)
-fault_says (Extras a prices rows j js) ws Name h = absurd (h.1 tt)
-fault_says (Worths a prices extras tables k) ws Shape h = Fails h refl
-fault_says (Worths a prices extras tables k) ws Number h = Holds h.0 (Unspelled (λ v fits is. h.2 (kinds.Worth v) (fits, is)) refl)
-fault_says (Worths a prices extras tables k) ws Name h = absurd (h.1 tt)
-fault_says (Phis a prices extras tables k worth rows j js) ws Shape h = Fails h refl
-fault_says (Phis a prices extras tables k worth rows j js) ws Number h = Holds h.0 (Unspelled (λ vs fits is. h.2 (kinds.Phi j vs) (refl, fits, is)) refl)
-fault_says (Phis a prices extras tables k worth rows j js) ws Name h = absurd (h.1 tt)
+fault_says (Extras a leaf j js) ws Shape h = Fails h refl
+fault_says (Extras a leaf j js) ws Number h = Holds h.0 (Unspelled (λ vs fits is. h.2 (kinds.Extra j vs) (refl, fits, is)) refl)
+fault_says (Extras a leaf j js) ws Name h = absurd (h.1 tt)
+fault_says (Worths a leaf k) ws Shape h = Fails h refl
+fault_says (Worths a leaf k) ws Number h = Holds h.0 (Unspelled (λ v fits is. h.2 (kinds.Worth v) (fits, is)) refl)
+fault_says (Worths a leaf k) ws Name h = absurd (h.1 tt)
+fault_says (Phis a leaf k table j js) ws fault h = potentials_fault a.begun.form (limits_of a) (length leaf.tables) j ws _ fault h
 fault_says (Ends b c t) ws Shape h = Fails h refl
 fault_says (Ends b c t) ws Number h = absurd (h.2 kinds.End h.0)
 fault_says (Ends b c t) ws Name h = absurd (h.1 tt)

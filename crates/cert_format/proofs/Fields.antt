@@ -12,13 +12,9 @@ use Rattle.field_table.specs.declared.fields.Kind.TheVariants.{Number}
 use Rattle.field_table.specs.declared.fields.Field.{Field}
 use Rattle.cert_format.specs.declared.kinds.LineFault.{LineFault}
 use Rattle.cert_format.specs.declared.kinds.LineFault.TheVariants.{Number as BadNumber}
-use Rattle.cert_format.specs.Fields.{IsIn, SpellIn, SpellBelow}
+use Rattle.cert_format.specs.Fields.{IsIn, SpellIn, SpellBelow, SpellsOne}
 use Rattle.cert_format.proofs.Rests.{signed_map}
 use Rattle.cert_format.proofs.Accepted.{cast, number_field, number_read}
-
--- the word spells a number in the field's range
-abbrev pub SpellsOne : Field → List ℕ → Type 0
-SpellsOne field w = (n : ℤ) × IsIn field n × (w ≡ signed_decimal n)
 
 pub spelled_at : (field : Field) (ns : List ℤ) → AllByRecursion (IsIn field) ns → (k : ℕ) → k < length ns → SpellsOne field (get_or (map signed_decimal ns) k [])
 spelled_at field [] all k h = absurd (omega arith)

@@ -12,7 +12,7 @@ use Rattle.crew_terms.specs.declared.Visit.{Visit}
 use Rattle.crew_terms.specs.declared.TheConstants.{MOST_PRICE}
 use Rattle.dossier_terms.specs.Dossier.{IsWorthNumber, IsSigned}
 use Rattle.dossier_terms.specs.Rules.{IsShape, Begins}
-use Rattle.dossier_terms.specs.Table.{AreNumbers, IsPairs}
+use Rattle.dossier_terms.specs.Ranges.{AreNumbers, IsPairs}
 use Rattle.dossier_terms.specs.Lines.{route_line, visit_words}
 use Rattle.field_table.specs.Fields.{AreValues}
 use Rattle.field_table.specs.declared.fields.Field.{Field}
@@ -20,7 +20,7 @@ use Rattle.field_table.specs.declared.fields.Kind.TheVariants.{Number}
 use Rattle.cert_format.specs.declared.kinds.LineKind.{LineKind}
 use Rattle.cert_format.specs.declared.kinds.LineKind.TheVariants as kinds
 use Rattle.cert_format.specs.Fields.{IsIn, SpellIn, SpellVisits, IsRowOf}
-use Rattle.dossier_terms.specs.Table.{IsRouteLine}
+use Rattle.dossier_terms.specs.Ranges.{IsRouteLine}
 use Rattle.dossier_terms.specs.Counted.{visits_length}
 use Rattle.cert_format.specs.Lines.{IsRouteOf, IsPriceLine, IsExtraLine, IsWorthLine, IsPhiLine}
 use Rattle.cert_format.proofs.Accepted.{cast, number_field, row_of}
@@ -48,7 +48,7 @@ price_in n is = record { fits = price_fits n is; low = is.least; high = is.most 
 in_price : (n : ℤ) → IsIn price_field n → IsPrice n
 in_price n is = record { least = is.low; most = is.high }
 
-signed_in : (n : ℤ) → IsSigned n → IsIn potential_field n
+pub signed_in : (n : ℤ) → IsSigned n → IsIn potential_field n
 signed_in n is = record { fits = is; low = grind (arith, ints, is); high = grind (arith, ints, is) }
 
 in_signed : (n : ℤ) → IsIn potential_field n → IsSigned n

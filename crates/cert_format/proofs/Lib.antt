@@ -8,6 +8,8 @@ pub mod Accepted
 pub mod Wrong
 pub mod LeafLines
 pub mod NodeLines
+pub mod Pairs
+pub mod Runs
 pub mod OneAnswer
 pub mod ReadBack
 pub mod Faults

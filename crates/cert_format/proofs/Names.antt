@@ -11,15 +11,14 @@ use Rattle.cert_format.specs.declared.kinds.LineKind.TheVariants as kinds
 use Rattle.cert_format.specs.declared.kinds.Expect.{Expect}
 use Rattle.cert_format.specs.declared.kinds.LineFault.{LineFault}
 use Rattle.cert_format.specs.declared.kinds.LineFault.TheVariants.{Number}
-use Rattle.cert_format.specs.Fields.{IsIn}
+use Rattle.cert_format.specs.Fields.{IsIn, SpellsOne}
 use Rattle.cert_format.specs.Lines.{IsTeamOf, IsTaskOf, HasShape, HasNames, IsLineOf, IsFaultOf}
 use Rattle.cert_format.proofs.Accepted.{number_field, last_of, last_below}
-use Rattle.cert_format.proofs.Fields.{SpellsOne}
 
 abbrev pub minute_field : Field
 minute_field = number_field 0 (pos LAST_MINUTE)
 
-spells : (field : Field) (w : List ℕ) (n : ℕ) → field.low ≤ℤ pos n → pos n ≤ℤ field.high → n < 2 ^ 63 → w ≡ decimal n → SpellsOne field w
+pub spells : (field : Field) (w : List ℕ) (n : ℕ) → field.low ≤ℤ pos n → pos n ≤ℤ field.high → n < 2 ^ 63 → w ≡ decimal n → SpellsOne field w
 spells field w n low high small is = (pos n, record { fits = record { sfits = small }; low = low; high = high }, is)
 
 -- each number of a line of a team lies in the range of its field

@@ -12,8 +12,11 @@ use Rattle.crew_terms.specs.Name.{IsName}
 use Rattle.crew_terms.specs.Leaf.{IsPrice}
 use Rattle.crew_terms.specs.declared.Visit.{Visit}
 use Rattle.crew_terms.specs.declared.TreeCounts.{TreeCounts}
+use Rattle.dossier_terms.specs.declared.DossierForm.{DossierForm}
+use Rattle.dossier_terms.specs.declared.DossierForm.TheVariants.{One, Two}
 use Rattle.dossier_terms.specs.declared.Size.{Size}
-use Rattle.dossier_terms.specs.Counted.{visits_length}
+use Rattle.dossier_terms.specs.Lines.{form_line}
+use Rattle.dossier_terms.specs.Counted.{visits_length, runs_length}
 use Rattle.crew_terms.specs.declared.TheConstants.{SKILLS, LAST_MINUTE}
 use Rattle.cert_format.specs.declared.kinds.Expect.{Expect}
 use Rattle.cert_format.specs.declared.kinds.Expect.TheVariants as expected
@@ -21,11 +24,12 @@ use Rattle.cert_format.specs.declared.kinds.LineKind.{LineKind}
 use Rattle.cert_format.specs.declared.kinds.LineKind.TheVariants as kinds
 use Rattle.cert_format.specs.declared.kinds.LineFault.{LineFault}
 use Rattle.cert_format.specs.declared.kinds.LineFault.TheVariants.{Shape, Number, Name}
-use Rattle.cert_format.specs.Lines.{IsFormLine, IsSizeLine, IsPlaceLine, IsTimesLine, IsTeamOf, IsTaskOf, IsPoolLine, IsRouteOf, IsPlanLine, IsJobLine, IsTreeLine, IsNodeLine, IsPriceLine, IsExtraLine, IsWorthLine, IsPhiLine, IsEndLine, IsLineOf, WindowShape, PairShape, BareShape, OpenShape, ClosedShape, HasShape, HasNames, IsFaultOf, ReadsLine}
-use Rattle.cert_format.specs.Fields.{visit_numbers}
+use Rattle.cert_format.specs.Lines.{IsFormLine, IsSizeLine, IsFrozenLine, IsKeepLine, IsWhyLine, IsStepsOf, IsPlaceLine, IsTimesLine, IsTeamOf, IsTaskOf, IsPoolLine, IsRouteOf, IsPlanLine, IsJobLine, IsTreeLine, IsNodeLine, IsPriceLine, IsExtraLine, IsWorthLine, IsPhiLine, IsEndLine, IsLineOf, WindowShape, PairShape, BareShape, OpenShape, ClosedShape, HasShape, HasNames, IsFaultOf, ReadsLine}
+use Rattle.cert_format.specs.Fields.{visit_numbers, run_numbers}
 use Rattle.cert_format.specs.ReadBack.{HasCounts}
 use Rattle.cert_format.proofs.LeafLines.{price_fits, worth_fits}
 use Rattle.cert_format.proofs.Visits.{visits_map}
+use Rattle.cert_format.proofs.Runs.{runs_signed, runs_fit}
 
 -- ---- numbers have one spelling
 
@@ -57,9 +61,15 @@ behind_name w x y ws xs ys e f = let g : w ∷ x ∷ xs ≡ w ∷ y ∷ ys = sym
 
 -- ---- a line says one thing
 
+one_form : (a b : DossierForm) → form_line a ≡ form_line b → a ≡ b
+one_form One One e = refl
+one_form Two Two e = refl
+one_form One Two e = let f = ap (λ (ws : Words). get_or (get_or ws 2 []) 0 0) e in absurd (omega arith)
+one_form Two One e = let f = ap (λ (ws : Words). get_or (get_or ws 2 []) 0 0) e in absurd (omega arith)
+
 form_one : (ws : Words) (a b : LineKind) → IsFormLine ws a → IsFormLine ws b → a ≡ b
-form_one ws kinds.Form kinds.Form h g = refl
-form_one ws kinds.Form _ h g = absurd g
+form_one ws (kinds.Form a) (kinds.Form b) h g = ap kinds.Form (one_form a b (sym h ∙ g))
+form_one ws (kinds.Form a) _ h g = absurd g
 form_one ws _ _ h g = absurd h
 
 end_one : (ws : Words) (a b : LineKind) → IsEndLine ws a → IsEndLine ws b → a ≡ b
@@ -122,6 +132,24 @@ task_one places ws (kinds.Task x h f u d r ks) (kinds.Task x' h' f' u' d' r' ks'
     cc
 task_one places ws (kinds.Task x h f u d r ks) _ few t s = absurd s
 task_one places ws _ _ few t s = absurd t
+
+frozen_one : (most : ℕ) (ws : Words) (a b : LineKind) → most < 4294967296 → IsFrozenLine most ws a → IsFrozenLine most ws b → a ≡ b
+frozen_one most ws (kinds.Frozen n) (kinds.Frozen m) few (p, e) (q, f) =
+    let same = one_list (n ∷ []) (m ∷ []) (omega arith, tt) (omega arith, tt) (behind (codes "frozen") ws _ _ e f) in
+    cc
+frozen_one most ws (kinds.Frozen n) _ few h g = absurd g
+frozen_one most ws _ _ few h g = absurd h
+
+keep_one : (teams tasks : ℕ) (ws : Words) (a b : LineKind) → teams < 4294967296 → tasks < 4294967296 → IsKeepLine teams tasks ws a → IsKeepLine teams tasks ws b → a ≡ b
+keep_one teams tasks ws (kinds.Keep j t ks) (kinds.Keep j' t' ks') some few (ns, p, h, e) (ms, q, g, f) =
+    let same = one_list (j ∷ t ∷ ns) (j' ∷ t' ∷ ms)
+    (omega (arith, h.task), (omega (arith, h.start), wider teams ns (omega arith) h.teams))
+    (omega (arith, g.task), (omega (arith, g.start), wider teams ms (omega arith) g.teams)) (behind (codes "keep") ws _ _ e f) in
+    let numbers : ns ≡ ms = cc in
+    let known : ks ≡ ks' = p ∙ ap (map pos) numbers ∙ sym q in
+    cc
+keep_one teams tasks ws (kinds.Keep j t ks) _ some few h g = absurd g
+keep_one teams tasks ws _ _ some few h g = absurd h
 
 pool_one : (ws : Words) (a b : LineKind) → IsPoolLine ws a → IsPoolLine ws b → a ≡ b
 pool_one ws (kinds.Pool u v) (kinds.Pool u' v') (k, c, p, q, few, less, e) (k', c', p', q', few', less', f) =
@@ -227,6 +255,11 @@ node_one teams tasks ws kinds.LeafOpen _ some few h g = absurd g
 node_one teams tasks ws kinds.LeafClosed _ some few h g = absurd g
 node_one teams tasks ws _ _ some few h g = absurd h
 
+why_one : (ws : Words) (a b : LineKind) → IsWhyLine ws a → IsWhyLine ws b → a ≡ b
+why_one ws kinds.WhyNone kinds.WhyNone h g = refl
+why_one ws kinds.WhyNone _ h g = absurd g
+why_one ws _ _ h g = absurd h
+
 signed_list : (us vs : List ℤ) → AllByRecursion (FitsSigned w64) us → AllByRecursion (FitsSigned w64) vs → map signed_decimal us ≡ map signed_decimal vs → us ≡ vs
 signed_list [] [] a b e = refl
 signed_list [] (v ∷ vs) a b e = absurd cc
@@ -273,6 +306,16 @@ phi_one task count ws (kinds.Phi i us) (kinds.Phi j vs) (p, h, e) (q, g, f) =
 phi_one task count ws (kinds.Phi i us) _ h g = absurd g
 phi_one task count ws _ _ h g = absurd h
 
+steps_one : (task : ℕ) (ws : Words) (a b : LineKind) → IsStepsOf task ws a → IsStepsOf task ws b → a ≡ b
+steps_one task ws (kinds.Steps i us) (kinds.Steps j vs) (rs, k, p, h, e) (qs, l, q, g, f) =
+    let spelled : map signed_decimal (flat_map run_numbers rs) ≡ map signed_decimal (flat_map run_numbers qs) =
+    sym (runs_signed rs) ∙ behind_two (codes "steps") (decimal task) ws _ _ e f ∙ runs_signed qs in
+    let same = signed_list (flat_map run_numbers rs) (flat_map run_numbers qs) (runs_fit rs h.minutes h.numbers) (runs_fit qs g.minutes g.numbers) spelled in
+    let pairs : us ≡ vs = k ∙ same ∙ sym l in
+    cc
+steps_one task ws (kinds.Steps i us) _ h g = absurd g
+steps_one task ws _ _ h g = absurd h
+
 one_kind : (expect : Expect) (ws : Words) (a b : LineKind) → HasCounts expect → IsLineOf expect ws a → IsLineOf expect ws b → a ≡ b
 one_kind expected.Form ws a b few h g = form_one ws a b h g
 one_kind expected.Size ws a b few h g = size_one ws a b h g
@@ -280,16 +323,20 @@ one_kind expected.Place ws a b few h g = place_one ws a b h g
 one_kind (expected.Travel places) ws a b few h g = times_one places ws a b h g
 one_kind (expected.Team places) ws a b few h g = team_one places ws a b (omega arith) h g
 one_kind (expected.Task places) ws a b few h g = task_one places ws a b (omega arith) h g
+one_kind (expected.Frozen most) ws a b few h g = frozen_one most ws a b (omega arith) h g
+one_kind (expected.Keep teams tasks) ws a b few h g = keep_one teams tasks ws a b (omega arith) (omega arith) h g
 one_kind expected.Pool ws a b few h g = pool_one ws a b h g
 one_kind (expected.Route teams tasks) ws a b few h g = route_one teams tasks ws a b (omega arith) (omega arith) h g
 one_kind (expected.Plan tasks) ws a b few h g = plan_one tasks ws a b (omega arith) h g
 one_kind (expected.Job teams tasks) ws a b few h g = job_one teams tasks ws a b (omega arith) (omega arith) h g
 one_kind expected.Tree ws a b few h g = tree_one ws a b h g
 one_kind (expected.Node teams tasks) ws a b few h g = node_one teams tasks ws a b (omega arith) (omega arith) h g
+one_kind expected.Why ws a b few h g = why_one ws a b h g
 one_kind (expected.Price tasks) ws a b few h g = price_one tasks ws a b h g
 one_kind (expected.Extra task count) ws a b few h g = extra_one task count ws a b h g
 one_kind expected.Worth ws a b few h g = worth_one ws a b h g
 one_kind (expected.Phi task count) ws a b few h g = phi_one task count ws a b h g
+one_kind (expected.Steps task) ws a b few h g = steps_one task ws a b h g
 one_kind expected.End ws a b few h g = end_one ws a b h g
 
 -- ---- a line that is read has the shape and the names of its kind
@@ -298,7 +345,7 @@ abbrev Fits : Expect → Words → LineKind → Type 0
 Fits expect ws kind = IsLineOf expect ws kind → HasShape expect ws × HasNames expect ws
 
 form_fits : (ws : Words) (kind : LineKind) → Fits expected.Form ws kind
-form_fits ws kinds.Form h = (h, tt)
+form_fits ws (kinds.Form form) h = ((form, h), tt)
 form_fits ws _ h = absurd h
 
 size_fits : (ws : Words) (kind : LineKind) → Fits expected.Size ws kind
@@ -323,6 +370,14 @@ team_fits places ws _ h = absurd h
 task_fits : (places : ℕ) (ws : Words) (kind : LineKind) → Fits (expected.Task places) ws kind
 task_fits places ws (kinds.Task name place earliest latest minutes teams skills) (ss, e, t, is) = ((_, is, omega arith), has_name ws (codes "task") name _ is t.name)
 task_fits places ws _ h = absurd h
+
+frozen_fits : (most : ℕ) (ws : Words) (kind : LineKind) → Fits (expected.Frozen most) ws kind
+frozen_fits most ws (kinds.Frozen count) (few, is) = ((_, is, refl), tt)
+frozen_fits most ws _ h = absurd h
+
+keep_fits : (teams tasks : ℕ) (ws : Words) (kind : LineKind) → Fits (expected.Keep teams tasks) ws kind
+keep_fits teams tasks ws (kinds.Keep task start ks) (ns, e, job, is) = ((_, is, omega arith), tt)
+keep_fits teams tasks ws _ h = absurd h
 
 pool_fits : (ws : Words) (kind : LineKind) → Fits expected.Pool ws kind
 pool_fits ws (kinds.Pool kept routes) (k, c, e, f, few, less, is) = ((_, is, refl), tt)
@@ -356,6 +411,10 @@ node_fits teams tasks ws kinds.LeafOpen is = (OpenShape is, tt)
 node_fits teams tasks ws kinds.LeafClosed is = (ClosedShape is, tt)
 node_fits teams tasks ws _ h = absurd h
 
+why_fits : (ws : Words) (kind : LineKind) → Fits expected.Why ws kind
+why_fits ws kinds.WhyNone h = (h, tt)
+why_fits ws _ h = absurd h
+
 price_line_fits : (tasks : ℕ) (ws : Words) (kind : LineKind) → Fits (expected.Price tasks) ws kind
 price_line_fits tasks ws (kinds.Price vs) (h, is) = ((map signed_decimal vs, is, length-map vs signed_decimal ∙ h.count), tt)
 price_line_fits tasks ws _ h = absurd h
@@ -372,6 +431,14 @@ phi_fits : (task count : ℕ) (ws : Words) (kind : LineKind) → Fits (expected.
 phi_fits task count ws (kinds.Phi j vs) (e, h, is) = ((map signed_decimal vs, is, length-map vs signed_decimal ∙ h.count), tt)
 phi_fits task count ws _ h = absurd h
 
+steps_fits : (task : ℕ) (ws : Words) (kind : LineKind) → Fits (expected.Steps task) ws kind
+steps_fits task ws (kinds.Steps j pairs) ([], e, same, h, is) = absurd (let some = h.some in omega arith)
+steps_fits task ws (kinds.Steps j pairs) (r ∷ rs, e, same, h, is) =
+    let all = ap length is in
+    let more = runs_length rs in
+    (((_, is), (length rs, omega arith)), tt)
+steps_fits task ws _ h = absurd h
+
 end_fits : (ws : Words) (kind : LineKind) → Fits expected.End ws kind
 end_fits ws kinds.End h = (h, tt)
 end_fits ws _ h = absurd h
@@ -383,16 +450,20 @@ line_fits expected.Place ws kind = place_fits ws kind
 line_fits (expected.Travel places) ws kind = times_fits places ws kind
 line_fits (expected.Team places) ws kind = team_fits places ws kind
 line_fits (expected.Task places) ws kind = task_fits places ws kind
+line_fits (expected.Frozen most) ws kind = frozen_fits most ws kind
+line_fits (expected.Keep teams tasks) ws kind = keep_fits teams tasks ws kind
 line_fits expected.Pool ws kind = pool_fits ws kind
 line_fits (expected.Route teams tasks) ws kind = route_fits teams tasks ws kind
 line_fits (expected.Plan tasks) ws kind = plan_fits tasks ws kind
 line_fits (expected.Job teams tasks) ws kind = job_fits teams tasks ws kind
 line_fits expected.Tree ws kind = tree_fits ws kind
 line_fits (expected.Node teams tasks) ws kind = node_fits teams tasks ws kind
+line_fits expected.Why ws kind = why_fits ws kind
 line_fits (expected.Price tasks) ws kind = price_line_fits tasks ws kind
 line_fits (expected.Extra task count) ws kind = extra_fits task count ws kind
 line_fits expected.Worth ws kind = worth_line_fits ws kind
 line_fits (expected.Phi task count) ws kind = phi_fits task count ws kind
+line_fits (expected.Steps task) ws kind = steps_fits task ws kind
 line_fits expected.End ws kind = end_fits ws kind
 
 -- ---- one answer

@@ -7,7 +7,7 @@ use Rattle.crew_terms.specs.declared.Team.{Team}
 use Rattle.crew_terms.specs.declared.Task.{Task}
 use Rattle.crew_terms.specs.declared.TheConstants.{SKILLS}
 use Rattle.dossier_terms.specs.Dossier.{skills_of}
-use Rattle.dossier_terms.specs.Table.{IsTeamLine, IsTaskLine}
+use Rattle.dossier_terms.specs.Ranges.{IsTeamLine, IsTaskLine}
 use Rattle.dossier_laws.specs.Listed.{IsSkillList}
 use Rattle.cert_format.specs.declared.kinds.Expect.{Expect}
 use Rattle.cert_format.specs.declared.kinds.LineKind.{LineKind}

@@ -20,10 +20,10 @@ pub record SpellsVisit (tasks : ℕ) (a b : List ℕ) : Type 0 where
   pub second : b ≡ decimal visit.start
 
 -- a pair of words after the first pair
-later : (a b : List ℕ) (ws : Words) (k : ℕ) → get_or (a ∷ b ∷ ws) (2 * suc k) [] ≡ get_or ws (2 * k) []
+pub later : (a b : List ℕ) (ws : Words) (k : ℕ) → get_or (a ∷ b ∷ ws) (2 * suc k) [] ≡ get_or ws (2 * k) []
 later a b ws k = ap (λ n. get_or (a ∷ b ∷ ws) n []) (let e : 2 * suc k ≡ suc (suc (2 * k)) = omega arith in e)
 
-later_second : (a b : List ℕ) (ws : Words) (k : ℕ) → get_or (a ∷ b ∷ ws) (2 * suc k + 1) [] ≡ get_or ws (2 * k + 1) []
+pub later_second : (a b : List ℕ) (ws : Words) (k : ℕ) → get_or (a ∷ b ∷ ws) (2 * suc k + 1) [] ≡ get_or ws (2 * k + 1) []
 later_second a b ws k = ap (λ n. get_or (a ∷ b ∷ ws) n []) (let e : 2 * suc k + 1 ≡ suc (suc (2 * k + 1)) = omega arith in e)
 
 pub visit_at : (tasks : ℕ) (vs : List Visit) → AllByRecursion (λ (v : Visit). v.task < tasks) vs → AllByRecursion (λ (v : Visit). v.start ≤ LAST_MINUTE) vs → (k : ℕ) → k < length vs

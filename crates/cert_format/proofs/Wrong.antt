@@ -4,13 +4,15 @@ use Rattle.std.specs.Prelude.{codes}
 use Rattle.std.specs.Fmt.{decimal}
 use Rattle.std.proofs.lemmas.Int.{ints}
 use Rattle.crew_terms.specs.Words.{Words}
+use Rattle.crew_terms.specs.Plan.{Job}
 use Rattle.crew_terms.specs.declared.TheConstants.{MOST_PLACES, MOST_TEAMS, MOST_TASKS, LAST_MINUTE, MOST_NODES}
 use Rattle.dossier_terms.specs.Rules.{IsShape}
+use Rattle.dossier_terms.specs.Ranges.{IsDoLine}
 use Rattle.field_table.specs.Fields.{AreValues}
 use Rattle.field_table.specs.declared.fields.Field.{Field}
 use Rattle.cert_format.specs.declared.kinds.LineKind.{LineKind}
 use Rattle.cert_format.specs.declared.kinds.LineKind.TheVariants as kinds
-use Rattle.cert_format.specs.Lines.{IsSizeLine, IsPoolLine, IsPlanLine, IsJobLine, IsTreeLine, IsNodeLine}
+use Rattle.cert_format.specs.Lines.{IsSizeLine, IsFrozenLine, IsKeepLine, IsPoolLine, IsPlanLine, IsJobLine, IsTreeLine, IsNodeLine}
 use Rattle.cert_format.proofs.Accepted.{number_field, AreIn, numbers_read}
 use Rattle.cert_format.proofs.Rows.{apart}
 
@@ -53,6 +55,12 @@ pool_wrong ws none (kinds.Pool kept routes) (k, c, e, f, few, less, is) =
     none_of pool_fields ws (codes "pool") (k ∷ c ∷ []) [] none (refl, omega (arith, ints), omega (arith, ints), omega arith, (refl, omega (arith, ints), omega (arith, ints), omega arith, tt)) is
 pool_wrong ws none _ h = absurd h
 
+pub frozen_wrong : (most : ℕ) (ws : Words) (high : ℤ) → high ≡ pos most → most < 2 ^ 32
+    → NoneRead (number_field 0 high ∷ []) ws → (kind : LineKind) → IsFrozenLine most ws kind → ⊥
+frozen_wrong most ws high e small none (kinds.Frozen count) (few, is) =
+    none_of (number_field 0 high ∷ []) ws (codes "frozen") (count ∷ []) [] none (refl, omega (arith, ints), omega (arith, ints), omega arith, tt) is
+frozen_wrong most ws high e small none _ h = absurd h
+
 pub plan_wrong : (tasks : ℕ) (ws : Words) (most : ℤ) → most ≡ pos tasks → tasks < 2 ^ 32
     → NoneRead (number_field 0 most ∷ number_field 0 most ∷ []) ws → (kind : LineKind) → IsPlanLine tasks ws kind → ⊥
 plan_wrong tasks ws most e small none (kinds.Plan u l) (a, b, is) =
@@ -63,13 +71,22 @@ plan_wrong tasks ws most e small none _ h = absurd h
 abbrev pub below_fields : ℤ → List Field
 below_fields last = number_field 0 last ∷ number_field 0 (pos LAST_MINUTE) ∷ []
 
-pub job_wrong : (teams tasks : ℕ) (ws : Words) (last : ℤ) → last +ℤ pos 1 ≡ pos tasks → tasks < 2 ^ 32
-    → NoneRead (below_fields last) ws → (kind : LineKind) → IsJobLine teams tasks ws kind → ⊥
-job_wrong teams tasks ws last e small none (kinds.Job task start ks) (ns, f, job, is) =
+work_wrong : (w : List ℕ) (teams tasks : ℕ) (ws : Words) (last : ℤ) → last +ℤ pos 1 ≡ pos tasks → tasks < 2 ^ 32 → NoneRead (below_fields last) ws
+    → (task : ℕ) (work : Job) → IsDoLine teams tasks (task, work) → ws ≡ w ∷ decimal task ∷ decimal work.start ∷ map decimal work.teams → ⊥
+work_wrong w teams tasks ws last e small none task work job is =
     let a = job.task in
     let b = job.start in
-    none_of (below_fields last) ws (codes "do") (task ∷ start ∷ []) (map decimal ns) none (refl, omega (arith, ints), omega (arith, ints), omega arith, (refl, omega (arith, ints), omega (arith, ints), omega arith, tt)) is
+    none_of (below_fields last) ws w (task ∷ work.start ∷ []) (map decimal work.teams) none (refl, omega (arith, ints), omega (arith, ints), omega arith, (refl, omega (arith, ints), omega (arith, ints), omega arith, tt)) is
+
+pub job_wrong : (teams tasks : ℕ) (ws : Words) (last : ℤ) → last +ℤ pos 1 ≡ pos tasks → tasks < 2 ^ 32
+    → NoneRead (below_fields last) ws → (kind : LineKind) → IsJobLine teams tasks ws kind → ⊥
+job_wrong teams tasks ws last e small none (kinds.Job task start ks) (ns, f, job, is) = work_wrong (codes "do") teams tasks ws last e small none task (record { start = start; teams = ns }) job is
 job_wrong teams tasks ws last e small none _ h = absurd h
+
+pub keep_wrong : (teams tasks : ℕ) (ws : Words) (last : ℤ) → last +ℤ pos 1 ≡ pos tasks → tasks < 2 ^ 32
+    → NoneRead (below_fields last) ws → (kind : LineKind) → IsKeepLine teams tasks ws kind → ⊥
+keep_wrong teams tasks ws last e small none (kinds.Keep task start ks) (ns, f, job, is) = work_wrong (codes "keep") teams tasks ws last e small none task (record { start = start; teams = ns }) job is
+keep_wrong teams tasks ws last e small none _ h = absurd h
 
 pub window_wrong : (teams tasks : ℕ) (ws : Words) (last : ℤ) → last +ℤ pos 1 ≡ pos tasks → tasks < 2 ^ 32 → IsShape (codes "window") 2 ws
     → NoneRead (below_fields last) ws → (kind : LineKind) → IsNodeLine teams tasks ws kind → ⊥

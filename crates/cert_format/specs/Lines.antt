@@ -10,11 +10,13 @@ use Rattle.crew_terms.specs.declared.Task.{Task}
 use Rattle.crew_terms.specs.declared.Visit.{Visit}
 use Rattle.dossier_terms.specs.Dossier.{IsWorthNumber, IsSigned}
 use Rattle.crew_terms.specs.Limits.{Route}
+use Rattle.dossier_terms.specs.declared.DossierForm.{DossierForm}
+use Rattle.dossier_terms.specs.Runs.{Run}
 use Rattle.crew_terms.specs.declared.TheConstants.{LAST_MINUTE}
 use Rattle.dossier_terms.specs.Rules.{IsShape, IsShapeFrom, Begins}
-use Rattle.dossier_terms.specs.Table.{IsSize, IsTravel, IsTeamLine, IsTaskLine, IsRouteLine, IsDoLine, IsCounts, AreNumbers, HasName, IsPairs, IsRow}
-use Rattle.dossier_terms.specs.Lines.{form_line, size_line, place_line, travel_line, team_words, task_words, pool_line, route_line, plan_line, do_line, tree_line, window_line, pair_line, bare_line, open_line, closed_line, price_line, extra_line, worth_line, phi_line, end_line}
-use Rattle.cert_format.specs.Fields.{visit_numbers}
+use Rattle.dossier_terms.specs.Ranges.{IsSize, IsTravel, IsTeamLine, IsTaskLine, IsRouteLine, IsDoLine, IsCounts, IsStepsLine, AreNumbers, HasName, IsPairs, IsRow, BeginsAt}
+use Rattle.dossier_terms.specs.Lines.{form_line, size_line, place_line, travel_line, team_words, task_words, frozen_line, keep_line, pool_line, route_line, plan_line, do_line, tree_line, window_line, pair_line, why_none_line, bare_line, open_line, closed_line, price_line, extra_line, worth_line, phi_line, steps_line, end_line}
+use Rattle.cert_format.specs.Fields.{visit_numbers, run_numbers}
 use Rattle.cert_format.specs.declared.kinds.Expect.{Expect}
 use Rattle.cert_format.specs.declared.kinds.Expect.TheVariants as expected
 use Rattle.cert_format.specs.declared.kinds.LineKind.{LineKind}
@@ -25,7 +27,7 @@ use Rattle.cert_format.specs.declared.kinds.LineFault.TheVariants.{Shape, Number
 -- ---- the words spell the fields, which lie in their ranges
 
 abbrev pub IsFormLine : Words → LineKind → Type 0
-IsFormLine ws kinds.Form = ws ≡ form_line
+IsFormLine ws (kinds.Form form) = ws ≡ form_line form
 IsFormLine ws _ = ⊥
 
 abbrev pub IsSizeLine : Words → LineKind → Type 0
@@ -51,6 +53,15 @@ IsTaskOf places ws (kinds.Task name place earliest latest minutes teams skills) 
     let t : Task = record { name = name; place = place; earliest = earliest; latest = latest; minutes = minutes; teams = teams; skills = 0 } in
     (ss : List ℕ) × (skills ≡ map pos ss) × IsTaskLine places (t, ss) × (ws ≡ task_words (t, ss))
 IsTaskOf places ws _ = ⊥
+
+abbrev pub IsFrozenLine : ℕ → Words → LineKind → Type 0
+IsFrozenLine most ws (kinds.Frozen count) = (count ≤ most) × (ws ≡ frozen_line count)
+IsFrozenLine most ws _ = ⊥
+
+abbrev pub IsKeepLine : ℕ → ℕ → Words → LineKind → Type 0
+IsKeepLine teams tasks ws (kinds.Keep task start ks) = (ns : List ℕ) × (ks ≡ map pos ns)
+    × IsDoLine teams tasks (task, record { start = start; teams = ns }) × (ws ≡ keep_line (task, record { start = start; teams = ns }))
+IsKeepLine teams tasks ws _ = ⊥
 
 abbrev pub IsPoolLine : Words → LineKind → Type 0
 IsPoolLine ws (kinds.Pool kept routes) = (k c : ℕ) × (kept ≡ pos k) × (routes ≡ pos c)
@@ -83,6 +94,10 @@ IsNodeLine teams tasks ws kinds.LeafOpen = ws ≡ open_line
 IsNodeLine teams tasks ws kinds.LeafClosed = ws ≡ closed_line
 IsNodeLine teams tasks ws _ = ⊥
 
+abbrev pub IsWhyLine : Words → LineKind → Type 0
+IsWhyLine ws kinds.WhyNone = ws ≡ why_none_line
+IsWhyLine ws _ = ⊥
+
 abbrev pub IsPriceLine : ℕ → Words → LineKind → Type 0
 IsPriceLine tasks ws (kinds.Price prices) = AreNumbers IsPrice tasks prices × (ws ≡ price_line prices)
 IsPriceLine tasks ws _ = ⊥
@@ -99,6 +114,10 @@ abbrev pub IsPhiLine : ℕ → ℕ → Words → LineKind → Type 0
 IsPhiLine task count ws (kinds.Phi j values) = (j ≡ task) × AreNumbers IsSigned count values × (ws ≡ phi_line task values)
 IsPhiLine task count ws _ = ⊥
 
+abbrev pub IsStepsOf : ℕ → Words → LineKind → Type 0
+IsStepsOf task ws (kinds.Steps j pairs) = (runs : List Run) × (pairs ≡ flat_map run_numbers runs) × (j ≡ task) × IsStepsLine runs × (ws ≡ steps_line task runs)
+IsStepsOf task ws _ = ⊥
+
 abbrev pub IsEndLine : Words → LineKind → Type 0
 IsEndLine ws kinds.End = ws ≡ end_line
 IsEndLine ws _ = ⊥
@@ -111,16 +130,20 @@ IsLineOf expected.Place ws kind = IsPlaceLine ws kind
 IsLineOf (expected.Travel places) ws kind = IsTimesLine places ws kind
 IsLineOf (expected.Team places) ws kind = IsTeamOf places ws kind
 IsLineOf (expected.Task places) ws kind = IsTaskOf places ws kind
+IsLineOf (expected.Frozen most) ws kind = IsFrozenLine most ws kind
+IsLineOf (expected.Keep teams tasks) ws kind = IsKeepLine teams tasks ws kind
 IsLineOf expected.Pool ws kind = IsPoolLine ws kind
 IsLineOf (expected.Route teams tasks) ws kind = IsRouteOf teams tasks ws kind
 IsLineOf (expected.Plan tasks) ws kind = IsPlanLine tasks ws kind
 IsLineOf (expected.Job teams tasks) ws kind = IsJobLine teams tasks ws kind
 IsLineOf expected.Tree ws kind = IsTreeLine ws kind
 IsLineOf (expected.Node teams tasks) ws kind = IsNodeLine teams tasks ws kind
+IsLineOf expected.Why ws kind = IsWhyLine ws kind
 IsLineOf (expected.Price tasks) ws kind = IsPriceLine tasks ws kind
 IsLineOf (expected.Extra task count) ws kind = IsExtraLine task count ws kind
 IsLineOf expected.Worth ws kind = IsWorthLine ws kind
 IsLineOf (expected.Phi task count) ws kind = IsPhiLine task count ws kind
+IsLineOf (expected.Steps task) ws kind = IsStepsOf task ws kind
 IsLineOf expected.End ws kind = IsEndLine ws kind
 
 -- ---- what a line has to show before its numbers are read
@@ -135,22 +158,26 @@ pub data HasNodeShape (ws : Words) : Type 0 where
 
 -- the expected first word and number of words, and those words that are given
 abbrev pub HasShape : Expect → Words → Type 0
-HasShape expected.Form ws = ws ≡ form_line
+HasShape expected.Form ws = (form : DossierForm) × (ws ≡ form_line form)
 HasShape expected.Size ws = IsShape (codes "size") 4 ws
 HasShape expected.Place ws = IsShape (codes "place") 1 ws
 HasShape (expected.Travel places) ws = IsShape (codes "travel") places ws
 HasShape (expected.Team places) ws = IsShapeFrom (codes "team") 4 ws
 HasShape (expected.Task places) ws = IsShapeFrom (codes "task") 6 ws
+HasShape (expected.Frozen most) ws = IsShape (codes "frozen") 1 ws
+HasShape (expected.Keep teams tasks) ws = IsShapeFrom (codes "keep") 2 ws
 HasShape expected.Pool ws = IsShape (codes "pool") 2 ws
 HasShape (expected.Route teams tasks) ws = Begins (codes "route") ws × IsPairs ws
 HasShape (expected.Plan tasks) ws = IsShape (codes "plan") 2 ws
 HasShape (expected.Job teams tasks) ws = IsShapeFrom (codes "do") 2 ws
 HasShape expected.Tree ws = IsShape (codes "tree") 4 ws
 HasShape (expected.Node teams tasks) ws = HasNodeShape ws
+HasShape expected.Why ws = ws ≡ why_none_line
 HasShape (expected.Price tasks) ws = IsShape (codes "price") tasks ws
 HasShape (expected.Extra task count) ws = IsRow extra_line task count ws
 HasShape expected.Worth ws = IsShape (codes "worth") 1 ws
 HasShape (expected.Phi task count) ws = IsRow phi_line task count ws
+HasShape (expected.Steps task) ws = BeginsAt (codes "steps") task ws × IsPairs ws
 HasShape expected.End ws = ws ≡ end_line
 
 -- the names that the line has are spelled as names

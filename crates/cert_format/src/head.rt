@@ -1,4 +1,4 @@
-// The lines of an instance.
+// The lines of the head: the form, an instance and its frozen jobs.
 ghost use Rattle.cert_format.specs.Lines.{ReadsLine};
 
 use crate::kinds::{Expect, LineFault, LineKind};
@@ -8,20 +8,30 @@ use crate::shape::{has_shape, has_shape_from, is_word};
 use crew_terms::{
     LAST_MINUTE, MOST_NODES, MOST_PLACES, MOST_TASKS, MOST_TEAMS, MOST_TEAMS_PER_TASK, SKILLS,
 };
-use dossier_terms::Size;
+use dossier_terms::{DossierForm, Size};
 use field_table::{LineWords, field, fields};
 
-/// Reads the line `crew dossier 1`.
+/// Reads the first line, `crew dossier 1` or `crew dossier 2`.
 pub(crate) fn read_form<'a>(words: LineWords<'a>) -> Result<LineKind<'a>, LineFault>
     ensures { ReadsLine Expect.Form words.entry result }
 {
     if !has_shape(&words, b"crew", 2) {
         return Err(LineFault::Shape);
     }
-    if !is_word(&words, 1, b"dossier") || !is_word(&words, 2, b"1") {
+    if !is_word(&words, 1, b"dossier") {
         return Err(LineFault::Shape);
     }
-    Ok(LineKind::Form)
+    if is_word(&words, 2, b"1") {
+        return Ok(LineKind::Form {
+            form: DossierForm::One,
+        });
+    }
+    if is_word(&words, 2, b"2") {
+        return Ok(LineKind::Form {
+            form: DossierForm::Two,
+        });
+    }
+    Err(LineFault::Shape)
 }
 
 /// Reads the line `size`: how many teams, tasks and places there are, and the node budget.
@@ -112,5 +122,40 @@ pub(crate) fn read_task<'a>(words: LineWords<'a>, places: u32) -> Result<LineKin
         minutes: minutes as u32,
         teams: teams as u32,
         skills,
+    })
+}
+
+/// Reads the line `frozen`: how many jobs are frozen, at most `most`.
+pub(crate) fn read_frozen<'a>(words: LineWords<'a>, most: u32) -> Result<LineKind<'a>, LineFault>
+    ensures { ReadsLine (Expect.Frozen most) words.entry result }
+{
+    if !has_shape(&words, b"frozen", 1) {
+        return Err(LineFault::Shape);
+    }
+    let most = most as i64;
+    fields!(&words, count: Number(0, most); else fault => LineFault::Number);
+    Ok(LineKind::Frozen {
+        count: count as u32,
+    })
+}
+
+/// Reads a line `keep` of an instance with so many teams and tasks.
+pub(crate) fn read_keep<'a>(
+    words: LineWords<'a>,
+    teams: u32,
+    tasks: u32,
+) -> Result<LineKind<'a>, LineFault>
+    ensures { ReadsLine (Expect.Keep teams tasks) words.entry result }
+{
+    if !has_shape_from(&words, b"keep", 2) {
+        return Err(LineFault::Shape);
+    }
+    let last = tasks as i64 - 1;
+    fields!(&words, task: Number(0, last), start: MINUTE; else fault => LineFault::Number);
+    let teams = read_below(words, 3, teams)?;
+    Ok(LineKind::Keep {
+        task: task as u32,
+        start: start as u32,
+        teams,
     })
 }

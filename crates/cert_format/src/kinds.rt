@@ -4,7 +4,7 @@ ghost use Rattle.cert_format.specs.Expected.{reason_for};
 
 use crate::numbers::LineNumbers;
 use crew_terms::{Name, TreeCounts};
-use dossier_terms::{Reason, Size};
+use dossier_terms::{DossierForm, Reason, Size};
 
 /// The kind of line that is due, with the counts that its ranges need.
 #[derive(Clone, Copy, Debug, PartialEq, Eq)]
@@ -15,6 +15,10 @@ pub enum Expect {
     Travel { places: u32 },
     Team { places: u32 },
     Task { places: u32 },
+    /// The line `frozen`: how many jobs may be frozen at most.
+    Frozen { most: u32 },
+    /// A line `keep`.
+    Keep { teams: u32, tasks: u32 },
     Pool,
     Route { teams: u32, tasks: u32 },
     Plan { tasks: u32 },
@@ -22,12 +26,16 @@ pub enum Expect {
     Tree,
     /// A line `window`, `pair` or `leaf`.
     Node { teams: u32, tasks: u32 },
+    /// The line `why` after a split.
+    Why,
     Price { tasks: u32 },
     /// The task that is due, and how many of its pairs are required.
     Extra { task: u32, count: u32 },
     Worth,
     /// The task that is due, and at how many minutes the team may begin it.
     Phi { task: u32, count: u32 },
+    /// The task that is due.
+    Steps { task: u32 },
     End,
 }
 
@@ -35,7 +43,9 @@ pub enum Expect {
 /// numbers at the end of a line are in its order.
 #[derive(Drop)]
 pub enum LineKind<'a> {
-    Form,
+    Form {
+        form: DossierForm,
+    },
     Size {
         size: Size,
     },
@@ -60,6 +70,16 @@ pub enum LineKind<'a> {
         minutes: u32,
         teams: u32,
         skills: LineNumbers<'a>,
+    },
+    /// How many jobs are frozen.
+    Frozen {
+        count: u32,
+    },
+    /// A line `keep`: a frozen job, which the teams begin at the minute `start`.
+    Keep {
+        task: u32,
+        start: u32,
+        teams: LineNumbers<'a>,
     },
     /// How many routes come from the round before, and how many routes there are.
     Pool {
@@ -94,6 +114,8 @@ pub enum LineKind<'a> {
         team: u32,
         task: u32,
     },
+    /// A line `why none`: no cause of the split is shown.
+    WhyNone,
     LeafBare,
     LeafOpen,
     LeafClosed,
@@ -114,6 +136,11 @@ pub enum LineKind<'a> {
     Phi {
         task: u32,
         values: LineNumbers<'a>,
+    },
+    /// The potentials of a team's task by runs: of each its first minute, and its number.
+    Steps {
+        task: u32,
+        pairs: LineNumbers<'a>,
     },
     End,
 }

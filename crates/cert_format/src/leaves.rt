@@ -2,9 +2,9 @@
 ghost use Rattle.cert_format.specs.Lines.{ReadsLine};
 
 use crate::kinds::{Expect, LineFault, LineKind};
-use crate::numbers::read_rest;
+use crate::numbers::{read_rest, read_runs};
 use crate::ranges::{POTENTIAL, PRICE};
-use crate::shape::{has_row, has_shape};
+use crate::shape::{has_pairs_at, has_row, has_shape};
 use field_table::{LineWords, fields};
 
 /// Reads the line `price`: a price of each of so many tasks, in 1/D of a task.
@@ -57,4 +57,15 @@ pub(crate) fn read_phi<'a>(
     }
     let values = read_rest(words, 2, POTENTIAL)?;
     Ok(LineKind::Phi { task, values })
+}
+
+/// Reads the line `steps` of this task: runs of potentials, each its first minute and its number.
+pub(crate) fn read_steps<'a>(words: LineWords<'a>, task: u32) -> Result<LineKind<'a>, LineFault>
+    ensures { ReadsLine (Expect.Steps task) words.entry result }
+{
+    if !has_pairs_at(&words, b"steps", task) {
+        return Err(LineFault::Shape);
+    }
+    let pairs = read_runs(words, 2)?;
+    Ok(LineKind::Steps { task, pairs })
 }

@@ -3,10 +3,11 @@ ghost use Rattle.std.specs.Prelude.{◌≡◌, ◌≢◌, ◌≤◌, ◌<◌, �
 ghost use Rattle.std.specs.Fmt.{signed_decimal};
 ghost use Rattle.std.specs.List.{flat_map};
 ghost use Rattle.crew_terms.specs.declared.Visit.{Visit};
-ghost use Rattle.cert_format.specs.Fields.{IsIn, SpellIn, SpellBelow, SpellVisits, visit_numbers};
+ghost use Rattle.dossier_terms.specs.Runs.{Run};
+ghost use Rattle.cert_format.specs.Fields.{IsIn, SpellIn, SpellBelow, SpellVisits, SpellRuns, ArePairs, visit_numbers, run_numbers};
 
 use crate::kinds::LineFault;
-use crate::ranges::MINUTE;
+use crate::ranges::{MINUTE, POTENTIAL};
 use field_table::{Field, Kind, LineWords, Words, field};
 use std::marker::Model;
 
@@ -118,19 +119,19 @@ pub(crate) fn read_below<'a>(
     read_rest(words, from, field!(Number(0, last)))
 }
 
-/// Whether the pairs of words from a place on are the decimals of a task below `tasks` and of a minute.
-fn are_visits(words: &LineWords<'_>, from: usize, tasks: u32) -> bool
+/// Whether the pairs of words from a place on are the decimals of two numbers, each in its field's range.
+// An input with long windows is mostly such pairs, so their loop too stands by itself.
+#[inline(never)]
+fn are_pairs(words: &LineWords<'_>, from: usize, first: &Field, second: &Field) -> bool
     requires pairs { (k : ℕ) × (length words.now ≡ from + 2 * k) }
-    ensures { MatchBool result ((vs : List Visit) × SpellVisits tasks vs (drop from words.now)) ((vs : List Visit) → SpellVisits tasks vs (drop from words.now) → ⊥) }
+    ensures { MatchBool result (ArePairs first.now second.now from words.now) (ArePairs first.now second.now from words.now → ⊥) }
 {
-    let last = tasks as i64 - 1;
-    let task = field!(Number(0, last));
     let pairs = (words.count() - from) / 2;
     for n in 0..pairs {
-        if !is_in(words, from + 2 * n, &task) {
+        if !is_in(words, from + 2 * n, first) {
             return false;
         }
-        if !is_in(words, from + 2 * n + 1, &MINUTE) {
+        if !is_in(words, from + 2 * n + 1, second) {
             return false;
         }
     }
@@ -147,7 +148,24 @@ pub(crate) fn read_visits<'a>(
     ensures { MatchResult result (λ rest. (vs : List Visit) × (rest ≡ map pos (flat_map visit_numbers vs)) × SpellVisits tasks vs (drop from words.entry))
         (λ fault. (fault ≡ LineFault.Number) × ((vs : List Visit) → SpellVisits tasks vs (drop from words.entry) → ⊥)) }
 {
-    if !are_visits(&words, from, tasks) {
+    let last = tasks as i64 - 1;
+    if !are_pairs(&words, from, &field!(Number(0, last)), &MINUTE) {
+        return Err(LineFault::Number);
+    }
+    let len = words.count() - from;
+    Ok(LineNumbers { words, from, len })
+}
+
+/// The runs of the words from a place on, each a minute and a potential.
+pub(crate) fn read_runs<'a>(
+    words: LineWords<'a>,
+    from: usize,
+) -> Result<LineNumbers<'a>, LineFault>
+    requires pairs { (k : ℕ) × (length words ≡ from + 2 * k) }
+    ensures { MatchResult result (λ rest. (runs : List Run) × (rest ≡ flat_map run_numbers runs) × SpellRuns runs (drop from words.entry))
+        (λ fault. (fault ≡ LineFault.Number) × ((runs : List Run) → SpellRuns runs (drop from words.entry) → ⊥)) }
+{
+    if !are_pairs(&words, from, &MINUTE, &POTENTIAL) {
         return Err(LineFault::Number);
     }
     let len = words.count() - from;

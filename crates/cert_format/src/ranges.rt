@@ -1,6 +1,6 @@
 // The fields that several lines have.
 ghost use Rattle.std.specs.Prelude.{◌≡◌, ◌<◌, [], length, slice_index_or, MatchResult};
-ghost use Rattle.dossier_terms.specs.Table.{HasName};
+ghost use Rattle.dossier_terms.specs.Ranges.{HasName};
 
 use crate::kinds::LineFault;
 use crew_terms::{LAST_MINUTE, MOST_PRICE, Name};

@@ -2,7 +2,7 @@
 ghost use Rattle.std.specs.Prelude.{◌≡◌, ◌≢◌, ◌<◌, [], length, slice_index_or, MatchBool};
 ghost use Rattle.std.specs.Fmt.{decimal};
 ghost use Rattle.dossier_terms.specs.Rules.{IsShape, IsShapeFrom, Begins};
-ghost use Rattle.dossier_terms.specs.Table.{IsPairs};
+ghost use Rattle.dossier_terms.specs.Ranges.{IsPairs, BeginsAt};
 ghost use Rattle.cert_format.specs.Fields.{IsRowOf};
 
 use field_table::{LineWords, Words};
@@ -90,6 +90,16 @@ pub(crate) fn has_row(words: &LineWords<'_>, first: &[u8], task: u32, after: u32
     ensures { MatchBool result (IsRowOf first.now task after words.now) (IsRowOf first.now task after words.now → ⊥) }
 {
     if !has_shape(words, first, after as usize + 1) {
+        return false;
+    }
+    is_number(words, 1, task)
+}
+
+/// Whether the line is the word, the task's number, and one or more pairs of words.
+pub(crate) fn has_pairs_at(words: &LineWords<'_>, first: &[u8], task: u32) -> bool
+    ensures { MatchBool result (BeginsAt first.now task words.now × IsPairs words.now) (BeginsAt first.now task words.now × IsPairs words.now → ⊥) }
+{
+    if !has_pairs(words, first) {
         return false;
     }
     is_number(words, 1, task)

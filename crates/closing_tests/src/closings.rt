@@ -1,7 +1,7 @@
 // What closes a decided node.
 ghost use Rattle.std.specs.Prelude.{◌<◌, IfOk, length};
 ghost use Rattle.crew_terms.specs.Limits.{tasks_in};
-ghost use Rattle.leaf_close.specs.Closings.{prices_of};
+ghost use Rattle.leaf_close.specs.Closings.{closing_prices};
 ghost use Rattle.potentials.specs.Prices.{ArePricesOf};
 ghost use Rattle.search_terms.specs.Inside.{IsNode};
 
@@ -76,7 +76,7 @@ fn closed(
     best: u32,
 ) -> Result<Closing, AllocError>
     requires { IsNode limits.now.limits }
-    ensures { IfOk result (λ c. ArePricesOf limits.now.limits (prices_of c)) }
+    ensures { IfOk result (λ c. ArePricesOf limits.now.limits (closing_prices c)) }
 {
     assert!(rt; limits.decided());
     assert!(rt; best as usize <= limits.instance().tasks());

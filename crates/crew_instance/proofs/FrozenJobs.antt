@@ -10,7 +10,7 @@ use Rattle.crew_terms.specs.Verdict.{IsPlanOf}
 use Rattle.crew_terms.specs.Plan.{Plan, Job, job_of, empty_plan}
 use Rattle.crew_terms.specs.declared.Task.{Task}
 use Rattle.crew_terms.specs.declared.Team.{Team}
-use Rattle.crew_terms.specs.Nodes.{job_known}
+use Rattle.crew_terms.specs.EmptyPlan.{none_begun}
 use Rattle.crew_instance.specs.Draft.{AreFrozen, AreTeamsFor, Draft, MayFreeze, filled, instance_of, task_at, unfrozen, with_task}
 
 -- a job may still be frozen where its task stands as it did, and no team is gone
@@ -39,19 +39,11 @@ teams_for d j job list known = record { list = list; known = λ k c. All-contain
 pub all_known : (d : Draft) (j : ℕ) (job : Job) → AreTeamsFor d j job → All (λ k. k < length d.teams) job.teams
 all_known d j job are k x l = are.known (get_or job.teams k x) (Contains-get_or job.teams k x l)
 
-none_frozen : (n j : ℕ) (job : Job) → job_of (empty_plan n) j ≡ Some job → ⊥
-none_frozen n j job at =
-    let l = job_known (empty_plan n) j job at in
-    let long = length-replicate {A = Option Job} n None in
-    let none : job_of (empty_plan n) j ≡ None = get_or-replicate n j None None (omega arith) in
-    let e : None ≡ Some job = sym none ∙ at in
-    cc
-
 -- nothing is frozen
 pub no_job_frozen : (d : Draft) → d.frozen ≡ empty_plan (length d.tasks) → AreFrozen d
 no_job_frozen d none = record {
   whole = ap length none ∙ length-replicate (length d.tasks) None;
-  jobs = λ j job at. absurd (none_frozen (length d.tasks) j job (ap (λ p. job_of p j) (sym none) ∙ at));
+  jobs = λ j job at. absurd (none_begun (length d.tasks) j job (ap (λ p. job_of p j) (sym none) ∙ at));
 }
 
 -- a task more

@@ -10,7 +10,7 @@ use Rattle.std.proofs.lemmas.List.Sorted.{Contains-permutation, IsPermutation-sy
 use Rattle.crew_terms.specs.Instance.{Instance, CanFollow, task_of}
 use Rattle.crew_terms.specs.Plan.{Plan, Does}
 use Rattle.crew_terms.specs.Verdict.{IsBefore, IsNext, HasNoClash, IsFirstClash, AreJobsBelow}
-use Rattle.crew_terms.specs.Nodes.{job_known}
+use Rattle.crew_terms.specs.Nodes.{job_known, task_known}
 use Rattle.crew_instance.specs.declared.turns.Turn.{Turn}
 use Rattle.crew_instance.specs.Turns.{IsInOrder, AreTurns}
 use Rattle.crew_instance.proofs.ClashFree.{one_start}
@@ -97,13 +97,6 @@ both t j u h (inr a) (inr b) = let c = a.1 in let d = b.1 in omega arith
 pub turn_done : (p : Plan) (k n : ℕ) (vs : List Turn) → AreTurns p k n vs → (a : ℕ) → a < length vs → Does p k (get_or vs a no_turn).task (get_or vs a no_turn).start
 turn_done p k n vs are a l = (are.done (get_or vs a no_turn) (Contains-get_or vs a no_turn l)).0
 
--- it begins in its task's window
-pub turn_in_window : (i : Instance) (p : Plan) (k : ℕ) (v : Turn) → AreJobsBelow i p (length p) → Does p k v.task v.start → v.start ≤ (task_of i v.task).latest
-turn_in_window i p k v jobs (job, e, s, m) = let l = (jobs v.task job (job_known p v.task job e) e).window.late in omega arith
-
-pub turn_known : (p : Plan) (k : ℕ) (j t : ℕ) → Does p k j t → j < length p
-turn_known p k j t (job, e, s, m) = job_known p j job e
-
 module _ (p : Plan) (k : ℕ) (vs : List Turn) (are : AreTurns p k (length p) vs) where
   -- where a task of the team stands
   record Place (j t : ℕ) : Type 0 where
@@ -113,7 +106,7 @@ module _ (p : Plan) (k : ℕ) (vs : List Turn) (are : AreTurns p k (length p) vs
 
   place : (j t : ℕ) → Does p k j t → Place j t
   place j t does =
-      let c = are.all j t (turn_known p k j t does) does in
+      let c = are.all j t (task_known p k j t does) does in
       record { index = c.0; below = c.1; is = get_or_default vs c.0 no_turn (turn j t) c.1 ∙ c.2 }
 
   -- what comes later stands further

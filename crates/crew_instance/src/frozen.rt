@@ -1,10 +1,11 @@
 // Frozen jobs: what a builder is given of them, and the instance that they give.
 ghost use Rattle.std.specs.Prelude.{◌≡◌, ◌<◌, ◌↔◌, ℕ, None, Some, length, slice_set, OnOk, OnErr, IfErr, IfOk, IsErrOf};
-ghost use Rattle.crew_terms.specs.Plan.{Job, empty_plan};
+ghost use Rattle.crew_terms.specs.Plan.{empty_plan};
 ghost use Rattle.crew_terms.specs.Legal.{IsInWindow};
 ghost use Rattle.crew_terms.specs.Rules.{HasNoFrozen};
 ghost use Rattle.crew_terms.specs.Verdict.{IsPlanOf};
-ghost use Rattle.crew_instance.specs.Draft.{AreTeamsFor, FirstFaultNames, filled, instance_of, task_named, with_frozen};
+ghost use Rattle.crew_instance.specs.Draft.{FirstFaultNames, HasBadTeams, filled, instance_of, task_named, with_frozen};
+ghost use Rattle.crew_instance.specs.Teams.{job_by};
 ghost use Rattle.crew_instance.specs.Rules.{IsFreezeFault, IsFrozenFault};
 
 use crate::builders::Builder;
@@ -22,12 +23,12 @@ impl Builder {
     /// has a number that is no team's. Whether the teams can do all frozen jobs is seen when the instance is made.
     pub fn freeze(&mut self, j: u32, start: u32, teams: &[u32]) -> Result<(), BuildFault>
         requires { j < length self.old.tasks }
-        ensures ok { OnOk result (self.new ≡ with_frozen self.old j (record { start = start; teams = teams.now })) }
+        ensures ok { OnOk result (self.new ≡ with_frozen self.old j (job_by start teams.now)) }
         ensures err { OnErr result (self.new ≡ self.old) }
-        ensures bad_window { let job : Job = record { start = start; teams = teams.now } in
-            IsErrOf result BuildFault.BadWindow ↔ ¬ (IsInWindow (instance_of self.old) j job) }
-        ensures bad_teams { let job : Job = record { start = start; teams = teams.now } in
-            IsErrOf result BuildFault.BadTeams ↔ (IsInWindow (instance_of self.old) j job × ¬ (AreTeamsFor self.old j job)) }
+        ensures bad_window { IsErrOf result BuildFault.BadWindow ↔
+            ¬ (IsInWindow (instance_of self.old) j (job_by start teams.now)) }
+        ensures bad_teams { IsErrOf result BuildFault.BadTeams ↔
+            HasBadTeams self.old j (job_by start teams.now) }
         ensures no_other { IfErr result IsFreezeFault }
     {
         let task = &self.tasks[j as usize];
@@ -60,9 +61,11 @@ fn task_of_verdict(verdict: PlanVerdict) -> Option<u32>
 pub(crate) fn give_frozen(instance: Instance, mut frozen: Plan) -> Result<Instance, BuildFault>
     requires free { HasNoFrozen instance }
     requires plan { IsPlanOf instance (filled (length instance.tasks) frozen) }
-    ensures ok { IfOk result (λ i. i ≡ record instance { frozen = filled (length instance.tasks) frozen }) }
+    ensures ok { IfOk result (λ i.
+        i ≡ record instance { frozen = filled (length instance.tasks) frozen }) }
     ensures bad_frozen { (j : ℕ) → (result ≡ Err (BuildFault.BadFrozen j)) ↔
-        (FirstFaultNames instance (filled (length instance.tasks) frozen) j × ¬ (IsErrOf result BuildFault.OutOfMemory)) }
+        (FirstFaultNames instance (filled (length instance.tasks) frozen) j
+        × ¬ (IsErrOf result BuildFault.OutOfMemory)) }
     ensures free { filled (length instance.tasks) frozen ≡ empty_plan (length instance.tasks) →
         IfErr result (λ fault. fault ≡ BuildFault.OutOfMemory) }
     ensures no_other { IfErr result IsFrozenFault }

@@ -1,43 +1,27 @@
 // The first fault among the jobs of a plan.
 ghost use Rattle.std.specs.Prelude.{◌≡◌, ◌≤◌, ◌<◌, ◌↔◌, length, All, IsTrue, MatchOption};
 ghost use Rattle.std.specs.List.Sorted.{IsStrictlyIncreasing};
-ghost use Rattle.crew_terms.specs.Instance.{IsInShift};
-ghost use Rattle.crew_terms.specs.Plan.{Job};
 ghost use Rattle.crew_terms.specs.Legal.{IsJob, IsFit};
 ghost use Rattle.crew_terms.specs.Verdict.{AreJobsBelow, IsFeasibility, IsJobFault, IsPlanOf, IsVisitFault};
-ghost use Rattle.crew_terms.specs.declared.TheConstants.{LAST_MINUTE};
 ghost use Rattle.crew_instance.specs.Jobs.{IsFaultAt, IsGoodAt};
+ghost use Rattle.crew_instance.specs.Teams.{job_by};
 
 use crate::instances::Instance;
 use crate::plans::Plan;
 use crate::rules::{is_in_window, is_team_list};
 use crew_terms::PlanVerdict;
 
-/// Whether the team can come from home and be back in its shift.
-fn is_in_shift(instance: &Instance, k: u32, j: u32, start: u32) -> bool
-    requires team { k < length instance.now.teams }
-    requires task { j < length instance.now.tasks }
-    requires day { start ≤ LAST_MINUTE }
-    ensures { IsTrue result ↔ IsInShift instance.now k j start }
-{
-    let team = instance.team(k);
-    let task = instance.task(j);
-    let there = instance.travel(team.home, task.place);
-    let back = instance.travel(task.place, team.home);
-    team.from + there <= start && start + task.minutes + back <= team.until
-}
-
 /// What keeps the team from beginning the task at this minute.
 fn fault_of_team(instance: &Instance, j: u32, start: u32, k: u32) -> Option<PlanVerdict>
     requires team { k < length instance.now.teams }
     requires task { j < length instance.now.tasks }
-    requires day { start ≤ LAST_MINUTE }
-    ensures { MatchOption result (IsFit instance.now j start k) (IsVisitFault instance.now j start k) }
+    ensures { MatchOption result (IsFit instance.now j start k)
+        (IsVisitFault instance.now j start k) }
 {
     if !instance.qualified(k, j) {
         return Some(PlanVerdict::Skill(k, j));
     }
-    if !is_in_shift(instance, k, j, start) {
+    if !instance.in_shift(k, j, start) {
         return Some(PlanVerdict::Shift(k, j));
     }
     None
@@ -47,7 +31,8 @@ fn fault_of_team(instance: &Instance, j: u32, start: u32, k: u32) -> Option<Plan
 fn fault_of_job(instance: &Instance, j: u32, start: u32, teams: &[u32]) -> Option<PlanVerdict>
     requires task { j < length instance.now.tasks }
     requires known { All (λ k. k < length instance.now.teams) teams.now }
-    ensures { let job : Job = record { start = start; teams = teams.now } in MatchOption result (IsJob instance.now j job) (IsJobFault instance.now j job) }
+    ensures { let job = job_by start teams.now in
+        MatchOption result (IsJob instance.now j job) (IsJobFault instance.now j job) }
 {
     let task = instance.task(j);
     if !is_in_window(task, start) {
@@ -68,7 +53,8 @@ fn fault_of_job(instance: &Instance, j: u32, start: u32, teams: &[u32]) -> Optio
 fn fault_at(instance: &Instance, plan: &Plan, j: u32) -> Option<PlanVerdict>
     requires plan { IsPlanOf instance.now plan.now }
     requires task { j < length plan.now }
-    ensures { MatchOption result (IsGoodAt instance.now plan.now j) (IsFaultAt instance.now plan.now j) }
+    ensures { MatchOption result (IsGoodAt instance.now plan.now j)
+        (IsFaultAt instance.now plan.now j) }
 {
     let start = plan.start(j)?;
     fault_of_job(instance, j, start, plan.teams(j))
@@ -77,7 +63,8 @@ fn fault_at(instance: &Instance, plan: &Plan, j: u32) -> Option<PlanVerdict>
 /// The first fault among the jobs of the plan, by task.
 pub(crate) fn fault_of_jobs(instance: &Instance, plan: &Plan) -> Option<PlanVerdict>
     requires { IsPlanOf instance.now plan.now }
-    ensures { MatchOption result (AreJobsBelow instance.now plan.now (length plan.now)) (IsFeasibility instance.now plan.now) }
+    ensures { MatchOption result (AreJobsBelow instance.now plan.now (length plan.now))
+        (IsFeasibility instance.now plan.now) }
 {
     for j in 0..plan.len() as u32 {
         if let Some(fault) = fault_at(instance, plan, j) {

@@ -4,7 +4,7 @@ ghost use Rattle.std.specs.Option.{option_map};
 ghost use Rattle.crew_terms.specs.Plan.{empty_plan, job_of, unassigned_count};
 ghost use Rattle.crew_terms.specs.declared.TheConstants.{MOST_TASKS};
 ghost use Rattle.crew_instance.specs.Draft.{filled};
-ghost use Rattle.crew_instance.specs.Teams.{job_teams};
+ghost use Rattle.crew_instance.specs.Teams.{job_by, job_teams};
 
 use crew_terms::MOST_TEAMS_PER_TASK;
 use smallvec::SmallVec;
@@ -67,7 +67,8 @@ impl Plan {
     /// `Err` changes nothing.
     pub fn assign(&mut self, i: u32, start: u32, teams: &[u32]) -> Result<(), AllocError>
         requires { i < length self.old }
-        ensures ok { OnOk result (self.new ≡ slice_set self.old i (Some (record { start = start; teams = teams.now }))) }
+        ensures ok { OnOk result
+            (self.new ≡ slice_set self.old i (Some (job_by start teams.now))) }
         ensures err { OnErr result (self.new ≡ self.old) }
     {
         let teams = SmallVec::from_slice(self.alloc, teams)?;

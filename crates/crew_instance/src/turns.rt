@@ -43,7 +43,8 @@ fn is_among(teams: &[u32], k: u32) -> bool
 /// The turn of team `k` at a task, if it does the task.
 fn turn_at(plan: &Plan, k: u32, task: u32) -> Option<Turn>
     requires { task < length plan.now }
-    ensures { MatchOption result ((t : ℕ) → Does plan.now k task t → ⊥) (λ v. (v.task ≡ task) × Does plan.now k v.task v.start) }
+    ensures { MatchOption result ((t : ℕ) → Does plan.now k task t → ⊥)
+        (λ v. (v.task ≡ task) × Does plan.now k v.task v.start) }
 {
     let start = plan.start(task)?;
     if is_among(plan.teams(task), k) {
@@ -67,18 +68,6 @@ pub fn fill_turns(plan: &Plan, k: u32, turns: &mut ArrayVec<Turn, MOST_TASKS>)
     }
 }
 
-/// Whether a team that does the one can do the other after it.
-fn can_follow(instance: &Instance, before: Turn, after: Turn) -> bool
-    requires before { before.task < length instance.now.tasks }
-    requires after { after.task < length instance.now.tasks }
-    requires window { before.start ≤ (task_of instance.now before.task).latest }
-    ensures { IsTrue result ↔ CanFollow instance.now before.task before.start after.task after.start }
-{
-    let from = instance.task(before.task);
-    let to = instance.task(after.task);
-    before.start + from.minutes + instance.travel(from.place, to.place) <= after.start
-}
-
 /// The first of the team's tasks that it can't come to in time from the one before. The list is memory to work in, and
 /// what it holds before doesn't matter.
 fn clash_of(
@@ -89,14 +78,15 @@ fn clash_of(
 ) -> Option<PlanVerdict>
     requires plan { IsPlanOf instance.now plan.now }
     requires jobs { AreJobsBelow instance.now plan.now (length plan.now) }
-    ensures { MatchOption result (HasNoClash instance.now plan.now k) (IsClash instance.now plan.now k) }
+    ensures { MatchOption result (HasNoClash instance.now plan.now k)
+        (IsClash instance.now plan.now k) }
 {
     fill_turns(plan, k, turns);
     let turns = turns.as_slice();
     for i in 1..turns.len() {
         let before = turns[i - 1];
         let after = turns[i];
-        if !can_follow(instance, before, after) {
+        if !instance.can_follow(before.task, before.start, after.task, after.start) {
             return Some(PlanVerdict::Clash(k, before.task, after.task));
         }
     }
@@ -107,7 +97,8 @@ fn clash_of(
 pub(crate) fn fault_of_teams(instance: &Instance, plan: &Plan) -> Option<PlanVerdict>
     requires plan { IsPlanOf instance.now plan.now }
     requires jobs { AreJobsBelow instance.now plan.now (length plan.now) }
-    ensures verdict { MatchOption result (IsFeasible instance.now plan.now) (IsFeasibility instance.now plan.now) }
+    ensures verdict { MatchOption result (IsFeasible instance.now plan.now)
+        (IsFeasibility instance.now plan.now) }
     ensures fault { IfSome result (λ _. ¬ (IsFeasible instance.now plan.now)) }
 {
     let mut turns = ArrayVec::new();

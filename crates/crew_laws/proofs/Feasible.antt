@@ -1,25 +1,8 @@
--- the empty plan is feasible, and frozen jobs don't count
-use Rattle.std.proofs.Common.{◌≡◌, ◌<◌, ℕ, sym, ◌∙◌, length, None, Some}
-use Rattle.std.proofs.lemmas.List.{length-replicate, get_or-replicate}
+-- whether a plan is feasible does not depend on the frozen jobs
+use Rattle.std.proofs.Common.{ℕ}
 use Rattle.crew_terms.specs.Instance.{Instance}
-use Rattle.crew_terms.specs.Plan.{Plan, Job, job_of, empty_plan}
+use Rattle.crew_terms.specs.Plan.{Plan, Job}
 use Rattle.crew_terms.specs.Legal.{IsJob, IsFit, IsFeasible}
-use Rattle.crew_terms.specs.Nodes.{job_known}
-
-none_begun : (n j : ℕ) (job : Job) → job_of (empty_plan n) j ≡ Some job → ⊥
-none_begun n j job e =
-    let l : j < n = rw length-replicate at (job_known (empty_plan n) j job e) in
-    let a : job_of (empty_plan n) j ≡ None = get_or-replicate n j None None l in
-    let b : Some job ≡ None = sym e ∙ a in
-    cc
-
-pub empty_feasible : (i : Instance) → IsFeasible i (empty_plan (length i.tasks))
-empty_feasible i = record {
-  whole = length-replicate (length i.tasks) None;
-  jobs = λ j job e. absurd (none_begun (length i.tasks) j job e);
-  apart = λ k j h t u d. absurd (none_begun (length i.tasks) j d.0 d.1);
-  follow = λ k j h t u d. absurd (none_begun (length i.tasks) j d.0 d.1);
-}
 
 module _ (i : Instance) (frozen : Plan) where
   still_fits : (j t k : ℕ) → IsFit i j t k → IsFit (record i { frozen = frozen }) j t k

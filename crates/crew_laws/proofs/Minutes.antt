@@ -2,9 +2,7 @@
 use Rattle.std.proofs.Common.{◌≡◌, ◌<◌, ◌≤◌, ◌+◌, ◌-◌, ◌^◌, ℕ, zero, suc, ap, sym, refl, ◌∙◌, subst, arith, Bool, true, false, cond, ltb, min, ◌⊎◌, inl, inr}
 use Rattle.std.specs.Prelude.{◌≢◌, ◌==◌, ◌&&◌, bit_and}
 use Rattle.std.specs.Int.{bit_at}
-use Rattle.std.proofs.Math.Nat.{pow-suc}
-use Rattle.std.proofs.lemmas.Nat.{and_le_l}
-use Rattle.std.proofs.lemmas.Nat.Bits.{bit_at_and, bit_at-lt, same_from_bits_below}
+use Rattle.std.proofs.lemmas.Nat.{and_comm}
 use Rattle.std.proofs.lemmas.Bool.{cases_lt, ltb-true, lt-ltb, eqb-true, eq-eqb, and_parts, and_from}
 use Rattle.crew_terms.specs.Instance.{team_of, task_of, minutes_between}
 use Rattle.crew_terms.specs.Limits.{Limits, IsPermittedVisit, tasks_in, teams_in, window_of, pair_of, is_required, has_required}
@@ -12,29 +10,18 @@ use Rattle.crew_terms.specs.Minutes.{is_free_or_required, first_minute, minute_c
 use Rattle.crew_terms.specs.declared.Pair.{Pair}
 use Rattle.crew_terms.specs.declared.Pair.TheVariants.{Free, Forbidden, Required}
 use Rattle.crew_terms.specs.Below.{some_below, any_below-some}
+use Rattle.crew_terms.specs.Skills.{bits_had, has_bits}
 use Rattle.crew_terms.specs.Listed.{list_of}
 use Rattle.crew_terms.specs.Nodes.{required_is}
 
 -- ---- skills
 
-below_power : (n : ℕ) → n < 2 ^ n
-below_power zero = omega arith
-below_power (suc n) = let a = below_power n in omega (arith, pow-suc 2 n)
-
 -- one set of skills lies in another
 inside : (a b : ℕ) → ((s : ℕ) → bit_at a s ≡ 1 → bit_at b s ≡ 1) → bit_and a b ≡ a
-inside a b h = same_from_bits_below a (bit_and a b) a (let l = and_le_l a b in let m = below_power a in omega arith) (below_power a) (λ i l. bit_at_and a b i ∙ at i (cases_lt (bit_at a i) 1))
-  where
-    at : (i : ℕ) → (bit_at a i < 1) ⊎ (1 ≤ bit_at a i) → min (bit_at a i) (bit_at b i) ≡ bit_at a i
-    at i (inl l) = omega arith
-    at i (inr l) = let m = bit_at-lt a i in let e : bit_at b i ≡ 1 = h i (omega arith) in omega arith
+inside a b h = and_comm a b ∙ bits_had b a h
 
 of_inside : (a b : ℕ) → bit_and a b ≡ a → (s : ℕ) → bit_at a s ≡ 1 → bit_at b s ≡ 1
-of_inside a b e s h =
-    let m : bit_at (bit_and a b) s ≡ min (bit_at a s) (bit_at b s) = bit_at_and a b s in
-    let f : bit_at (bit_and a b) s ≡ bit_at a s = ap (λ x. bit_at x s) e in
-    let l = bit_at-lt b s in
-    omega arith
+of_inside a b e = has_bits b a (and_comm b a ∙ e)
 
 -- ---- minutes
 

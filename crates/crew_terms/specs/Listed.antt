@@ -1,10 +1,11 @@
 -- laws of the numbers below another that a test keeps
-use Rattle.std.proofs.Common.{◌≡◌, ◌<◌, ◌+◌, ℕ, zero, suc, Bool, true, false, cond, List, [], ◌∷◌, get_or, ap, ◌∙◌, arith}
+use Rattle.std.proofs.Common.{◌≡◌, ◌<◌, ◌+◌, ℕ, zero, suc, Bool, true, false, cond, List, [], ◌∷◌, ◌++◌, get_or, ap, ◌∙◌, arith}
 use Rattle.std.specs.Prelude.{All, filter, Contains}
 use Rattle.std.specs.List.{range_with_len}
 use Rattle.std.specs.List.Sorted.{IsStrictlyIncreasing}
 use Rattle.std.proofs.lemmas.List.Elements.{All-contains, All-filter, filter_passes}
-use Rattle.std.proofs.lemmas.List.FromFn.{length-range_with_len, get_or-range_with_len}
+use Rattle.std.proofs.lemmas.List.{map-id}
+use Rattle.std.proofs.lemmas.List.FromFn.{length-range_with_len, get_or-range_with_len, map-range_with_len_more}
 use Rattle.std.proofs.lemmas.List.Kept.{IsStrictlyIncreasing-filter}
 use Rattle.crew_terms.specs.Minutes.{IsListOf}
 
@@ -14,6 +15,10 @@ all_below n k d l =
     let m = length-range_with_len 0 n in
     let e : get_or (range_with_len 0 n) k d ≡ 0 + k = get_or-range_with_len 0 n k d (omega arith) in
     omega arith
+
+-- one more number comes at the end
+pub range_more : (n : ℕ) → range_with_len 0 (n + 1) ≡ range_with_len 0 n ++ n ∷ []
+range_more n = simp map-id at (map-range_with_len_more (λ (j : ℕ). j) 0 n n (omega arith))
 
 -- they rise
 pub below_rises : (n : ℕ) → IsStrictlyIncreasing (range_with_len 0 n)

@@ -6,7 +6,7 @@ use Rattle.std.proofs.lemmas.Bool.{cases_lt}
 use Rattle.std.proofs.lemmas.List.{get_or_past}
 use Rattle.std.proofs.lemmas.List.FromFn.{get_or-map-range_with_len}
 use Rattle.crew_terms.specs.Instance.{Instance, task_of}
-use Rattle.crew_terms.specs.Plan.{Plan, Job, job_of}
+use Rattle.crew_terms.specs.Plan.{Plan, Job, Does, job_of}
 use Rattle.crew_terms.specs.Limits.{Limits, window_of, pair_of, root_limits, root_window, root_pair, is_required}
 use Rattle.crew_terms.specs.Branches.{Frame, split_of, side_of}
 use Rattle.crew_terms.specs.Tree.{child, limits_below}
@@ -24,6 +24,10 @@ job_known p j job e = at (cases_lt j (length p))
     at : (j < length p) ⊎ (length p ≤ j) → j < length p
     at (inl l) = l
     at (inr m) = let n : job_of p j ≡ None = get_or_past p j None m in let x : None ≡ Some job = sym n ∙ e in cc
+
+-- so is what a team begins
+pub task_known : (p : Plan) (k j t : ℕ) → Does p k j t → j < length p
+task_known p k j t d = job_known p j d.0 d.1
 
 -- the test of a pair tells required ones
 pub required_is : (p : Pair) → is_required p ≡ true → p ≡ Required

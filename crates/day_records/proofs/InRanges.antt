@@ -6,13 +6,15 @@ use Rattle.std.proofs.lemmas.Int.{ints}
 use Rattle.crew_terms.specs.Words.{Words}
 use Rattle.field_table.specs.Fields.{Accepts}
 use Rattle.field_table.specs.declared.fields.Kind.{Kind}
-use Rattle.day_terms.specs.Forms.{Form, forms, place_form, travel_form, route_time_form, default_travel_form, team_form, task_form, cancel_form, move_form, longer_form, needs_form, sick_form, shift_form, skill_form, unskill_form, plan_form}
+use Rattle.day_terms.specs.Forms.{Form, form_of, place_form, travel_form, route_time_form, default_travel_form, team_form, task_form, cancel_form, move_form, longer_form, needs_form, sick_form, shift_form, skill_form, unskill_form, plan_form}
 use Rattle.day_terms.specs.Forms.Slot.{Ranged}
 use Rattle.day_terms.specs.Fields.{field_in, AllGive}
 use Rattle.day_terms.specs.Ranges.{IsInRange}
 use Rattle.day_terms.specs.Days.{ReadsRecord, SayEntries, IsDayOf}
 use Rattle.day_terms.specs.Days.ReadsRecord.{OfNoKind, Miscounted, BadField, Good}
 use Rattle.day_terms.specs.Days.ReadsRecords.{AllGood, StopsAt}
+use Rattle.day_terms.specs.declared.RecordKind.{RecordKind}
+use Rattle.day_terms.specs.declared.RecordKind.TheVariants as kinds
 use Rattle.day_terms.specs.declared.Entry.{Entry}
 use Rattle.day_terms.specs.declared.Refused.{Refused}
 
@@ -71,21 +73,30 @@ unskill_range fields entry (n1, named1, (t, given, e)) = subst IsInRange (sym e)
 plan_range : KeepsRange plan_form
 plan_range fields entry (t, given, e) = subst IsInRange (sym e) (most given)
 
-all_ranges : AllByRecursion KeepsRange forms
-all_ranges = (place_range, (travel_range, (route_time_range, (default_travel_range, (team_range, (task_range, (cancel_range, (move_range, (longer_range, (needs_range, (sick_range, (shift_range, (skill_range, (unskill_range, (plan_range, tt)))))))))))))))
-
-contained : {X : Type 0} (P : X → Type 0) (xs : List X) (x : X) → AllByRecursion P xs → Contains xs x → P x
-contained P [] x all (k, within, is) = absurd (omega arith)
-contained P (y ∷ ys) x all (zero, within, is) = subst P is all.0
-contained P (y ∷ ys) x all (suc k, within, is) = contained P ys x all.1 (k, omega arith, is)
+all_ranges : (kind : RecordKind) → KeepsRange (form_of kind)
+all_ranges kinds.Place = place_range
+all_ranges kinds.Travel = travel_range
+all_ranges kinds.RouteTime = route_time_range
+all_ranges kinds.DefaultTravel = default_travel_range
+all_ranges kinds.Team = team_range
+all_ranges kinds.Task = task_range
+all_ranges kinds.Cancel = cancel_range
+all_ranges kinds.Move = move_range
+all_ranges kinds.Longer = longer_range
+all_ranges kinds.Needs = needs_range
+all_ranges kinds.Sick = sick_range
+all_ranges kinds.Shift = shift_range
+all_ranges kinds.Skill = skill_range
+all_ranges kinds.Unskill = unskill_range
+all_ranges kinds.Plan = plan_range
 
 pub said_range : (fields : Words) (entry : Entry) → ReadsRecord fields (Ok entry) → IsInRange entry
 said_range fields entry (OfNoKind unknown is) = cc
-said_range fields entry (Miscounted form kind miscounted is) = cc
-said_range fields entry (BadField form kind counted fault first is) = cc
-said_range fields entry (Good form kind counted own gives is) =
+said_range fields entry (Miscounted kind of miscounted is) = cc
+said_range fields entry (BadField kind of counted fault first is) = cc
+said_range fields entry (Good kind of counted own gives is) =
     let same : own ≡ entry = cc in
-    subst IsInRange same (contained KeepsRange forms form all_ranges kind.known fields own gives)
+    subst IsInRange same (all_ranges kind fields own gives)
 
 say_range : (rows : List Words) (entries : List Entry) → SayEntries rows entries → (k : ℕ) (d : Entry) → k < length entries → IsInRange (get_or entries k d)
 say_range [] [] said k d within = absurd (omega arith)

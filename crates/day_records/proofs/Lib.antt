@@ -1,7 +1,6 @@
 pub mod Numbered
 pub mod FirstBads
 pub mod SkillSets
-pub mod ByNumber
 pub mod Turns
 pub mod Takings
 pub mod InRanges

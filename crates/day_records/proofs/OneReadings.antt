@@ -1,6 +1,6 @@
 -- a record says one thing, and a text has one reading
 use Rattle.std.proofs.Common.{◌≡◌, ◌≢◌, ◌<◌, ◌+◌, ◌*◌, ◌/◌, ◌%◌, ◌^◌, ◌++◌, inl, inr, ℕ, zero, suc, ℤ, pos, List, [], ◌∷◌, Result, Ok, Err, Option, Some, length, get_or, refl, sym, subst, ap, ◌∙◌, arith, pow-suc}
-use Rattle.std.specs.Prelude.{Contains, bytes_eq, if◌then◌else◌}
+use Rattle.std.specs.Prelude.{Contains, bytes_eq, codes, if◌then◌else◌}
 use Rattle.std.specs.List.{AllByRecursion, AllZip}
 use Rattle.std.specs.Int.{bit_at}
 use Rattle.std.proofs.lemmas.Bool.{cases_eq}
@@ -17,17 +17,18 @@ use Rattle.field_table.specs.declared.fields.Cause.TheVariants.{Count, Spelling,
 use Rattle.field_table.specs.declared.fields.Field.{Field}
 use Rattle.field_table.specs.declared.fields.FieldFault.{FieldFault}
 use Rattle.day_terms.specs.Records.{field_of}
-use Rattle.day_terms.specs.Forms.{Form, forms, Slot, Value, Maker}
+use Rattle.day_terms.specs.Forms.{Form, form_of, Slot, Value, Maker}
 use Rattle.day_terms.specs.Forms.Slot.{Named, Ranged, Skilled}
 use Rattle.day_terms.specs.Fields.{SpellAll, IsSkill, IsSetOf, skill_words, name_field, field_in, Gives, IsBad, AllGive, IsFirstBad}
-use Rattle.day_terms.specs.Days.{IsOfForm, ReadsRecord, SayEntries, ReadsRecords}
+use Rattle.day_terms.specs.Days.{IsCounted, IsOfKind, ReadsRecord, SayEntries, ReadsRecords}
 use Rattle.day_terms.specs.Days.ReadsRecord.{OfNoKind, Miscounted, BadField, Good}
 use Rattle.day_terms.specs.Days.ReadsRecords.{AllGood, StopsAt}
+use Rattle.day_terms.specs.declared.RecordKind.{RecordKind}
+use Rattle.day_terms.specs.declared.RecordKind.TheVariants as kinds
 use Rattle.day_terms.specs.declared.Entry.{Entry}
 use Rattle.day_terms.specs.declared.Refused.{Refused}
 use Rattle.day_terms.specs.declared.DayCause.{DayCause}
 use Rattle.day_terms.specs.declared.DayCause.TheVariants as cause
-use Rattle.day_records.proofs.ByNumber.{keys}
 
 -- a word spells at most one number of a kind
 abbrev pub SpellsOne : Type 0
@@ -142,71 +143,78 @@ first_one u (s ∷ ss) fields place a b (inr (v, g, x)) (inr (w, h, y)) = first_
 
 -- ---- the kind of a record
 
--- the number of the first such key
-abbrev number_of : List ℕ → List (List ℕ) → ℕ
-number_of key [] = 0
-number_of key (k ∷ ks) = if bytes_eq k key then 0 else suc (number_of key ks)
+-- each kind by its key
+kind_by : List ℕ → RecordKind
+kind_by key =
+    if bytes_eq (codes "place") key then kinds.Place else
+    if bytes_eq (codes "travel") key then kinds.Travel else
+    if bytes_eq (codes "route_time") key then kinds.RouteTime else
+    if bytes_eq (codes "default_travel") key then kinds.DefaultTravel else
+    if bytes_eq (codes "team") key then kinds.Team else
+    if bytes_eq (codes "task") key then kinds.Task else
+    if bytes_eq (codes "cancel") key then kinds.Cancel else
+    if bytes_eq (codes "move") key then kinds.Move else
+    if bytes_eq (codes "longer") key then kinds.Longer else
+    if bytes_eq (codes "needs") key then kinds.Needs else
+    if bytes_eq (codes "sick") key then kinds.Sick else
+    if bytes_eq (codes "shift") key then kinds.Shift else
+    if bytes_eq (codes "skill") key then kinds.Skill else
+    if bytes_eq (codes "unskill") key then kinds.Unskill else
+    kinds.Plan
 
-numbered : (k : ℕ) → k < 15 → number_of (get_or keys k []) keys ≡ k
-numbered zero h = refl
-numbered (suc zero) h = refl
-numbered (suc (suc zero)) h = refl
-numbered (suc (suc (suc zero))) h = refl
-numbered (suc (suc (suc (suc zero)))) h = refl
-numbered (suc (suc (suc (suc (suc zero))))) h = refl
-numbered (suc (suc (suc (suc (suc (suc zero)))))) h = refl
-numbered (suc (suc (suc (suc (suc (suc (suc zero))))))) h = refl
-numbered (suc (suc (suc (suc (suc (suc (suc (suc zero)))))))) h = refl
-numbered (suc (suc (suc (suc (suc (suc (suc (suc (suc zero))))))))) h = refl
-numbered (suc (suc (suc (suc (suc (suc (suc (suc (suc (suc zero)))))))))) h = refl
-numbered (suc (suc (suc (suc (suc (suc (suc (suc (suc (suc (suc zero))))))))))) h = refl
-numbered (suc (suc (suc (suc (suc (suc (suc (suc (suc (suc (suc (suc zero)))))))))))) h = refl
-numbered (suc (suc (suc (suc (suc (suc (suc (suc (suc (suc (suc (suc (suc zero))))))))))))) h = refl
-numbered (suc (suc (suc (suc (suc (suc (suc (suc (suc (suc (suc (suc (suc (suc zero)))))))))))))) h = refl
-numbered (suc (suc (suc (suc (suc (suc (suc (suc (suc (suc (suc (suc (suc (suc (suc k))))))))))))))) h = absurd (omega arith)
+kind_back : (kind : RecordKind) → kind_by (form_of kind).key ≡ kind
+unfolding kind_by
+kind_back kinds.Place = refl
+kind_back kinds.Travel = refl
+kind_back kinds.RouteTime = refl
+kind_back kinds.DefaultTravel = refl
+kind_back kinds.Team = refl
+kind_back kinds.Task = refl
+kind_back kinds.Cancel = refl
+kind_back kinds.Move = refl
+kind_back kinds.Longer = refl
+kind_back kinds.Needs = refl
+kind_back kinds.Sick = refl
+kind_back kinds.Shift = refl
+kind_back kinds.Skill = refl
+kind_back kinds.Unskill = refl
+kind_back kinds.Plan = refl
 
-key_at : (form : Form) (known : Contains forms form) → form.key ≡ get_or keys known.0 []
-key_at form (k, within, is) = ap (λ f. f.key) (sym is) ∙ sym (get_or-map (λ f. f.key) forms k form [] within)
-
-form_one : (fields : Words) (f g : Form) → IsOfForm fields f → IsOfForm fields g → f ≡ g
-form_one fields f g a b =
-    let (k, in_k, is_k) = a.known in
-    let (j, in_j, is_j) = b.known in
-    let same : k ≡ j =
-    sym (numbered k in_k) ∙ ap (λ key. number_of key keys) (sym (key_at f a.known) ∙ sym a.key ∙ b.key ∙ key_at g b.known) ∙ numbered j in_j in
-    sym is_k ∙ get_or_default forms k f g in_k ∙ ap (λ n. get_or forms n g) same ∙ is_j
+-- so a record is of one kind
+kind_one : (fields : Words) (f g : RecordKind) → IsOfKind fields f → IsOfKind fields g → f ≡ g
+kind_one fields f g a b = sym (kind_back f) ∙ ap kind_by (sym a ∙ b) ∙ kind_back g
 
 -- what a record of this kind says
-data ReadsAs (form : Form) (fields : Words) (told : Result Entry DayCause) : Type 0 where
-  Few : (miscounted : length fields ≢ length form.slots + 1) (is : told ≡ Err (cause.Field (record { place = length fields; cause = Count }))) → ReadsAs form fields told
-  Bad : (counted : length fields ≡ length form.slots + 1) (fault : FieldFault) (first : IsFirstBad form.slots fields 1 fault) (is : told ≡ Err (cause.Field fault)) → ReadsAs form fields told
-  Whole : (counted : length fields ≡ length form.slots + 1) (entry : Entry) (gives : AllGive form.slots form.entry fields 1 entry) (is : told ≡ Ok entry) → ReadsAs form fields told
+data ReadsAs (kind : RecordKind) (fields : Words) (told : Result Entry DayCause) : Type 0 where
+  Few : (miscounted : IsCounted fields kind → ⊥) (is : told ≡ Err (cause.Field (record { place = length fields; cause = Count }))) → ReadsAs kind fields told
+  Bad : (counted : IsCounted fields kind) (fault : FieldFault) (first : IsFirstBad (form_of kind).slots fields 1 fault) (is : told ≡ Err (cause.Field fault)) → ReadsAs kind fields told
+  Whole : (counted : IsCounted fields kind) (entry : Entry) (gives : AllGive (form_of kind).slots (form_of kind).entry fields 1 entry) (is : told ≡ Ok entry) → ReadsAs kind fields told
 
-as_form : (form : Form) (fields : Words) (told : Result Entry DayCause) → IsOfForm fields form → ReadsRecord fields told → ReadsAs form fields told
-as_form form fields told of (OfNoKind unknown is) = absurd (unknown form of)
-as_form form fields told of (Miscounted own kind miscounted is) = subst (λ f. ReadsAs f fields told) (form_one fields own form kind of) (Few miscounted is)
-as_form form fields told of (BadField own kind counted fault first is) = subst (λ f. ReadsAs f fields told) (form_one fields own form kind of) (Bad counted fault first is)
-as_form form fields told of (Good own kind counted entry gives is) = subst (λ f. ReadsAs f fields told) (form_one fields own form kind of) (Whole counted entry gives is)
+as_kind : (kind : RecordKind) (fields : Words) (told : Result Entry DayCause) → IsOfKind fields kind → ReadsRecord fields told → ReadsAs kind fields told
+as_kind kind fields told of (OfNoKind unknown is) = absurd (unknown kind of)
+as_kind kind fields told of (Miscounted own o miscounted is) = subst (λ k. ReadsAs k fields told) (kind_one fields own kind o of) (Few miscounted is)
+as_kind kind fields told of (BadField own o counted fault first is) = subst (λ k. ReadsAs k fields told) (kind_one fields own kind o of) (Bad counted fault first is)
+as_kind kind fields told of (Good own o counted entry gives is) = subst (λ k. ReadsAs k fields told) (kind_one fields own kind o of) (Whole counted entry gives is)
 
-as_one : SpellsOne → (form : Form) (fields : Words) (r s : Result Entry DayCause) → ReadsAs form fields r → ReadsAs form fields s → r ≡ s
-as_one u form fields r s (Few m e) (Few n f) = e ∙ sym f
-as_one u form fields r s (Few m e) (Bad n b y f) = absurd (m n)
-as_one u form fields r s (Few m e) (Whole n b y f) = absurd (m n)
-as_one u form fields r s (Bad m a x e) (Few n f) = absurd (n m)
-as_one u form fields r s (Bad m a x e) (Bad n b y f) = e ∙ ap (λ t. Err (cause.Field t)) (first_one u form.slots fields 1 a b x y) ∙ sym f
-as_one u form fields r s (Bad m a x e) (Whole n b y f) = absurd (good_no_fault u form.slots form.entry fields 1 b a y x)
-as_one u form fields r s (Whole m a x e) (Few n f) = absurd (n m)
-as_one u form fields r s (Whole m a x e) (Bad n b y f) = absurd (good_no_fault u form.slots form.entry fields 1 a b x y)
-as_one u form fields r s (Whole m a x e) (Whole n b y f) = e ∙ ap (λ t. Ok t) (all_one u form.slots form.entry fields 1 a b x y) ∙ sym f
+as_one : SpellsOne → (kind : RecordKind) (fields : Words) (r s : Result Entry DayCause) → ReadsAs kind fields r → ReadsAs kind fields s → r ≡ s
+as_one u kind fields r s (Few m e) (Few n f) = e ∙ sym f
+as_one u kind fields r s (Few m e) (Bad n b y f) = absurd (m n)
+as_one u kind fields r s (Few m e) (Whole n b y f) = absurd (m n)
+as_one u kind fields r s (Bad m a x e) (Few n f) = absurd (n m)
+as_one u kind fields r s (Bad m a x e) (Bad n b y f) = e ∙ ap (λ t. Err (cause.Field t)) (first_one u (form_of kind).slots fields 1 a b x y) ∙ sym f
+as_one u kind fields r s (Bad m a x e) (Whole n b y f) = absurd (good_no_fault u (form_of kind).slots (form_of kind).entry fields 1 b a y x)
+as_one u kind fields r s (Whole m a x e) (Few n f) = absurd (n m)
+as_one u kind fields r s (Whole m a x e) (Bad n b y f) = absurd (good_no_fault u (form_of kind).slots (form_of kind).entry fields 1 a b x y)
+as_one u kind fields r s (Whole m a x e) (Whole n b y f) = e ∙ ap (λ t. Ok t) (all_one u (form_of kind).slots (form_of kind).entry fields 1 a b x y) ∙ sym f
 
 pub record_one : SpellsOne → (fields : Words) (r s : Result Entry DayCause) → ReadsRecord fields r → ReadsRecord fields s → r ≡ s
 record_one u fields r s (OfNoKind unknown e) (OfNoKind other f) = e ∙ sym f
-record_one u fields r s (OfNoKind unknown e) (Miscounted form kind m f) = absurd (unknown form kind)
-record_one u fields r s (OfNoKind unknown e) (BadField form kind m a x f) = absurd (unknown form kind)
-record_one u fields r s (OfNoKind unknown e) (Good form kind m a x f) = absurd (unknown form kind)
-record_one u fields r s (Miscounted form kind m e) y = as_one u form fields r s (Few m e) (as_form form fields s kind y)
-record_one u fields r s (BadField form kind m a x e) y = as_one u form fields r s (Bad m a x e) (as_form form fields s kind y)
-record_one u fields r s (Good form kind m a x e) y = as_one u form fields r s (Whole m a x e) (as_form form fields s kind y)
+record_one u fields r s (OfNoKind unknown e) (Miscounted kind of m f) = absurd (unknown kind of)
+record_one u fields r s (OfNoKind unknown e) (BadField kind of m a x f) = absurd (unknown kind of)
+record_one u fields r s (OfNoKind unknown e) (Good kind of m a x f) = absurd (unknown kind of)
+record_one u fields r s (Miscounted kind of m e) y = as_one u kind fields r s (Few m e) (as_kind kind fields s of y)
+record_one u fields r s (BadField kind of m a x e) y = as_one u kind fields r s (Bad m a x e) (as_kind kind fields s of y)
+record_one u fields r s (Good kind of m a x e) y = as_one u kind fields r s (Whole m a x e) (as_kind kind fields s of y)
 
 -- ---- the records of a day
 

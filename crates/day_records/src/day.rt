@@ -3,7 +3,8 @@ ghost use Rattle.std.specs.Prelude.{◌≡◌, ◌<◌, length, IfOk, All};
 ghost use Rattle.day_terms.specs.Days.{ReadsRecord, IsDayOf};
 ghost use Rattle.day_terms.specs.Ranges.{IsInRange};
 
-use crate::rows::{KINDS, LENGTHS, read_row};
+use crate::kinds::{field_count, kind_of};
+use crate::rows::read_row;
 use crate::words::RecordWords;
 use csv::ReaderBuilder;
 use day_terms::{DayCause, Entry, Refused};
@@ -57,11 +58,11 @@ fn read_record(words: &RecordWords<'_>) -> Result<Entry, DayCause>
     requires { 0 < length words.now }
     ensures { ReadsRecord words.now result }
 {
-    let Some(kind) = KINDS.find(words.word(0)) else {
+    let Some(kind) = kind_of(words.word(0)) else {
         return Err(DayCause::Kind);
     };
     let count = words.count();
-    if count != LENGTHS[kind] {
+    if count != field_count(kind) {
         return Err(DayCause::Field(FieldFault {
             place: count,
             cause: Cause::Count,

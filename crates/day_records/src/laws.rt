@@ -10,9 +10,11 @@ use field_table::one_answer;
 
 /// A law: a record says one thing in itself, and a text has one list of entries and one stop.
 pub fn one_reading()
-    ensures of_record { (fields : Words) (r s : Result Entry DayCause) → ReadsRecord fields r → ReadsRecord fields s → r ≡ s }
+    ensures of_record { (fields : Words) (r s : Result Entry DayCause) → ReadsRecord fields r →
+        ReadsRecord fields s → r ≡ s }
     ensures of_day { (text : List ℕ) (entries others : List Entry) (stop other : Option Refused)
-        → IsDayOf text entries stop → IsDayOf text others other → (entries ≡ others) × (stop ≡ other) }
+        → IsDayOf text entries stop → IsDayOf text others other →
+        (entries ≡ others) × (stop ≡ other) }
 {
     one_answer();
 }

@@ -2,12 +2,13 @@
 #![tactic(auto)]
 
 mod day;
+mod kinds;
 mod laws;
 mod rows;
 mod skills;
 mod words;
 
 pub use day::{Day, Entries, read_day};
-pub use day_terms::{DayCause, Entry, Refused};
+pub use day_terms::{DayCause, Entry, RecordKind, Refused};
 pub use laws::one_reading;
 pub use words::RecordWords;

@@ -1,15 +1,15 @@
-// The fifteen kinds of records: their rows of fields, and the entries that they stand for.
+// The records of each kind: their rows of fields, and the entries that they stand for.
 ghost use Rattle.std.specs.Prelude.{◌≡◌, ◌<◌, ◌+◌, length};
 ghost use Rattle.crew_terms.specs.Name.{IsName};
 ghost use Rattle.day_terms.specs.Records.{field_of};
-ghost use Rattle.day_terms.specs.Forms.{place_form, travel_form, route_time_form, default_travel_form, team_form, task_form, cancel_form, move_form, longer_form, needs_form, sick_form, shift_form, skill_form, unskill_form, plan_form};
-ghost use Rattle.day_records.specs.Rows.{ReadsFields, form_at};
+ghost use Rattle.day_terms.specs.Forms.{form_of, place_form, travel_form, route_time_form, default_travel_form, team_form, task_form, cancel_form, move_form, longer_form, needs_form, sick_form, shift_form, skill_form, unskill_form, plan_form};
+ghost use Rattle.day_records.specs.Rows.{ReadsFields};
 
 use crate::skills::read_skills;
 use crate::words::RecordWords;
 use crew_terms::{LAST_MINUTE, LONGEST_NAME, MOST_NODES, Name, SKILLS};
-use day_terms::{Entry, GREATEST_COUNT};
-use field_table::{Field, FieldFault, Kind, Schema, Words, field, fields};
+use day_terms::{Entry, GREATEST_COUNT, RecordKind};
+use field_table::{Field, FieldFault, Kind, Words, field, fields};
 
 const NAME: Field = Field {
     low: 1,
@@ -28,30 +28,6 @@ const COUNT: Field = field!(Number(0, GREATEST_COUNT as i64));
 const SKILL: Field = field!(Number(0, SKILLS as i64 - 1));
 
 const NODES: Field = field!(Number(0, MOST_NODES as i64));
-
-/// The first fields of the records, one of each kind.
-pub(crate) const KINDS: Schema = Schema {
-    keys: &[
-        "place",
-        "travel",
-        "route_time",
-        "default_travel",
-        "team",
-        "task",
-        "cancel",
-        "move",
-        "longer",
-        "needs",
-        "sick",
-        "shift",
-        "skill",
-        "unskill",
-        "plan",
-    ],
-};
-
-/// How many fields the records of each kind have.
-pub(crate) const LENGTHS: [usize; 15] = [2, 4, 4, 2, 6, 8, 2, 4, 3, 3, 2, 4, 3, 3, 2];
 
 /// The name at a place where one stands.
 fn name_at(words: &RecordWords<'_>, place: usize) -> Name
@@ -236,27 +212,26 @@ fn read_plan(words: &RecordWords<'_>) -> Result<Entry, FieldFault>
     })
 }
 
-/// The entry of a record of the kind with this number and with its number of fields, or the first bad field.
-pub(crate) fn read_row(kind: usize, words: &RecordWords<'_>) -> Result<Entry, FieldFault>
-    requires known { kind < 15 }
-    requires counted { length words.now ≡ length (form_at kind).slots + 1 }
-    ensures { ReadsFields (form_at kind) words.now result }
+/// The entry of a record of the kind that has the kind's number of fields, or the first bad field.
+pub(crate) fn read_row(kind: RecordKind, words: &RecordWords<'_>) -> Result<Entry, FieldFault>
+    requires { length words.now ≡ length (form_of kind).slots + 1 }
+    ensures { ReadsFields (form_of kind) words.now result }
 {
     match kind {
-        0 => read_place(words),
-        1 => read_travel(words),
-        2 => read_route_time(words),
-        3 => read_default_travel(words),
-        4 => read_team(words),
-        5 => read_task(words),
-        6 => read_cancel(words),
-        7 => read_move(words),
-        8 => read_longer(words),
-        9 => read_needs(words),
-        10 => read_sick(words),
-        11 => read_shift(words),
-        12 => read_skill(words),
-        13 => read_unskill(words),
-        _ => read_plan(words),
+        RecordKind::Place => read_place(words),
+        RecordKind::Travel => read_travel(words),
+        RecordKind::RouteTime => read_route_time(words),
+        RecordKind::DefaultTravel => read_default_travel(words),
+        RecordKind::Team => read_team(words),
+        RecordKind::Task => read_task(words),
+        RecordKind::Cancel => read_cancel(words),
+        RecordKind::Move => read_move(words),
+        RecordKind::Longer => read_longer(words),
+        RecordKind::Needs => read_needs(words),
+        RecordKind::Sick => read_sick(words),
+        RecordKind::Shift => read_shift(words),
+        RecordKind::Skill => read_skill(words),
+        RecordKind::Unskill => read_unskill(words),
+        RecordKind::Plan => read_plan(words),
     }
 }

@@ -1,4 +1,3 @@
-pub mod ByTest
 pub mod Places
 pub mod Fields
 pub mod Times

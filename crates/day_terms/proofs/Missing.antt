@@ -8,7 +8,7 @@ use Rattle.std.proofs.lemmas.List.Folds.{find-append}
 use Rattle.day_terms.specs.State.{DayState}
 use Rattle.day_terms.specs.Rounds.{lacks_time, first_missing}
 use Rattle.day_terms.specs.Laws.{IsFirstLack}
-use Rattle.day_terms.proofs.ByTest.{by_test, find_here, find_later}
+use Rattle.day_terms.specs.ByTest.{by_test, find_here, find_later}
 use Rattle.day_terms.proofs.Places.{same_some}
 
 abbrev Bytes : Type 0

@@ -7,7 +7,7 @@ use Rattle.std.proofs.lemmas.List.Elements.{All-head, All-tail, All-filter, All-
 use Rattle.std.proofs.lemmas.List.Folds.{Any-from_list_any, list_any-from_Any}
 use Rattle.std.proofs.lemmas.Option.{slice_get-map}
 use Rattle.std.proofs.lemmas.Slice.Eq.{bytes_eq-Decides}
-use Rattle.day_terms.proofs.ByTest.{by_test}
+use Rattle.day_terms.specs.ByTest.{by_test}
 use Rattle.day_terms.proofs.Times.{Bytes, no_tie}
 
 module _ {X : Type 0} (name : X → Bytes) where

@@ -10,7 +10,7 @@ use Rattle.std.proofs.lemmas.List.Sums.{fails_before_first, passes_at_first}
 use Rattle.std.proofs.lemmas.Option.{slice_get-get_or}
 use Rattle.std.proofs.lemmas.Slice.Eq.{bytes_eq-Decides}
 use Rattle.day_terms.specs.State.{DayState, has_place, place_number}
-use Rattle.day_terms.proofs.ByTest.{by_test}
+use Rattle.day_terms.specs.ByTest.{by_test}
 use Rattle.day_terms.proofs.Named as named
 use Rattle.day_terms.proofs.Times.{Bytes}
 

@@ -1,31 +1,35 @@
 -- what a day's text says
-use Rattle.std.specs.Prelude.{◌≡◌, ◌≢◌, ◌+◌, ◌++◌, ℕ, List, ◌∷◌, length, Option, None, Some, Result, Ok, Err, Contains}
+use Rattle.std.specs.Prelude.{◌≡◌, ◌+◌, ◌++◌, ℕ, List, ◌∷◌, length, Option, None, Some, Result, Ok, Err}
 use Rattle.std.specs.List.{AllZip}
 use Rattle.crew_terms.specs.Words.{Words}
 use Rattle.field_table.specs.declared.fields.Cause.TheVariants.{Count}
 use Rattle.field_table.specs.declared.fields.FieldFault.{FieldFault}
 use Rattle.day_terms.specs.Records.{records_of_text, field_of}
-use Rattle.day_terms.specs.Forms.{Form, forms}
+use Rattle.day_terms.specs.Forms.{form_of}
 use Rattle.day_terms.specs.Fields.{AllGive, IsFirstBad}
+use Rattle.day_terms.specs.declared.RecordKind.{RecordKind}
 use Rattle.day_terms.specs.declared.Entry.{Entry}
 use Rattle.day_terms.specs.declared.Refused.{Refused}
 use Rattle.day_terms.specs.declared.DayCause.{DayCause}
 use Rattle.day_terms.specs.declared.DayCause.TheVariants.{Kind, Field}
 
 -- the record is of this kind
-pub record IsOfForm (fields : Words) (form : Form) : Type 0 where
-  pub known : Contains forms form
-  pub key : field_of fields 0 ≡ form.key
+abbrev pub IsOfKind : Words → RecordKind → Type 0
+IsOfKind fields kind = field_of fields 0 ≡ (form_of kind).key
+
+-- a record of this kind has as many fields as the kind
+abbrev pub IsCounted : Words → RecordKind → Type 0
+IsCounted fields kind = length fields ≡ length (form_of kind).slots + 1
 
 -- what a record says in itself: an entry, or why it is refused; its kind is looked at first, then the number of its fields, then each field in turn
 pub data ReadsRecord (fields : Words) (told : Result Entry DayCause) : Type 0 where
-  OfNoKind : (unknown : (form : Form) → IsOfForm fields form → ⊥) (is : told ≡ Err Kind) → ReadsRecord fields told
-  Miscounted : (form : Form) (kind : IsOfForm fields form) (miscounted : length fields ≢ length form.slots + 1)
+  OfNoKind : (unknown : (kind : RecordKind) → IsOfKind fields kind → ⊥) (is : told ≡ Err Kind) → ReadsRecord fields told
+  Miscounted : (kind : RecordKind) (of : IsOfKind fields kind) (miscounted : IsCounted fields kind → ⊥)
       (is : told ≡ Err (Field (record { place = length fields; cause = Count }))) → ReadsRecord fields told
-  BadField : (form : Form) (kind : IsOfForm fields form) (counted : length fields ≡ length form.slots + 1)
-      (fault : FieldFault) (first : IsFirstBad form.slots fields 1 fault) (is : told ≡ Err (Field fault)) → ReadsRecord fields told
-  Good : (form : Form) (kind : IsOfForm fields form) (counted : length fields ≡ length form.slots + 1)
-      (entry : Entry) (gives : AllGive form.slots form.entry fields 1 entry) (is : told ≡ Ok entry) → ReadsRecord fields told
+  BadField : (kind : RecordKind) (of : IsOfKind fields kind) (counted : IsCounted fields kind)
+      (fault : FieldFault) (first : IsFirstBad (form_of kind).slots fields 1 fault) (is : told ≡ Err (Field fault)) → ReadsRecord fields told
+  Good : (kind : RecordKind) (of : IsOfKind fields kind) (counted : IsCounted fields kind)
+      (entry : Entry) (gives : AllGive (form_of kind).slots (form_of kind).entry fields 1 entry) (is : told ≡ Ok entry) → ReadsRecord fields told
 
 -- each record says the entry at its place
 abbrev pub SayEntries : List Words → List Entry → Type 0

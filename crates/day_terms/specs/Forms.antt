@@ -1,9 +1,11 @@
--- the fifteen kinds of records: what their fields must be, and the entries that they stand for
+-- the kinds of records: what their fields must be, and the entries that they stand for
 use Rattle.std.specs.Prelude.{◌-◌, ℕ, List, [], ◌∷◌, codes}
 use Rattle.crew_terms.specs.declared.TheConstants.{LAST_MINUTE, MOST_NODES, SKILLS}
 use Rattle.field_table.specs.declared.fields.Kind.{Kind}
 use Rattle.field_table.specs.declared.fields.Kind.TheVariants.{Number, Clock}
 use Rattle.day_terms.specs.declared.TheConstants.{GREATEST_COUNT}
+use Rattle.day_terms.specs.declared.RecordKind.{RecordKind}
+use Rattle.day_terms.specs.declared.RecordKind.TheVariants as kinds
 use Rattle.day_terms.specs.declared.Entry.{Entry}
 use Rattle.day_terms.specs.declared.Entry.TheVariants.{Place, Travel, RouteTime, DefaultTravel, Team, Task, Cancel, Move, Longer, Needs, Sick, Shift, Skill, Unskill, Plan}
 
@@ -48,7 +50,7 @@ abbrev pub Maker : List Slot → Type 0
 Maker [] = Entry
 Maker (s ∷ ss) = Value s → Maker ss
 
--- a kind of record: its first field, what the others must be, and the entry that it stands for
+-- what the records of a kind must be: their first field, what the others must be, and the entry that they stand for
 pub record Form : Type 0 where
   pub key : List ℕ
   pub slots : List Slot
@@ -122,8 +124,20 @@ unskill_form = record { key = codes "unskill"; slots = Named ∷ skill ∷ []; e
 abbrev pub plan_form : Form
 plan_form = record { key = codes "plan"; slots = nodes ∷ []; entry = λ n. Plan n }
 
--- all kinds
-abbrev pub forms : List Form
-forms =
-    place_form ∷ travel_form ∷ route_time_form ∷ default_travel_form ∷ team_form ∷ task_form ∷ cancel_form ∷ move_form
-    ∷ longer_form ∷ needs_form ∷ sick_form ∷ shift_form ∷ skill_form ∷ unskill_form ∷ plan_form ∷ []
+-- what the records of a kind must be
+abbrev pub form_of : RecordKind → Form
+form_of kinds.Place = place_form
+form_of kinds.Travel = travel_form
+form_of kinds.RouteTime = route_time_form
+form_of kinds.DefaultTravel = default_travel_form
+form_of kinds.Team = team_form
+form_of kinds.Task = task_form
+form_of kinds.Cancel = cancel_form
+form_of kinds.Move = move_form
+form_of kinds.Longer = longer_form
+form_of kinds.Needs = needs_form
+form_of kinds.Sick = sick_form
+form_of kinds.Shift = shift_form
+form_of kinds.Skill = skill_form
+form_of kinds.Unskill = unskill_form
+form_of kinds.Plan = plan_form

@@ -7,3 +7,4 @@ pub mod State
 pub mod Rounds
 pub mod Refusal
 pub mod Laws
+pub mod ByTest

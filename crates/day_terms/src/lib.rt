@@ -17,6 +17,26 @@ pub use laws::{
 /// The greatest number of teams that a record may say for a task.
 pub const GREATEST_COUNT: u32 = 99;
 
+/// A kind of record of a day.
+#[derive(Clone, Copy, Debug, PartialEq, Eq)]
+pub enum RecordKind {
+    Place,
+    Travel,
+    RouteTime,
+    DefaultTravel,
+    Team,
+    Task,
+    Cancel,
+    Move,
+    Longer,
+    Needs,
+    Sick,
+    Shift,
+    Skill,
+    Unskill,
+    Plan,
+}
+
 /// What one record of a day says. Times are minutes of the day, as are travel times; durations are 1 minute or more, and
 /// all of them at most `LAST_MINUTE`; skills are a bit for each of the numbers below `SKILLS`.
 #[derive(Clone, Copy, Debug, PartialEq, Eq)]

@@ -1,14 +1,13 @@
 -- the numbers below another, and those of them that a test keeps
-use Rattle.std.proofs.Common.{◌≡◌, ◌<◌, ◌+◌, ℕ, zero, suc, List, [], ◌∷◌, ◌++◌, get_or, ap, ◌∙◌, sym, subst, inl, inr, arith, Bool, true, false, cond}
-use Rattle.std.specs.Prelude.{map, filter, All, Contains}
+use Rattle.std.proofs.Common.{◌≡◌, ◌<◌, ◌+◌, ℕ, suc, [], ◌∷◌, ◌++◌, get_or, ap, ◌∙◌, sym, subst, inl, inr, arith, Bool}
+use Rattle.std.specs.Prelude.{map, filter, All}
 use Rattle.std.specs.List.{range_with_len}
 use Rattle.std.specs.List.Sorted.{IsStrictlyIncreasing}
 use Rattle.std.proofs.lemmas.Bool.{cases_lt}
 use Rattle.std.proofs.lemmas.List.{map-id, get_or_past}
-use Rattle.std.proofs.lemmas.List.FromFn.{length-range_with_len, get_or-range_with_len, get_or-map-range_with_len, length-map-range_with_len, map-range_with_len_more}
-use Rattle.std.proofs.lemmas.List.Elements.{All-from_get_or, All-filter, All-contains, filter_passes, Contains-append_right}
+use Rattle.std.proofs.lemmas.List.FromFn.{get_or-map-range_with_len, length-map-range_with_len, map-range_with_len_more}
+use Rattle.std.proofs.lemmas.List.Elements.{All-filter}
 use Rattle.std.proofs.lemmas.List.Kept.{IsStrictlyIncreasing-filter}
-use Rattle.crew_terms.specs.Minutes.{IsListOf}
 use Rattle.crew_terms.specs.Listed.{all_below, below_rises}
 
 -- one more number comes at the end

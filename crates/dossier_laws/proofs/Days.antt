@@ -1,12 +1,14 @@
 -- the windows of a tree's nodes end within two days
-use Rattle.std.proofs.Common.{◌≡◌, ◌<◌, ◌≤◌, ℕ, length, arith, Option, None, Some, refl}
-use Rattle.std.specs.Prelude.{All}
-use Rattle.std.specs.List.{range_with_len}
-use Rattle.std.proofs.lemmas.List.Elements.{All-map, All-set, All-weaker}
-use Rattle.crew_terms.specs.Instance.{Instance, task_of, no_task}
+use Rattle.std.proofs.Common.{◌≡◌, ◌<◌, ◌≤◌, ◌+◌, ◌-◌, ℕ, length, arith, Option, None, Some, refl, Bool, true, false, cond}
+use Rattle.std.specs.Prelude.{All, nat_lt, min, bit_and, ◌==◌, ◌&&◌}
+use Rattle.std.specs.List.{AllByRecursion, range_with_len}
+use Rattle.std.proofs.lemmas.Bool.Decides.{Decides-ltb}
+use Rattle.std.proofs.lemmas.List.Elements.{All-map, All-set, All-weaker, filter_passes, recursion_from_All}
+use Rattle.crew_terms.specs.Instance.{Instance, task_of, team_of, minutes_between, no_task}
+use Rattle.crew_terms.specs.Minutes.{first_minute, minute_count, open_tasks, is_free_or_required}
 use Rattle.crew_terms.specs.Rules.{IsInstance}
 use Rattle.crew_terms.specs.Plan.{Job, job_of}
-use Rattle.crew_terms.specs.Limits.{Limits, window_of, root_limits, root_window}
+use Rattle.crew_terms.specs.Limits.{Limits, window_of, pair_of, tasks_in, root_limits, root_window}
 use Rattle.crew_terms.specs.Tree.{CanSplit, child}
 use Rattle.crew_terms.specs.declared.Choice.{Choice}
 use Rattle.crew_terms.specs.declared.Choice.TheVariants as choices
@@ -38,3 +40,30 @@ child_day n (choices.Window j cut) First h can = All-set EndsInTime n.windows j 
 child_day n (choices.Window j cut) Second h can = All-set EndsInTime n.windows j _ (last_minute n j h) h
 child_day n (choices.Pair k j) First h can = h
 child_day n (choices.Pair k j) Second h can = h
+
+-- ---- the minutes at which a team may begin a task
+
+pub tasks_open : (n : Limits) (k : ℕ) → All (λ j. 0 < minute_count n k j) (open_tasks n k)
+tasks_open n k = All-weaker (λ j. nat_lt 0 (minute_count n k j) ≡ true) (λ j. 0 < minute_count n k j) (λ j e. (Decides-ltb 0 (minute_count n k j)).0 e) (open_tasks n k)
+    (filter_passes (λ j. nat_lt 0 (minute_count n k j)) (range_with_len 0 (tasks_in n)))
+
+-- a number of minutes that a test may take away
+minutes_in : (b : Bool) (first stop : ℕ) → 0 < cond b (stop - first) 0 → first + cond b (stop - first) 0 ≤ stop
+minutes_in true first stop l = omega arith
+minutes_in false first stop l = absurd (omega arith)
+
+-- such minutes end with the window
+pub minutes_end : (n : Limits) (k j : ℕ) → 0 < minute_count n k j → first_minute n k j + minute_count n k j ≤ (window_of n j).1 + 1
+minutes_end n k j l =
+    let job = (task_of n.instance j).minutes + minutes_between n.instance (task_of n.instance j).place (team_of n.instance k).home in
+    let past = (team_of n.instance k).until + 1 - job in
+    let a = minutes_in (is_free_or_required (pair_of n k j) && (bit_and (task_of n.instance j).skills (team_of n.instance k).skills == (task_of n.instance j).skills)) (first_minute n k j) (min past ((window_of n j).1 + 1)) l in
+    omega arith
+
+-- a task that the team may begin, at minutes of two days
+abbrev pub IsOpen : Limits → ℕ → ℕ → Type 0
+IsOpen n k j = (0 < minute_count n k j) × (first_minute n k j + minute_count n k j ≤ LAST_MINUTE + 1)
+
+pub tasks_in_time : (n : Limits) (k : ℕ) → IsDay n → AllByRecursion (IsOpen n k) (open_tasks n k)
+tasks_in_time n k day = recursion_from_All (IsOpen n k) (open_tasks n k)
+    (All-weaker (λ j. 0 < minute_count n k j) (IsOpen n k) (λ j l. (l, let a = minutes_end n k j l in let b = last_minute n j day in omega arith)) (open_tasks n k) (tasks_open n k))

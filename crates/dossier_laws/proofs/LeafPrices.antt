@@ -1,6 +1,6 @@
 -- the prices of a leaf: only required pairs have one, and each lies in its range
 use Rattle.std.proofs.Common.{◌≡◌, ◌<◌, ℕ, ℤ, List, [], ◌∷◌, length, get_or, ap, sym, refl, ◌∙◌, arith, Bool, true, false, inl, inr, cond}
-use Rattle.std.specs.Prelude.{◌≢◌, pos, map, filter, ◌==◌}
+use Rattle.std.specs.Prelude.{pos, map, filter, ◌==◌}
 use Rattle.std.specs.List.{AllByRecursion, range_with_len}
 use Rattle.std.proofs.lemmas.Int.{ints}
 use Rattle.std.proofs.lemmas.Bool.{cases_eq, ne_eqb}
@@ -9,8 +9,6 @@ use Rattle.std.proofs.lemmas.List.FromFn.{get_or-map-range_with_len}
 use Rattle.crew_terms.specs.Limits.{Limits, pair_of, tasks_in, teams_in, is_required}
 use Rattle.crew_terms.specs.Minutes.{required_teams, priced}
 use Rattle.crew_terms.specs.Leaf.{IsOnRequired, IsPrice, AreInRange, rho_of}
-use Rattle.crew_terms.specs.declared.Pair.{Pair}
-use Rattle.crew_terms.specs.declared.Pair.TheVariants.{Free, Forbidden, Required}
 use Rattle.crew_terms.specs.Nodes.{not_required}
 use Rattle.dossier_terms.specs.Dossier.{Leaf, AreRows, prices_of, extra_of, beside}
 use Rattle.dossier_laws.proofs.Below.{map_at}

@@ -1,4 +1,5 @@
 pub mod Rules
+pub mod Runs
 pub mod Lists
 pub mod Below
 pub mod Skills
@@ -6,6 +7,8 @@ pub mod Empty
 pub mod Days
 pub mod SoFar
 pub mod HeadReads
+pub mod Jobs
+pub mod Frozen
 pub mod HeadWrites
 pub mod Pool
 pub mod Plan

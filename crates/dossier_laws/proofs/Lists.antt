@@ -1,10 +1,9 @@
 -- lists of which something holds, cut at an element
 use Rattle.std.proofs.lemmas.Bool.{cases_lt}
-use Rattle.std.proofs.Common.{inl, inr, ◌≡◌, ◌<◌, ◌+◌, ℕ, suc, List, [], ◌∷◌, ◌++◌, length, sym, subst, arith, append_assoc, length-append}
+use Rattle.std.proofs.Common.{inl, inr, ◌≡◌, ◌<◌, ℕ, List, [], ◌∷◌, ◌++◌, length, sym, subst, arith, append_assoc, length-append}
 use Rattle.std.proofs.Math.Seq.{get_or-append_seam}
 use Rattle.std.proofs.lemmas.List.{map-append, get_or_append_left, get_or_past}
-use Rattle.std.specs.List.Sorted.{IsStrictlyIncreasing}
-use Rattle.std.specs.Prelude.{map, All, AllPairs, slice_index, slice_index_or}
+use Rattle.std.specs.Prelude.{map, All, AllPairs, slice_index_or}
 
 pub All-at : {X : Type 0} (P : X → Type 0) (all ys : List X) (x : X) (zs : List X) → all ≡ ys ++ x ∷ zs → All P all → P x
 All-at P all ys x zs e h =

@@ -1,50 +1,22 @@
 -- the plan: what is read is its lines, and legal; and the lines of a legal one are read
-use Rattle.std.proofs.Common.{◌≡◌, ◌<◌, ◌≤◌, ◌+◌, ◌-◌, ℕ, zero, suc, [], ◌∷◌, ◌++◌, length, set, ap, sym, refl, ◌∙◌, subst, arith, append_assoc, length-append, Option, None, Some}
+use Rattle.std.proofs.Common.{◌≡◌, ◌<◌, ◌≤◌, ◌+◌, ◌-◌, ℕ, zero, suc, [], ◌∷◌, ◌++◌, length, set, ap, sym, refl, ◌∙◌, subst, arith, append_assoc, length-append, None, Some}
 use Rattle.std.proofs.Math.Seq.{get_or-append_seam, set-append_seam}
-use Rattle.std.specs.Prelude.{map, slice_index_or, slice_set, is_none, cond}
-use Rattle.std.proofs.lemmas.List.Sums.{sum_by-cons}
+use Rattle.std.specs.Prelude.{map, slice_set}
 use Rattle.std.proofs.lemmas.List.{length-replicate, get_or-set_other, length-set}
-use Rattle.std.proofs.lemmas.List.Elements.{Contains-get_or, recursion_from_All}
-use Rattle.crew_terms.specs.Instance.{Instance, no_task}
 use Rattle.crew_terms.specs.Rules.{IsInstance}
-use Rattle.crew_terms.specs.Plan.{Plan, Job, empty_plan, job_of, unassigned_count}
+use Rattle.crew_terms.specs.Plan.{Plan, empty_plan, job_of, unassigned_count}
 use Rattle.crew_terms.specs.Legal.{IsLegal}
 use Rattle.crew_terms.specs.Words.{Words}
 use Rattle.dossier_terms.specs.Lines.{plan_line, do_line, jobs_from, plan_lines}
 use Rattle.dossier_terms.specs.Reading.{Reading, Answer, More, Plans, Jobs, Trees, jobs_due, Begun}
 use Rattle.dossier_terms.specs.Rules.{Holds, HoldsBy, Spelled, On}
-use Rattle.dossier_terms.specs.Table.{Reaches, IsDoLine, plan_row, job_row, after_job}
+use Rattle.dossier_terms.specs.Table.{Reaches}
+use Rattle.dossier_terms.specs.BodyTable.{plan_row, job_row, after_job}
 use Rattle.dossier_laws.proofs.SoFar.{IsPoolPart, AreRoutes, IsPlanPart, AreJobs, IsReading, spelled, Follows, routes_lines, jobs_lines}
-use Rattle.dossier_laws.proofs.Empty.{job_none, empty_legal}
+use Rattle.dossier_laws.proofs.Empty.{job_none}
+use Rattle.dossier_laws.proofs.Jobs.{jobs_count, jobs_none, jobs_set, no_jobs, do_fits}
 use Rattle.dossier_laws.proofs.Lists.{map_more}
 use Rattle.dossier_laws.proofs.Rules.{must_then, by_then, spells_then, goes_then}
-
--- ---- jobs of plans
-
-jobs_count : (o : ℕ) (p : Plan) → unassigned_count p + length (jobs_from o p) ≡ length p
-jobs_count o [] = refl
-jobs_count o (None ∷ p) = let a = jobs_count (suc o) p in let e : unassigned_count (None ∷ p) ≡ 1 + unassigned_count p = sum_by-cons (λ (x : Option Job). cond (is_none x) 1 0) None p in omega arith
-jobs_count o (Some job ∷ p) = let a = jobs_count (suc o) p in let e : unassigned_count (Some job ∷ p) ≡ 0 + unassigned_count p = sum_by-cons (λ (x : Option Job). cond (is_none x) 1 0) (Some job) p in omega arith
-
-jobs_none : (o n : ℕ) → jobs_from o (empty_plan n) ≡ []
-jobs_none o zero = refl
-jobs_none o (suc n) = jobs_none (suc o) n
-
-jobs_later : (o : ℕ) (p : Plan) → ((i : ℕ) → job_of p i ≡ None) → jobs_from o p ≡ []
-jobs_later o [] h = refl
-jobs_later o (None ∷ p) h = jobs_later (suc o) p (λ i. h (suc i))
-jobs_later o (Some job ∷ p) h = absurd (let a : Some job ≡ None = h 0 in cc)
-
-jobs_set : (o : ℕ) (p : Plan) (j : ℕ) (job : Job) → ((i : ℕ) → j ≤ i → job_of p i ≡ None) → j < length p
-    → jobs_from o (set p j (Some job)) ≡ jobs_from o p ++ (o + j, job) ∷ []
-jobs_set o [] j job h l = absurd (omega arith)
-jobs_set o (None ∷ p) zero job h l = ap (λ w. (o, job) ∷ w) (jobs_later (suc o) p (λ i. h (suc i) (omega arith)))
-    ∙ ap (λ w. (w, job) ∷ []) (let e : o ≡ o + 0 = omega arith in e) ∙ ap (λ w. w ++ (o + 0, job) ∷ []) (sym (jobs_later (suc o) p (λ i. h (suc i) (omega arith))))
-jobs_set o (Some x ∷ p) zero job h l = absurd (let a : Some x ≡ None = h 0 (omega arith) in cc)
-jobs_set o (None ∷ p) (suc j) job h l = jobs_set (suc o) p j job (λ i m. h (suc i) (omega arith)) (omega arith)
-    ∙ ap (λ w. jobs_from (suc o) p ++ (w, job) ∷ []) (let e : suc o + j ≡ o + suc j = omega arith in e)
-jobs_set o (Some x ∷ p) (suc j) job h l = ap (λ w. (o, x) ∷ w) (jobs_set (suc o) p j job (λ i m. h (suc i) (omega arith)) (omega arith)
-    ∙ ap (λ w. jobs_from (suc o) p ++ (w, job) ∷ []) (let e : suc o + j ≡ o + suc j = omega arith in e))
 
 -- ---- what is read
 
@@ -57,6 +29,11 @@ due_jobs b zero from h legal =
     )
 due_jobs b (suc k) from h legal = (refl, h)
 
+after_follows : (s : Reading) (ws : Words) (said : Answer) (b : Begun) (k from : ℕ) → ((k ≡ 0 → IsLegal b.instance b.plan) → Follows s ws (More (jobs_due b k from)))
+    → after_job b k from said → Follows s ws said
+after_follows s ws said b zero from f h = by_then s ws said (λ legal g. goes_then s ws said (f (λ z. legal)) g) h
+after_follows s ws said b (suc k) from f h = goes_then s ws said (f (λ z. absurd (omega arith))) h
+
 pub plan_follows : (b : Begun) (ws : Words) (said : Answer) → AreRoutes b 0 → plan_row b ws said → Follows (Plans b) ws said
 plan_follows b ws said r h = must_then s ws said (λ shape g.
     spells_then s ws said (λ p is e g.
@@ -66,22 +43,17 @@ plan_follows b ws said r h = must_then s ws said (λ shape g.
     let pool : IsPoolPart c (length c.pool) = record { head = r.0.head; kept = omega (arith, r.0.kept); many = omega (arith, r.0.many); pool = r.0.pool; differ = r.0.differ } in
     let part : IsPlanPart c 0 = record { pool = pool; bound = is.1; whole = ap length r.1 ∙ length-replicate n None; later = λ j l. ap (λ p. job_of p j) r.1 ∙ job_none n j } in
     let a : length (jobs_from 0 b.plan) ≡ 0 = ap length none in
-    let due = due_jobs c (n - p.0) 0 (part, omega arith) (λ z. subst (IsLegal b.instance) (sym r.1) (empty_legal b.instance r.0.head.frozen)) in
-    goes_then s ws said (
+    after_follows s ws said c (n - p.0) 0 (λ legal.
+    let due = due_jobs c (n - p.0) 0 (part, omega arith) legal in (
       due.0
           ∙ ap (λ m. spelled s ++ plan_line m p.1 ∷ map do_line (jobs_from 0 b.plan)) (let q : n - (length (jobs_from 0 b.plan) + (n - p.0)) ≡ p.0 = omega (arith, is.0) in q)
           ∙ ap (λ js. spelled s ++ plan_line p.0 p.1 ∷ map do_line js) none
           ∙ ap (λ w. spelled s ++ w ∷ []) (sym e),
       due.1,
-    ) g) g) h
+    )) g) g) h
   where
     s : Reading
     s = Plans b
-
-after_follows : (s : Reading) (ws : Words) (said : Answer) (b : Begun) (k from : ℕ) → ((k ≡ 0 → IsLegal b.instance b.plan) → Follows s ws (More (jobs_due b k from)))
-    → after_job b k from said → Follows s ws said
-after_follows s ws said b zero from f h = by_then s ws said (λ legal g. goes_then s ws said (f (λ z. legal)) g) h
-after_follows s ws said b (suc k) from f h = goes_then s ws said (f (λ z. absurd (omega arith))) h
 
 pub job_follows : (b : Begun) (k from : ℕ) (ws : Words) (said : Answer) → AreJobs b (suc k) from → job_row b k from ws said → Follows (Jobs b k from) ws said
 job_follows b k from ws said r h = must_then s ws said (λ shape g.
@@ -119,22 +91,6 @@ after_holds : (b : Begun) (k from : ℕ) → (k ≡ 0 → IsLegal b.instance b.p
 after_holds b zero from h = HoldsBy (h refl) (On refl)
 after_holds b (suc k) from h = On refl
 
-no_jobs : (o : ℕ) (q : Plan) → length (jobs_from o q) ≡ 0 → q ≡ empty_plan (length q)
-no_jobs o [] h = refl
-no_jobs o (None ∷ q) h = ap (λ w. None ∷ w) (no_jobs (suc o) q h)
-no_jobs o (Some job ∷ q) h = absurd (omega arith)
-
-do_fits : (i : Instance) (p : Plan) (j : ℕ) (job : Job) → IsInstance i → IsLegal i p → job_of p j ≡ Some job → j < length p → IsDoLine (length i.teams) (length i.tasks) (j, job)
-do_fits i p j job w h e l =
-    let fits = h.feasible.jobs j job e in
-    let known : j < length i.tasks = omega (arith, h.feasible.whole) in
-    let task = w.parts.tasks j no_task known in
-    record {
-      task = known;
-      start = omega (arith, fits.window.late, task.window.day);
-      teams = recursion_from_All (λ k. k < length i.teams) job.teams (λ k d m. fits.known (slice_index_or job.teams k d) (Contains-get_or job.teams k d m));
-    }
-
 jobs_reached : (b : Begun) → IsInstance b.instance → IsLegal b.instance b.plan → (done q : Plan) (from : ℕ) → b.plan ≡ done ++ q → from ≤ length done
     → Reaches (jobs_due (record b { plan = done ++ empty_plan (length q) }) (length (jobs_from (length done) q)) from) (map do_line (jobs_from (length done) q)) (Trees b)
 jobs_reached b w legal done [] from e l = ap (λ p. Trees (record b { plan = p })) (sym e)
@@ -154,7 +110,7 @@ jobs_reached b w legal done (Some job ∷ q) from e l =
     let last : k ≡ 0 → IsLegal b.instance c.plan = λ (z : k ≡ 0). subst (IsLegal b.instance) (e ∙ ap (λ w. done ++ Some job ∷ w) (no_jobs (suc (length done)) q z) ∙ sym placed) legal in
     let a = jobs_reached b w legal (done ++ Some job ∷ []) q (suc (length done)) (e ∙ sym (append_assoc done (Some job ∷ []) q)) (omega arith) in (
       jobs_due c k (suc (length done)),
-      Holds (_, refl, omega arith) (Spelled (length done, job) (do_fits b.instance b.plan (length done) job w legal here in_plan) refl
+      Holds (_, refl, omega arith) (Spelled (length done, job) (do_fits b.instance b.plan (length done) job w legal.feasible here in_plan) refl
           (Holds l (after_holds c k (suc (length done)) last))),
       subst (λ p. Reaches (jobs_due (record b { plan = p }) k (suc (length done))) (map do_line (jobs_from (suc (length done)) q)) (Trees b)) (sym placed)
           (subst (λ m. Reaches (jobs_due (record b { plan = done ++ Some job ∷ empty_plan (length q) }) (length (jobs_from m q)) (suc (length done))) (map do_line (jobs_from m q)) (Trees b)) n
@@ -169,9 +125,11 @@ plan_reached b w legal le =
     let n : ℕ = length b.instance.tasks in
     let a = jobs_count 0 b.plan in
     let few : unassigned_count b.plan ≤ n = omega (arith, legal.feasible.whole) in
+    let none : n - unassigned_count b.plan ≡ 0 → IsLegal b.instance (empty_plan n) = λ (z : n - unassigned_count b.plan ≡ 0).
+    subst (IsLegal b.instance) (no_jobs 0 b.plan (omega (arith, legal.feasible.whole)) ∙ ap empty_plan legal.feasible.whole) legal in
     let left : n - unassigned_count b.plan ≡ length (jobs_from 0 b.plan) = omega (arith, legal.feasible.whole) in (
       jobs_due (record b { plan = empty_plan n }) (n - unassigned_count b.plan) 0,
-      Holds (_, refl, refl) (Spelled (unassigned_count b.plan, b.bound) (few, le) refl (On refl)),
+      Holds (_, refl, refl) (Spelled (unassigned_count b.plan, b.bound) (few, le) refl (after_holds (record b { plan = empty_plan n }) (n - unassigned_count b.plan) 0 none)),
       subst (λ k. Reaches (jobs_due (record b { plan = empty_plan n }) k 0) (map do_line (jobs_from 0 b.plan)) (Trees b)) (sym left)
           (subst (λ m. Reaches (jobs_due (record b { plan = empty_plan m }) (length (jobs_from 0 b.plan)) 0) (map do_line (jobs_from 0 b.plan)) (Trees b)) legal.feasible.whole
           (jobs_reached b w legal [] b.plan 0 refl (omega arith))),

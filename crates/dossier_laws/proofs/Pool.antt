@@ -1,19 +1,21 @@
 -- the pool: what is read is its lines, and good; and the lines of a good one are read
-use Rattle.std.proofs.Common.{◌≡◌, ◌<◌, ◌≤◌, ◌+◌, ◌-◌, ◌*◌, ℕ, zero, suc, List, [], ◌∷◌, ◌++◌, length, ap, sym, refl, ◌∙◌, arith, length-append}
+use Rattle.std.proofs.Common.{◌≡◌, ◌<◌, ◌≤◌, ◌+◌, ℕ, zero, suc, List, [], ◌∷◌, ◌++◌, length, ap, sym, refl, ◌∙◌, arith, length-append}
 use Rattle.std.specs.Prelude.{◌≢◌, All, AllPairs}
-use Rattle.std.specs.List.{AllByRecursion, flat_map}
+use Rattle.std.specs.List.{AllByRecursion}
 use Rattle.std.proofs.lemmas.List.Elements.{All-push}
 use Rattle.std.proofs.lemmas.List.Quantifiers.{all_pairs_push}
 use Rattle.crew_terms.specs.Instance.{Instance}
 use Rattle.crew_terms.specs.Rules.{IsInstance}
 use Rattle.crew_terms.specs.Limits.{IsRoute, GoesOn, IsPermittedVisit, root_limits, Route}
 use Rattle.crew_terms.specs.declared.Visit.{Visit}
+use Rattle.dossier_terms.specs.declared.DossierForm.{DossierForm}
 use Rattle.dossier_terms.specs.Dossier.{IsPooled}
 use Rattle.crew_terms.specs.Words.{Words}
-use Rattle.dossier_terms.specs.Lines.{pool_line, route_line, visit_words, head_lines, pool_lines}
+use Rattle.dossier_terms.specs.Lines.{pool_line, route_line, head_lines, pool_lines}
 use Rattle.dossier_terms.specs.Reading.{Reading, Answer, More, Pools, Routes, Plans, routes_due, Begun}
 use Rattle.dossier_terms.specs.Rules.{Holds, Spelled, On}
-use Rattle.dossier_terms.specs.Table.{Says, Reaches, IsPairs, pool_row, route_row, begin}
+use Rattle.dossier_terms.specs.Table.{Says, Reaches}
+use Rattle.dossier_terms.specs.BodyTable.{pool_row, route_row, begin}
 use Rattle.dossier_terms.specs.Counted.{route_pairs}
 use Rattle.dossier_laws.proofs.SoFar.{IsHead, IsPoolPart, AreRoutes, IsReading, spelled, Follows, routes_lines}
 use Rattle.crew_terms.specs.declared.TheConstants.{LAST_MINUTE}
@@ -27,16 +29,16 @@ due_routes : (b : Begun) (k : ℕ) → AreRoutes b k → (spelled (routes_due b 
 due_routes b zero h = (ap (routes_lines b) (let e : length b.pool ≡ length b.pool + 0 = omega arith in e), h)
 due_routes b (suc k) h = (refl, h)
 
-pub pool_follows : (i : Instance) (budget : ℕ) (ws : Words) (said : Answer) → IsHead i budget → pool_row i budget ws said → Follows (Pools i budget) ws said
-pool_follows i budget ws said r h = must_then s ws said (λ shape g.
+pub pool_follows : (form : DossierForm) (i : Instance) (budget : ℕ) (ws : Words) (said : Answer) → IsHead form i budget → pool_row form i budget ws said → Follows (Pools form i budget) ws said
+pool_follows form i budget ws said r h = must_then s ws said (λ shape g.
     spells_then s ws said (λ p is e g.
     must_then s ws said (λ kept g.
-    let b : Begun = begin i budget p.0 in
+    let b : Begun = begin form i budget p.0 in
     let due = due_routes b p.1 (record { head = r; kept = omega arith; many = omega (arith, is.1); pool = λ k d l. absurd (omega arith); differ = λ i j d a l. absurd (omega arith) }, refl) in
-    goes_then s ws said (due.0 ∙ ap (λ n. head_lines i budget ++ pool_line p.0 n ∷ []) (let e : 0 + p.1 ≡ p.1 = omega arith in e) ∙ ap (λ w. head_lines i budget ++ w ∷ []) (sym e), due.1) g) g) g) h
+    goes_then s ws said (due.0 ∙ ap (λ n. head_lines form i budget ++ pool_line p.0 n ∷ []) (let e : 0 + p.1 ≡ p.1 = omega arith in e) ∙ ap (λ w. head_lines form i budget ++ w ∷ []) (sym e), due.1) g) g) g) h
   where
     s : Reading
-    s = Pools i budget
+    s = Pools form i budget
 
 pub route_follows : (b : Begun) (k : ℕ) (ws : Words) (said : Answer) → AreRoutes b (suc k) → route_row b k ws said → Follows (Routes b k) ws said
 route_follows b k ws said r h = must_then s ws said (λ shape g.
@@ -55,7 +57,7 @@ route_follows b k ws said r h = must_then s ws said (λ shape g.
     let due = due_routes c k (part, r.1) in
     goes_then s ws said (
       due.0 ∙ ap (routes_lines c) n
-          ∙ map_more route_line (head_lines b.instance b.budget) (pool_line b.kept (length b.pool + suc k)) b.pool x
+          ∙ map_more route_line (head_lines b.form b.instance b.budget) (pool_line b.kept (length b.pool + suc k)) b.pool x
           ∙ ap (λ w. spelled s ++ w ∷ []) (sym e),
       due.1,
     ) g) g) g) g) h
@@ -84,17 +86,17 @@ route_in i k (v ∷ vs) day g =
     let b = goes_in i k v vs day g.1 in
     ((a.0, b.0), (a.1, b.1))
 
-pub pool_reached : (i : Instance) (budget kept : ℕ) (pool : List Route) → IsInstance i → kept ≤ length pool → length pool ≤ 9223372036854775807
+pub pool_reached : (form : DossierForm) (i : Instance) (budget kept : ℕ) (pool : List Route) → IsInstance i → kept ≤ length pool → length pool ≤ 9223372036854775807
     → All (IsPooled i) pool → AllPairs (λ (a b : Route). a ≢ b) pool
-    → Reaches (Pools i budget) (pool_lines kept pool) (Plans (record (begin i budget kept) { pool = pool }))
-pool_reached i budget kept pool whole some many good differ = (
-  routes_due (begin i budget kept) (length pool),
+    → Reaches (Pools form i budget) (pool_lines kept pool) (Plans (record (begin form i budget kept) { pool = pool }))
+pool_reached form i budget kept pool whole some many good differ = (
+  routes_due (begin form i budget kept) (length pool),
   Holds (_, refl, refl) (Spelled (kept, length pool) (omega arith, many) refl (Holds some (On refl))),
-  reaches_all route_line (λ rs k. routes_due (record (begin i budget kept) { pool = rs }) k) pool one [] pool refl,
+  reaches_all route_line (λ rs k. routes_due (record (begin form i budget kept) { pool = rs }) k) pool one [] pool refl,
 )
   where
     one : (ys : List Route) (x : Route) (zs : List Route) → pool ≡ ys ++ x ∷ zs
-        → Says (routes_due (record (begin i budget kept) { pool = ys }) (suc (length zs))) (route_line x) (More (routes_due (record (begin i budget kept) { pool = ys ++ x ∷ [] }) (length zs)))
+        → Says (routes_due (record (begin form i budget kept) { pool = ys }) (suc (length zs))) (route_line x) (More (routes_due (record (begin form i budget kept) { pool = ys ++ x ∷ [] }) (length zs)))
     one ys x zs e =
         let g = All-at (IsPooled i) pool ys x zs e good in
         let in_range = route_in i x.team x.visits (root_day i whole) g.route in

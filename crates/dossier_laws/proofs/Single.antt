@@ -1,5 +1,5 @@
 -- one thing is said of a line
-use Rattle.std.proofs.Common.{◌≡◌, ◌<◌, ◌≤◌, ℕ, zero, suc, ℤ, List, [], ◌∷◌, ◌++◌, length, ap, sym, ◌∙◌, subst, arith, ◌⊎◌, inl, inr}
+use Rattle.std.proofs.Common.{◌≡◌, ◌<◌, ◌≤◌, ◌+◌, ℕ, zero, suc, ℤ, List, [], ◌∷◌, ◌++◌, length, ap, sym, ◌∙◌, subst, arith, ◌⊎◌, inl, inr}
 use Rattle.std.proofs.lemmas.Bool.{cases_lt}
 use Rattle.crew_terms.specs.Instance.{Instance}
 use Rattle.crew_terms.specs.Plan.{Plan}
@@ -7,13 +7,22 @@ use Rattle.crew_terms.specs.Verdict.{IsVerdict}
 use Rattle.crew_terms.specs.declared.PlanVerdict.{PlanVerdict}
 use Rattle.dossier_terms.specs.declared.Reason.{Reason}
 use Rattle.dossier_terms.specs.declared.Reason.TheVariants.{Plan as BadPlan}
+use Rattle.dossier_terms.specs.declared.DossierForm.{DossierForm}
+use Rattle.dossier_terms.specs.declared.DossierForm.TheVariants.{One, Two}
 use Rattle.dossier_terms.specs.Dossier.{Dossier, Leaf, Potentials}
+use Rattle.dossier_terms.specs.Runs.{values_of}
+use Rattle.crew_terms.specs.Limits.{Limits}
+use Rattle.crew_terms.specs.Minutes.{first_minute, minute_count}
 use Rattle.crew_terms.specs.Words.{Words}
-use Rattle.dossier_terms.specs.Reading.{Reading, Answer, No, Form, Sizes, Places, Travels, Teams, Tasks, Pools, Routes, Plans, Jobs, Trees, Nodes, Prices, Extras, Worths, Phis, Ends, Begun, LeafSite}
+use Rattle.dossier_terms.specs.Reading.{Reading, Answer, No, Form, Sizes, Places, Travels, Teams, Tasks, Frozens, Keeps, Pools, Routes, Plans, Jobs, Trees, Nodes, Whys, Prices, Extras, Worths, Phis, Ends, Begun, Opening, LeafSite, limits_of}
 use Rattle.dossier_terms.specs.Rules.{Must, Holds, Fails, MustEach, HoldsOfAll, FailsAt, MustBy, HoldsBy, FailsBy, When, Then, Else, MustSpell, Spelled, Unspelled, Goes, On}
-use Rattle.dossier_terms.specs.Table.{Says, Finishes, Finish, BreaksPlan, after_job, after_table, after_phi, after_extra}
+use Rattle.dossier_terms.specs.Table.{Says, Finishes, Finish}
+use Rattle.dossier_terms.specs.BodyTable.{BreaksPlan, after_job}
+use Rattle.dossier_terms.specs.HeadTable.{after_keep}
+use Rattle.dossier_terms.specs.LeafTable.{after_table, after_phi, after_extra, potentials_row}
 use Rattle.dossier_laws.proofs.SoFar.{IsReading}
-use Rattle.dossier_laws.proofs.Spellings.{size_one, name_one, travel_one, team_one, task_one, pool_one, plan_one, window_one, node_pair_one, tree_one, route_one, do_one, prices_one, signed_one, worth_one}
+use Rattle.dossier_laws.proofs.Spellings.{form_one, size_one, name_one, travel_one, team_one, task_one, pool_one, plan_one, window_one, node_pair_one, tree_one, route_one, do_one, prices_one, signed_one, worth_one, frozen_one, keep_one, steps_one}
+use Rattle.dossier_laws.proofs.HeadReads.{parts_whole}
 
 abbrev pub Single : (Answer → Type 0) → Type 0
 Single R = (a b : Answer) → R a → R b → a ≡ b
@@ -79,27 +88,37 @@ table_one : (a : LeafSite) (leaf : Leaf) (left : ℕ) → Single (after_table a 
 table_one a leaf zero = must_one (must_one goes_one)
 table_one a leaf (suc left) = goes_one
 
-phi_one : (a : LeafSite) (prices : List ℤ) (extras : List (List ℤ)) (tables : List Potentials) (left : ℕ) (worth : ℤ) (rows : List (List ℤ)) (keys : List ℕ) → Single (after_phi a prices extras tables left worth rows keys)
-phi_one a prices extras tables left worth rows [] = each_one (must_one (table_one a (record { prices = prices; extras = extras; tables = tables ++ record { worth = worth; phi = rows } ∷ [] }) left))
-phi_one a prices extras tables left worth rows (j ∷ js) = goes_one
+phi_one : (a : LeafSite) (leaf : Leaf) (left : ℕ) (table : Potentials) (keys : List ℕ) → Single (after_phi a leaf left table keys)
+phi_one a leaf left table [] = each_one (must_one (table_one a (record leaf { tables = leaf.tables ++ table ∷ [] }) left))
+phi_one a leaf left table (j ∷ js) = goes_one
 
-extra_one : (a : LeafSite) (prices : List ℤ) (rows : List (List ℤ)) (keys : List ℕ) → Single (after_extra a prices rows keys)
-extra_one a prices rows [] = table_one a (record { prices = prices; extras = rows; tables = [] }) _
-extra_one a prices rows (j ∷ js) = goes_one
+extra_one : (a : LeafSite) (leaf : Leaf) (keys : List ℕ) → Single (after_extra a leaf keys)
+extra_one a leaf [] = table_one a leaf _
+extra_one a leaf (j ∷ js) = goes_one
+
+keep_after_one : (o : Opening) (k from : ℕ) (i : Instance) → Single (after_keep o k from i)
+keep_after_one o zero from i = must_one goes_one
+keep_after_one o (suc k) from i = goes_one
 
 tail_is : {A : Type 0} (x y : A) (xs ys : List A) → x ∷ xs ≡ y ∷ ys → xs ≡ ys
 tail_is x y xs ys e = cc
 
+potentials_one : (form : DossierForm) (n : Limits) (k j : ℕ) (ws : Words) (rest : List ℤ → Answer → Type 0) → ((vs : List ℤ) → Single (rest vs)) → Single (potentials_row form n k j ws rest)
+potentials_one One n k j ws rest one = must_one (spells_one (λ x y h k e. signed_one _ x y h k (tail_is _ _ _ _ (tail_is _ _ _ _ e))) (λ x h. one x))
+potentials_one Two n k j ws rest one = must_one (spells_one (steps_one j) (λ x h. must_one (one (values_of (first_minute n k j + minute_count n k j) x))))
+
 pub says_one : HaveOneVerdict → (s : Reading) (ws : Words) → IsReading s → Single (Says s ws)
-says_one verdicts Form ws r = must_one goes_one
-says_one verdicts Sizes ws r = must_one (spells_one size_one (λ z h. goes_one))
-says_one verdicts (Places z k i) ws r = must_one (spells_one name_one (λ x h. must_one goes_one))
-says_one verdicts (Travels z k i) ws r = must_one (spells_one (travel_one z.places) (λ x h. goes_one))
-says_one verdicts (Teams z k i) ws r = must_one (must_one (spells_one (team_one z.places r.2.size.places) (λ x h. must_one (must_one goes_one))))
-says_one verdicts (Tasks z k i) ws r = must_one (must_one (spells_one (task_one z.places r.2.size.places) (λ x h. must_one (must_one goes_one))))
-says_one verdicts (Pools i budget) ws r = must_one (spells_one pool_one (λ x h. must_one goes_one))
+says_one verdicts Form ws r = spells_one (λ x y h k e. form_one x y e) (λ x h. goes_one)
+says_one verdicts (Sizes form) ws r = must_one (spells_one size_one (λ z h. goes_one))
+says_one verdicts (Places o k i) ws r = must_one (spells_one name_one (λ x h. must_one goes_one))
+says_one verdicts (Travels o k i) ws r = must_one (spells_one (travel_one o.size.places) (λ x h. goes_one))
+says_one verdicts (Teams o k i) ws r = must_one (must_one (spells_one (team_one o.size.places r.2.size.places) (λ x h. must_one (must_one goes_one))))
+says_one verdicts (Tasks o k i) ws r = must_one (must_one (spells_one (task_one o.size.places r.2.size.places) (λ x h. must_one (must_one goes_one))))
+says_one verdicts (Frozens o i) ws r = must_one (spells_one (frozen_one (length i.tasks) (parts_whole o i r.part r.read).few_tasks) (λ x h. goes_one))
+says_one verdicts (Keeps o k from i) ws r = must_one (spells_one (keep_one (length i.teams) (length i.tasks) r.parts.few_teams r.parts.few_tasks) (λ x h. must_one (must_one (keep_after_one o k _ _))))
+says_one verdicts (Pools form i budget) ws r = must_one (spells_one pool_one (λ x h. must_one goes_one))
 says_one verdicts (Routes b k) ws r = must_one (spells_one (route_one (length b.instance.teams) (length b.instance.tasks) r.0.head.instance.parts.few_teams r.0.head.instance.parts.few_tasks) (λ x h. must_one (must_one goes_one)))
-says_one verdicts (Plans b) ws r = must_one (spells_one (plan_one (length b.instance.tasks) r.0.head.instance.parts.few_tasks) (λ x h. goes_one))
+says_one verdicts (Plans b) ws r = must_one (spells_one (plan_one (length b.instance.tasks) r.0.head.instance.parts.few_tasks) (λ x h. job_one verdicts _ _ _))
 says_one verdicts (Jobs b k from) ws r = must_one (spells_one (do_one (length b.instance.teams) (length b.instance.tasks) r.0.pool.head.instance.parts.few_teams r.0.pool.head.instance.parts.few_tasks) (λ x h. must_one (job_one verdicts _ k _)))
 says_one verdicts (Trees b) ws r = must_one (spells_one tree_one (λ x h. must_one (must_one (must_one goes_one))))
 says_one verdicts (Nodes b c above) ws r =
@@ -107,8 +126,9 @@ says_one verdicts (Nodes b c above) ws r =
     when_one (must_one (spells_one (window_one (length b.instance.tasks) parts.few_tasks) (λ x h. must_one (must_one goes_one))))
     (when_one (must_one (spells_one (node_pair_one (length b.instance.teams) (length b.instance.tasks) parts.few_teams parts.few_tasks) (λ x h. must_one (must_one goes_one))))
     (must_one (when_one (must_one (must_one goes_one)) (when_one (must_one goes_one) (must_one (must_one goes_one))))))
-says_one verdicts (Prices a) ws r = must_one (spells_one (λ x y h k e. prices_one _ x y h k (tail_is _ _ _ _ e)) (λ x h. extra_one a x [] _))
-says_one verdicts (Extras a prices rows j js) ws r = must_one (spells_one (λ x y h k e. prices_one _ x y h k (tail_is _ _ _ _ (tail_is _ _ _ _ e))) (λ x h. extra_one a prices _ js))
-says_one verdicts (Worths a prices extras tables left) ws r = must_one (spells_one worth_one (λ x h. phi_one a prices extras tables left x [] _))
-says_one verdicts (Phis a prices extras tables left worth rows j js) ws r = must_one (spells_one (λ x y h k e. signed_one _ x y h k (tail_is _ _ _ _ (tail_is _ _ _ _ e))) (λ x h. phi_one a prices extras tables left worth _ js))
+says_one verdicts (Whys b c above choice) ws r = must_one goes_one
+says_one verdicts (Prices a) ws r = must_one (spells_one (λ x y h k e. prices_one _ x y h k (tail_is _ _ _ _ e)) (λ x h. extra_one a (record { prices = x; extras = []; tables = [] }) _))
+says_one verdicts (Extras a leaf j js) ws r = must_one (spells_one (λ x y h k e. prices_one _ x y h k (tail_is _ _ _ _ (tail_is _ _ _ _ e))) (λ x h. extra_one a (record leaf { extras = leaf.extras ++ x ∷ [] }) js))
+says_one verdicts (Worths a leaf left) ws r = must_one (spells_one worth_one (λ x h. phi_one a leaf left (record { worth = x; phi = [] }) _))
+says_one verdicts (Phis a leaf left table j js) ws r = potentials_one a.begun.form (limits_of a) (length leaf.tables) j ws _ (λ vs. phi_one a leaf left (record table { phi = table.phi ++ vs ∷ [] }) js)
 says_one verdicts (Ends b c t) ws r = must_one (must_one finish_one)

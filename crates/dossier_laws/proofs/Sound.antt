@@ -3,32 +3,36 @@ use Rattle.std.proofs.Common.{◌≡◌, List, [], ◌∷◌, ◌++◌, ap, sym,
 use Rattle.dossier_terms.specs.Dossier.{Dossier, IsGood}
 use Rattle.crew_terms.specs.Words.{Words}
 use Rattle.dossier_terms.specs.Lines.{lines_of}
-use Rattle.dossier_terms.specs.Reading.{Reading, Answer, More, Whole, Form, Sizes, Places, Travels, Teams, Tasks, Pools, Routes, Plans, Jobs, Trees, Nodes, Prices, Extras, Worths, Phis, Ends}
+use Rattle.dossier_terms.specs.Reading.{Reading, Answer, More, Whole, Form, Sizes, Places, Travels, Teams, Tasks, Frozens, Keeps, Pools, Routes, Plans, Jobs, Trees, Nodes, Whys, Prices, Extras, Worths, Phis, Ends}
 use Rattle.dossier_terms.specs.Table.{Says, Ended}
 use Rattle.dossier_laws.proofs.SoFar.{IsReading, spelled, Follows}
 use Rattle.dossier_laws.proofs.HeadReads.{form_follows, size_follows, place_follows, travel_follows, team_follows, task_follows}
+use Rattle.dossier_laws.proofs.Frozen.{frozen_follows, keep_follows}
 use Rattle.dossier_laws.proofs.Pool.{pool_follows, route_follows}
 use Rattle.dossier_laws.proofs.Plan.{plan_follows, job_follows}
-use Rattle.dossier_laws.proofs.NodeReads.{tree_follows, node_follows, end_follows}
-use Rattle.dossier_laws.proofs.LeafReads.{price_follows, extra_follows, worth_follows, phi_follows}
+use Rattle.dossier_laws.proofs.NodeReads.{tree_follows, node_follows, why_follows, end_follows}
+use Rattle.dossier_laws.proofs.LeafReads.{price_follows, extra_follows, worth_follows, table_follows}
 
 pub says_follows : (s : Reading) (ws : Words) (said : Answer) → IsReading s → Says s ws said → Follows s ws said
 says_follows Form ws said r h = form_follows ws said h
-says_follows Sizes ws said r h = size_follows ws said h
-says_follows (Places z k i) ws said r h = place_follows z k i ws said r h
-says_follows (Travels z k i) ws said r h = travel_follows z k i ws said r h
-says_follows (Teams z k i) ws said r h = team_follows z k i ws said r h
-says_follows (Tasks z k i) ws said r h = task_follows z k i ws said r h
-says_follows (Pools i budget) ws said r h = pool_follows i budget ws said r h
+says_follows (Sizes form) ws said r h = size_follows form ws said h
+says_follows (Places o k i) ws said r h = place_follows o k i ws said r h
+says_follows (Travels o k i) ws said r h = travel_follows o k i ws said r h
+says_follows (Teams o k i) ws said r h = team_follows o k i ws said r h
+says_follows (Tasks o k i) ws said r h = task_follows o k i ws said r h
+says_follows (Frozens o i) ws said r h = frozen_follows o i ws said r h
+says_follows (Keeps o k from i) ws said r h = keep_follows o k from i ws said r h
+says_follows (Pools form i budget) ws said r h = pool_follows form i budget ws said r h
 says_follows (Routes b k) ws said r h = route_follows b k ws said r h
 says_follows (Plans b) ws said r h = plan_follows b ws said r h
 says_follows (Jobs b k from) ws said r h = job_follows b k from ws said r h
 says_follows (Trees b) ws said r h = tree_follows b ws said r h
 says_follows (Nodes b c above) ws said r h = node_follows b c above ws said r h
+says_follows (Whys b c above choice) ws said r h = why_follows b c above choice ws said r h
 says_follows (Prices a) ws said r h = price_follows a ws said r h
-says_follows (Extras a prices rows j js) ws said r h = extra_follows a prices rows j js ws said r h
-says_follows (Worths a prices extras tables left) ws said r h = worth_follows a prices extras tables left ws said r h
-says_follows (Phis a prices extras tables left worth rows j js) ws said r h = phi_follows a prices extras tables left worth rows j js ws said r h
+says_follows (Extras a leaf j js) ws said r h = extra_follows a leaf j js ws said r h
+says_follows (Worths a leaf left) ws said r h = worth_follows a leaf left ws said r h
+says_follows (Phis a leaf left table j js) ws said r h = table_follows a leaf left table j js ws said r h
 says_follows (Ends b c t) ws said r h = end_follows b c t ws said r h
 
 ended_from : (s : Reading) (lines : List Words) (d : Dossier) → IsReading s → Ended s lines d → (spelled s ++ lines ≡ lines_of d) × IsGood d

@@ -1,7 +1,7 @@
 -- no two values have one spelling
-use Rattle.std.proofs.Common.{◌≡◌, ◌<◌, ◌≤◌, ◌+◌, ◌-◌, ◌*◌, ℕ, suc, ℤ, pos, negsuc, List, [], ◌∷◌, length, ap, sym, refl, ◌∙◌, arith, rules, true, false}
+use Rattle.std.proofs.Common.{◌≡◌, ◌<◌, ◌≤◌, ◌+◌, ◌-◌, ◌*◌, ℕ, suc, ℤ, pos, negsuc, List, [], ◌∷◌, drop, ap, sym, refl, ◌∙◌, arith, rules, true, false}
 use Rattle.std.proofs.lemmas.Int.{ints}
-use Rattle.std.specs.Prelude.{map, ◌≤ℤ◌}
+use Rattle.std.specs.Prelude.{map, slice_index_or, codes, ◌≤ℤ◌}
 use Rattle.std.specs.List.{AllByRecursion, flat_map}
 use Rattle.std.specs.Fmt.{decimal, signed_decimal}
 use Rattle.std.specs.Str.{all_ascii_digits}
@@ -13,13 +13,16 @@ use Rattle.crew_terms.specs.declared.Team.{Team}
 use Rattle.crew_terms.specs.declared.Task.{Task}
 use Rattle.crew_terms.specs.declared.Visit.{Visit}
 use Rattle.crew_terms.specs.declared.TheConstants.{LAST_MINUTE, MOST_PLACES, MOST_TASKS, MOST_TEAMS, SKILLS}
+use Rattle.dossier_terms.specs.declared.DossierForm.{DossierForm}
+use Rattle.dossier_terms.specs.declared.DossierForm.TheVariants.{One, Two}
 use Rattle.dossier_terms.specs.declared.Size.{Size}
 use Rattle.dossier_terms.specs.Dossier.{IsWorthNumber, IsSigned}
 use Rattle.crew_terms.specs.Limits.{Route}
 use Rattle.crew_terms.specs.Leaf.{IsPrice}
-use Rattle.dossier_terms.specs.Lines.{size_line, place_line, travel_line, team_words, task_words, pool_line, route_line, visit_words, plan_line, do_line, tree_line, window_line, pair_line, worth_line}
+use Rattle.dossier_terms.specs.Lines.{form_line, size_line, place_line, travel_line, team_words, task_words, pool_line, route_line, visit_words, plan_line, do_line, tree_line, window_line, pair_line, worth_line, frozen_line, keep_line, run_words, steps_line}
+use Rattle.dossier_terms.specs.Runs.{Run}
 use Rattle.crew_terms.specs.declared.TreeCounts.{TreeCounts}
-use Rattle.dossier_terms.specs.Table.{IsSize, IsTravel, IsTeamLine, IsTaskLine, IsRouteLine, IsDoLine, IsCounts, AreNumbers}
+use Rattle.dossier_terms.specs.Ranges.{IsSize, IsTravel, IsTeamLine, IsTaskLine, IsRouteLine, IsDoLine, IsCounts, AreNumbers, IsStepsLine}
 use Rattle.dossier_terms.specs.Counted.{IsWide, price_wide, worth_wide, signed_wide}
 use Rattle.std.proofs.lemmas.List.Elements.{recursion_from_All}
 
@@ -187,3 +190,33 @@ signed_one n x y a b e = map_one signed_decimal IsSigned (λ u v h k. sdec u v (
 
 pub worth_one : (x y : ℤ) → IsWorthNumber x → IsWorthNumber y → worth_line x ≡ worth_line y → x ≡ y
 worth_one x y a b e = sdec x y (worth_wide x a) (worth_wide y b) cc
+
+-- ---- what form 2 has besides
+
+pub form_one : (x y : DossierForm) → form_line x ≡ form_line y → x ≡ y
+form_one One One e = refl
+form_one One Two e = absurd (let n : 49 ≡ 50 = ap (λ ws. slice_index_or (slice_index_or ws 2 []) 0 0) e in omega arith)
+form_one Two One e = absurd (let n : 50 ≡ 49 = ap (λ ws. slice_index_or (slice_index_or ws 2 []) 0 0) e in omega arith)
+form_one Two Two e = refl
+
+pub frozen_one : (n : ℕ) → n ≤ MOST_TASKS → (x y : ℕ) → x ≤ n → y ≤ n → frozen_line x ≡ frozen_line y → x ≡ y
+frozen_one n few x y a b e = dec x y (omega arith) (omega arith) cc
+
+pub keep_one : (m n : ℕ) → m ≤ MOST_TEAMS → n ≤ MOST_TASKS → (x y : ℕ × Job) → IsDoLine m n x → IsDoLine m n y → keep_line x ≡ keep_line y → x ≡ y
+keep_one m n few some x y a b e = do_one m n few some x y a b (ap (λ ws. codes "do" ∷ drop 1 ws) e)
+
+runs_one : (xs ys : List Run) → AllByRecursion (λ (r : Run). r.from ≤ LAST_MINUTE) xs → AllByRecursion (λ (r : Run). IsSigned r.value) xs
+    → AllByRecursion (λ (r : Run). r.from ≤ LAST_MINUTE) ys → AllByRecursion (λ (r : Run). IsSigned r.value) ys → flat_map run_words xs ≡ flat_map run_words ys → xs ≡ ys
+runs_one [] [] a b c d e = refl
+runs_one [] (y ∷ ys) a b c d e = absurd cc
+runs_one (x ∷ xs) [] a b c d e = absurd cc
+runs_one (x ∷ xs) (y ∷ ys) a b c d e =
+    let p = dec x.from y.from (omega (arith, a.0)) (omega (arith, c.0)) cc in
+    let q = sdec x.value y.value (signed_wide x.value b.0) (signed_wide y.value d.0) cc in
+    let f : flat_map run_words xs ≡ flat_map run_words ys = cc in
+    let r = runs_one xs ys a.1 b.1 c.1 d.1 f in
+    let v : x ≡ y = ap (λ (t : ℕ). record x { from = t }) p ∙ ap (λ (z : ℤ). record y { value = z }) q in
+    ap (λ (w : Run). w ∷ xs) v ∙ ap (λ ws. y ∷ ws) r
+
+pub steps_one : (j : ℕ) (x y : List Run) → IsStepsLine x → IsStepsLine y → steps_line j x ≡ steps_line j y → x ≡ y
+steps_one j x y a b e = runs_one x y a.minutes a.numbers b.minutes b.numbers (ap (drop 2) e)

@@ -4,6 +4,7 @@ use Rattle.std.specs.Fmt.{decimal}
 use Rattle.crew_terms.specs.Words.{Words}
 use Rattle.crew_terms.specs.Instance.{Instance}
 use Rattle.crew_terms.specs.Plan.{Plan}
+use Rattle.dossier_terms.specs.declared.DossierForm.TheVariants.{One}
 use Rattle.dossier_terms.specs.Dossier.{Dossier}
 use Rattle.crew_terms.specs.Branches.{LeafNode, Bare}
 
@@ -23,7 +24,7 @@ abbrev pub sheet_plan : Plan
 sheet_plan = Some (record { start = 405; teams = 0 ∷ [] }) ∷ None ∷ []
 
 abbrev pub sheet : Dossier
-sheet = record { instance = sheet_instance; budget = 0; kept = 0; pool = []; plan = sheet_plan; bound = 0; tree = LeafNode Bare }
+sheet = record { form = One; instance = sheet_instance; budget = 0; kept = 0; pool = []; plan = sheet_plan; bound = 0; tree = LeafNode Bare }
 
 abbrev pub sheet_lines : List Words
 sheet_lines = (codes "crew" ∷ codes "dossier" ∷ codes "1" ∷ [])

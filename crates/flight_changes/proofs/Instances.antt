@@ -8,7 +8,8 @@ use Rattle.crew_terms.specs.declared.TheConstants.{LAST_MINUTE}
 use Rattle.day_terms.specs.State.{DayState, Given, is_way}
 use Rattle.day_terms.specs.Rounds.{minutes_given, minutes_by_name, day_instance}
 use Rattle.flight_changes.specs.Limits.{IsState}
-use Rattle.flight_changes.proofs.Keyed.{Bytes, by_test}
+use Rattle.day_terms.specs.ByTest.{by_test}
+use Rattle.flight_changes.proofs.Keyed.{Bytes}
 
 abbrev Few : Given → Type 0
 Few g = g.minutes ≤ LAST_MINUTE

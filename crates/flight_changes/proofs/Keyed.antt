@@ -7,16 +7,13 @@ use Rattle.std.specs.List.{AllByRecursion, IsDistinct, list_any}
 use Rattle.std.specs.Map.{keys_of, values_of, lookup, remove_entry, set_value}
 use Rattle.std.proofs.lemmas.List.{get_or-map, length-map, map-append}
 use Rattle.indexmap.specs.IndexMap.{insert_entry}
+use Rattle.day_terms.specs.ByTest.{by_test}
 use Rattle.std.proofs.lemmas.Map.Keys.{IsDistinct-head, IsDistinct-tail}
 use Rattle.std.proofs.lemmas.Map.Made.{AllPairs-from_IsDistinct, IsDistinct-from_AllPairs}
 use Rattle.std.proofs.lemmas.Slice.Eq.{bytes_eq-Decides}
 
 abbrev pub Bytes : Type 0
 Bytes = List ℕ
-
-pub by_test : {P : Type 0} (b : Bool) → (b ≡ true → P) → (b ≡ false → P) → P
-by_test true at_true at_false = at_true refl
-by_test false at_true at_false = at_false refl
 
 pub same_bytes : (a b : Bytes) → bytes_eq a b ≡ true → a ≡ b
 same_bytes a b h = (bytes_eq-Decides a b).0 h

@@ -11,7 +11,8 @@ use Rattle.crew_terms.specs.declared.Task.{Task}
 use Rattle.crew_terms.specs.Places.{team_at_home, task_in_place}
 use Rattle.day_terms.specs.State.{DayState, Given}
 use Rattle.flight_changes.specs.Limits.{IsState}
-use Rattle.flight_changes.proofs.Keyed.{Bytes, by_test}
+use Rattle.day_terms.specs.ByTest.{by_test}
+use Rattle.flight_changes.proofs.Keyed.{Bytes}
 
 -- what holds of each element and of v holds where v replaces some
 pub all_replaced : {X : Type 0} (P : X → Type 0) (test : X → Bool) (v : X) (xs : List X) → P v → All P xs → All P (map (λ x. if test x then v else x) xs)

@@ -7,7 +7,8 @@ use Rattle.indexmap.specs.IndexMap.{insert_entry}
 use Rattle.crew_terms.specs.declared.TheConstants.{LAST_MINUTE}
 use Rattle.day_terms.specs.State.{Given, is_way, given_time}
 use Rattle.flight_changes.specs.Kept.{given_of}
-use Rattle.flight_changes.proofs.Keyed.{Bytes, by_test}
+use Rattle.day_terms.specs.ByTest.{by_test}
+use Rattle.flight_changes.proofs.Keyed.{Bytes}
 
 -- the entries of the times
 abbrev pub Entries : Type 0

@@ -1,6 +1,8 @@
 -- how a refusal is told
 use Rattle.std.specs.Prelude.{Option, None, Some, Result, Ok, Err}
-use Rattle.day_terms.specs.Refusal.{Refusal, TooMany, SameName, NoPlace, NoTask, NoTeam, BadWindow, BadShift, BadTeams, MissingTravel}
+use Rattle.day_terms.specs.Refusal.{Refusal, refusal_of, TooMany, SameName, NoPlace, NoTask, NoTeam, BadWindow, BadShift, BadTeams, MissingTravel}
+use Rattle.day_terms.specs.State.{DayState}
+use Rattle.day_terms.specs.declared.Entry.{Entry}
 use Rattle.flight_changes.specs.declared.faults.ChangeFault.{ChangeFault}
 use Rattle.flight_changes.specs.declared.faults.ChangeFault.TheVariants as told
 
@@ -20,3 +22,7 @@ fault_of (MissingTravel from to) = told.MissingTravel from to
 abbrev pub answer_of : Option Refusal → Result (Unit {0}) ChangeFault
 answer_of None = Ok tt
 answer_of (Some refusal) = Err (fault_of refusal)
+
+-- the answer to an entry in a state
+abbrev pub answer_to : DayState → Entry → Result (Unit {0}) ChangeFault
+answer_to s entry = answer_of (refusal_of s entry)

@@ -70,7 +70,8 @@ impl Desk {
 
     fn set_time(&mut self, from: Name, to: Name, minutes: u32) -> Result<(), AllocError>
         requires { minutes ≤ LAST_MINUTE }
-        ensures ok { OnOk result (self.new ≡ after_entry self.old (Entry.RouteTime from to minutes)) }
+        ensures ok { OnOk result
+            (self.new ≡ after_entry self.old (Entry.RouteTime from to minutes)) }
         ensures err { OnErr result (self.new ≡ self.old) }
     {
         self.times.insert((from, to), minutes)?;
@@ -113,8 +114,10 @@ impl Desk {
         skills: u64,
     ) -> Result<(), AllocError>
         requires range { IsInRange (Entry.Team name home.now shift.0 shift.1 skills) }
-        requires accepted { refusal_of self.old (Entry.Team name home.now shift.0 shift.1 skills) ≡ None }
-        ensures ok { OnOk result (self.new ≡ after_entry self.old (Entry.Team name home.now shift.0 shift.1 skills)) }
+        requires accepted {
+            refusal_of self.old (Entry.Team name home.now shift.0 shift.1 skills) ≡ None }
+        ensures ok { OnOk result
+            (self.new ≡ after_entry self.old (Entry.Team name home.now shift.0 shift.1 skills)) }
         ensures err { OnErr result (self.new ≡ self.old) }
     {
         let (from, until) = shift;
@@ -138,9 +141,14 @@ impl Desk {
         teams: u32,
         skills: u64,
     ) -> Result<(), AllocError>
-        requires range { IsInRange (Entry.Task name place.now window.0 window.1 minutes teams skills) }
-        requires accepted { refusal_of self.old (Entry.Task name place.now window.0 window.1 minutes teams skills) ≡ None }
-        ensures ok { OnOk result (self.new ≡ after_entry self.old (Entry.Task name place.now window.0 window.1 minutes teams skills)) }
+        requires range {
+            IsInRange (Entry.Task name place.now window.0 window.1 minutes teams skills) }
+        requires accepted {
+            let task = Entry.Task name place.now window.0 window.1 minutes teams skills in
+            refusal_of self.old task ≡ None }
+        ensures ok {
+            let task = Entry.Task name place.now window.0 window.1 minutes teams skills in
+            OnOk result (self.new ≡ after_entry self.old task) }
         ensures err { OnErr result (self.new ≡ self.old) }
     {
         let (earliest, latest) = window;
@@ -161,7 +169,8 @@ impl Desk {
         requires new { has_team self.old team.name ≡ false }
         requires home { team.home < length self.old.places }
         requires shift { IsShift team }
-        ensures ok { OnOk result (self.new ≡ record self.old { teams = self.old.teams ++ team ∷ [] }) }
+        ensures ok { OnOk result
+            (self.new ≡ record self.old { teams = self.old.teams ++ team ∷ [] }) }
         ensures err { OnErr result (self.new ≡ self.old) }
     {
         let _ = team.name.bytes();
@@ -175,7 +184,8 @@ impl Desk {
         requires place { task.place < length self.old.places }
         requires window { IsWindow task }
         requires count { IsTeamCount task.teams }
-        ensures ok { OnOk result (self.new ≡ record self.old { tasks = self.old.tasks ++ task ∷ [] }) }
+        ensures ok { OnOk result
+            (self.new ≡ record self.old { tasks = self.old.tasks ++ task ∷ [] }) }
         ensures err { OnErr result (self.new ≡ self.old) }
     {
         let _ = task.name.bytes();

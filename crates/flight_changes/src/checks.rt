@@ -1,8 +1,8 @@
 // Which entries are refused.
 ghost use Rattle.std.specs.Prelude.{◌≡◌, ℕ};
-ghost use Rattle.day_terms.specs.Refusal.{refusal_of, is_bad_count, is_bad_window};
+ghost use Rattle.day_terms.specs.Refusal.{is_bad_count, is_bad_window};
 ghost use Rattle.day_terms.specs.State.{has_place, has_task, has_team};
-ghost use Rattle.flight_changes.specs.Faults.{answer_of};
+ghost use Rattle.flight_changes.specs.Faults.{answer_to};
 
 use crate::desks::Desk;
 use crate::faults::ChangeFault;
@@ -26,7 +26,7 @@ fn is_bad_count(teams: u32) -> bool
 impl Desk {
     /// Refuses an entry where a condition of its kind holds, by the first that does.
     pub(crate) fn check(&self, entry: &Entry) -> Result<(), ChangeFault>
-        ensures { result ≡ answer_of (refusal_of self.now entry.now) }
+        ensures { result ≡ answer_to self.now entry.now }
     {
         match *entry {
             Entry::Place { name } => self.check_place(&name),
@@ -86,7 +86,7 @@ impl Desk {
     }
 
     fn check_place(&self, name: &Name) -> Result<(), ChangeFault>
-        ensures { result ≡ answer_of (refusal_of self.now (Entry.Place name.now)) }
+        ensures { result ≡ answer_to self.now (Entry.Place name.now) }
     {
         if self.places.len() >= MOST_PLACES {
             return Err(ChangeFault::TooMany);
@@ -98,7 +98,8 @@ impl Desk {
     }
 
     fn check_way(&self, from: &Name, to: &Name) -> Result<(), ChangeFault>
-        ensures { (minutes : ℕ) → result ≡ answer_of (refusal_of self.now (Entry.RouteTime from.now to.now minutes)) }
+        ensures { (minutes : ℕ) →
+            result ≡ answer_to self.now (Entry.RouteTime from.now to.now minutes) }
     {
         if !self.has_place(from) || !self.has_place(to) {
             return Err(ChangeFault::NoPlace);
@@ -107,7 +108,8 @@ impl Desk {
     }
 
     fn check_team(&self, name: &Name, home: &Name, from: u32, until: u32) -> Result<(), ChangeFault>
-        ensures { (skills : ℕ) → result ≡ answer_of (refusal_of self.now (Entry.Team name.now home.now from until skills)) }
+        ensures { (skills : ℕ) →
+            result ≡ answer_to self.now (Entry.Team name.now home.now from until skills) }
     {
         if self.teams.len() >= MOST_TEAMS {
             return Err(ChangeFault::TooMany);
@@ -132,7 +134,9 @@ impl Desk {
         latest: u32,
         teams: u32,
     ) -> Result<(), ChangeFault>
-        ensures { (minutes skills : ℕ) → result ≡ answer_of (refusal_of self.now (Entry.Task name.now place.now earliest latest minutes teams skills)) }
+        ensures { (minutes skills : ℕ) →
+            let task = Entry.Task name.now place.now earliest latest minutes teams skills in
+            result ≡ answer_to self.now task }
     {
         if self.tasks.len() >= MOST_TASKS {
             return Err(ChangeFault::TooMany);
@@ -154,7 +158,7 @@ impl Desk {
 
     /// Refuses a name that no task has.
     fn find_task(&self, task: &Name) -> Result<(), ChangeFault>
-        ensures { result ≡ answer_of (refusal_of self.now (Entry.Cancel task.now)) }
+        ensures { result ≡ answer_to self.now (Entry.Cancel task.now) }
     {
         if !self.has_task(task) {
             return Err(ChangeFault::NoTask);
@@ -163,7 +167,7 @@ impl Desk {
     }
 
     fn check_move(&self, task: &Name, earliest: u32, latest: u32) -> Result<(), ChangeFault>
-        ensures { result ≡ answer_of (refusal_of self.now (Entry.Move task.now earliest latest)) }
+        ensures { result ≡ answer_to self.now (Entry.Move task.now earliest latest) }
     {
         if !self.has_task(task) {
             return Err(ChangeFault::NoTask);
@@ -175,7 +179,7 @@ impl Desk {
     }
 
     fn check_needs(&self, task: &Name, teams: u32) -> Result<(), ChangeFault>
-        ensures { result ≡ answer_of (refusal_of self.now (Entry.Needs task.now teams)) }
+        ensures { result ≡ answer_to self.now (Entry.Needs task.now teams) }
     {
         if !self.has_task(task) {
             return Err(ChangeFault::NoTask);
@@ -188,7 +192,7 @@ impl Desk {
 
     /// Refuses a name that no team has.
     fn find_team(&self, team: &Name) -> Result<(), ChangeFault>
-        ensures { result ≡ answer_of (refusal_of self.now (Entry.Sick team.now)) }
+        ensures { result ≡ answer_to self.now (Entry.Sick team.now) }
     {
         if !self.has_team(team) {
             return Err(ChangeFault::NoTeam);
@@ -197,7 +201,7 @@ impl Desk {
     }
 
     fn check_shift(&self, team: &Name, from: u32, until: u32) -> Result<(), ChangeFault>
-        ensures { result ≡ answer_of (refusal_of self.now (Entry.Shift team.now from until)) }
+        ensures { result ≡ answer_to self.now (Entry.Shift team.now from until) }
     {
         if !self.has_team(team) {
             return Err(ChangeFault::NoTeam);

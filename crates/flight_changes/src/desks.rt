@@ -59,8 +59,10 @@ impl Desk {
         requires { IsInRange entry.now }
         ensures ok { OnOk result (self.new ≡ after_entry self.old entry.now) }
         ensures err { OnErr result (self.new ≡ self.old) }
-        ensures refused { (told : Refusal) → refusal_of self.old entry.now ≡ Some told → result ≡ Err (fault_of told) }
-        ensures accepted { refusal_of self.old entry.now ≡ None → IfErr result (λ fault. fault ≡ ChangeFault.OutOfMemory) }
+        ensures refused { (told : Refusal) → refusal_of self.old entry.now ≡ Some told →
+            result ≡ Err (fault_of told) }
+        ensures accepted { refusal_of self.old entry.now ≡ None →
+            IfErr result (λ fault. fault ≡ ChangeFault.OutOfMemory) }
     {
         self.check(entry)?;
         self.change(entry)?;

@@ -2,8 +2,7 @@
 ghost use Rattle.std.specs.Prelude.{◌≡◌, ℕ, List, None, Some, find, map, option_map, IfOk, IfErr};
 ghost use Rattle.crew_instance.specs.Draft.{rows_of};
 ghost use Rattle.day_terms.specs.Rounds.{first_missing, day_instance, lacks_time, minutes_by_name, minutes_given};
-ghost use Rattle.flight_changes.specs.Faults.{answer_of};
-ghost use Rattle.day_terms.specs.Refusal.{refusal_of};
+ghost use Rattle.flight_changes.specs.Faults.{answer_to};
 
 use crate::desks::Desk;
 use crate::faults::ChangeFault;
@@ -17,8 +16,10 @@ impl Desk {
     /// and no default stands; the first such pair, by `from` and then by `to`, is told. Memory may run out.
     pub fn instance(&self) -> Result<Instance, ChangeFault>
         ensures ok { IfOk result (λ instance. instance ≡ day_instance self.now) }
-        ensures missing { (from to : List ℕ) → first_missing self.now ≡ Some (from, to) → result ≡ Err (ChangeFault.MissingTravel from to) }
-        ensures whole { first_missing self.now ≡ None → IfErr result (λ fault. fault ≡ ChangeFault.OutOfMemory) }
+        ensures missing { (from to : List ℕ) → first_missing self.now ≡ Some (from, to) →
+            result ≡ Err (ChangeFault.MissingTravel from to) }
+        ensures whole { first_missing self.now ≡ None →
+            IfErr result (λ fault. fault ≡ ChangeFault.OutOfMemory) }
     {
         if let Some((from, to)) = self.first_missing() {
             return Err(ChangeFault::MissingTravel { from, to });
@@ -44,7 +45,7 @@ impl Desk {
 
     /// Refuses a state that lacks a travel time.
     pub(crate) fn check_times(&self) -> Result<(), ChangeFault>
-        ensures { (nodes : ℕ) → result ≡ answer_of (refusal_of self.now (Entry.Plan nodes)) }
+        ensures { (nodes : ℕ) → result ≡ answer_to self.now (Entry.Plan nodes) }
     {
         match self.first_missing() {
             Some((from, to)) => Err(ChangeFault::MissingTravel { from, to }),
@@ -69,7 +70,8 @@ impl Desk {
 
     /// The first other place to which nothing says the time from this one.
     fn missing_from(&self, from: &Name) -> Option<Name>
-        ensures { option_map (λ to. (from.now, to)) result ≡ find (lacks_time self.now) (map (λ to. (from.now, to)) self.now.places) }
+        ensures { option_map (λ to. (from.now, to)) result ≡
+            find (lacks_time self.now) (map (λ to. (from.now, to)) self.now.places) }
     {
         for to in self.places.as_slice() {
             if self.lacks_time(from, to) {
@@ -108,7 +110,8 @@ impl Desk {
 
     /// The minutes from a place to each.
     fn minutes_row(&self, from: &Name) -> Result<Vec<u32>, AllocError>
-        ensures { IfOk result (λ row. row.items ≡ map (minutes_by_name self.now from.now) self.now.places) }
+        ensures { IfOk result
+            (λ row. row.items ≡ map (minutes_by_name self.now from.now) self.now.places) }
     {
         let mut row = Vec::with_capacity(self.alloc, self.places.len())?;
         for to in self.places.as_slice() {

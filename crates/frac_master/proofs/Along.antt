@@ -11,7 +11,6 @@ use Rattle.search_terms.specs.MasterRun.MasterRun.{Enters, Pivots}
 use Rattle.search_terms.specs.Overflows.{OverflowAt}
 use Rattle.search_terms.specs.Overflows.OverflowAt.{InColumn, InPivot}
 use Rattle.search_terms.specs.Overflows.IsOfColumn.{Column}
-use Rattle.frac_master.specs.declared.solved.Added.TheVariants.{Done}
 use Rattle.frac_master.specs.declared.solved.Solved.{Solved}
 use Rattle.frac_master.specs.declared.solved.Solved.TheVariants.{Optimal, Overflow as Overflowed, Spent}
 use Rattle.frac_master.specs.Running.{Runs}

@@ -12,7 +12,7 @@ use Rattle.search_terms.specs.Opening.{cost, cost_sum, opens, places_where, visi
 use Rattle.crew_terms.specs.Limits.{Route}
 use Rattle.frac_master.specs.Table.{rows_of}
 use Rattle.frac_master.specs.Columns.{entry_of}
-use Rattle.frac_master.proofs.Picked.{where_more}
+use Rattle.frac_master.proofs.Walked.{where_more}
 
 pub total-same : (n : ℕ) (f g : ℕ → ℤ) → ((i : ℕ) → i < n → f i ≡ g i) → total n f ≡ total n g
 total-same zero f g h = refl
@@ -46,7 +46,7 @@ step_more all r i at numbers sum c v below yes' basis each value ec ev =
     let p = get_or all i Right in
     let a = visit_number r in
     let f = filter_more opens all i Right below ∙ ap (λ b. filter opens (take i all) ++ cond b (p ∷ []) []) yes' in
-    let w = where_more 0 all i Right below ∙ ap (λ b. places_where opens 0 (take i all) ++ cond b ((0 + i) ∷ []) []) yes' in
+    let w = where_more opens 0 all i Right below ∙ ap (λ b. places_where opens 0 (take i all) ++ cond b ((0 + i) ∷ []) []) yes' in
     let z : 0 + i ≡ i = omega arith in
     record {
       basis = ap (λ l. l ++ i ∷ []) basis ∙ ap (λ k. places_where opens 0 (take i all) ++ k ∷ []) (sym z) ∙ sym w;
@@ -62,7 +62,7 @@ pub step_skip : (all : List Place) (r : Route) (i : ℕ) (at : List ℕ) (number
 step_skip all r i at numbers sum below no' basis each value =
     let p = get_or all i Right in
     let f = filter_more opens all i Right below ∙ ap (λ b. filter opens (take i all) ++ cond b (p ∷ []) []) no' ∙ append-nil (filter opens (take i all)) in
-    let w = where_more 0 all i Right below ∙ ap (λ b. places_where opens 0 (take i all) ++ cond b ((0 + i) ∷ []) []) no' ∙ append-nil (places_where opens 0 (take i all)) in
+    let w = where_more opens 0 all i Right below ∙ ap (λ b. places_where opens 0 (take i all) ++ cond b ((0 + i) ∷ []) []) no' ∙ append-nil (places_where opens 0 (take i all)) in
     record { basis = basis ∙ sym w; each = each ∙ ap (map (visit_number r)) (sym f); value = value ∙ ap (sum_at (visit_number r)) (sym f) }
 
 pub entries_more : (rows : List (Vec ℤ)) (column new : List ℤ) (at : List ℕ) (numbers : List ℤ) (i : ℕ) (row : Vec ℤ) (z : ℤ) → i < length rows → row ≡ get_or rows i row

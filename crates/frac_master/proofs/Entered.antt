@@ -1,10 +1,10 @@
 -- a route that enters a master
-use Rattle.std.proofs.Common.{◌≡◌, ◌<◌, ◌-◌, ◌+◌, ◌++◌, ◌∷◌, [], ◌∙◌, ℕ, ℤ, pos, List, length, get_or, map, refl, ap, sym, subst, arith}
+use Rattle.std.proofs.Common.{◌≡◌, ◌<◌, ◌-◌, ◌++◌, ◌∷◌, [], ◌∙◌, ℕ, pos, List, length, get_or, map, refl, ap, sym, subst, arith}
 use Rattle.std.proofs.lemmas.List.{get_or-map, length-map, get_or_append_left}
 use Rattle.crew_terms.specs.Limits.{Limits, Route}
 use Rattle.search_terms.specs.declared.Place.{Place}
 use Rattle.search_terms.specs.declared.TheConstants.{VALUE}
-use Rattle.search_terms.specs.Rows.{Row, Rows, number, row_of, value_row, width, AreBasic}
+use Rattle.search_terms.specs.Rows.{Row, Rows, number, value_row, AreBasic}
 use Rattle.search_terms.specs.Opening.{dual, entered, entry, openers, places}
 use Rattle.search_terms.specs.MasterRun.{IsMasterRun}
 use Rattle.frac_master.specs.State.{IsOfRun, MasterState}

@@ -1,8 +1,8 @@
 -- rows that get one more number each
-use Rattle.std.proofs.Common.{◌≡◌, ◌≢◌, ◌≤◌, ◌<◌, ◌+◌, ◌++◌, ◌∷◌, [], ◌∙◌, ℕ, zero, suc, ℤ, List, length, set, get_or, take, refl, ap, sym, subst, arith, below_more, length-set, get_or-set_same, get_or-set_other}
+use Rattle.std.proofs.Common.{◌≡◌, ◌≢◌, ◌≤◌, ◌<◌, ◌+◌, ◌++◌, ◌∷◌, [], ◌∙◌, ℕ, zero, suc, ℤ, List, length, set, get_or, refl, ap, sym, subst, arith, below_more, length-set, get_or-set_same, get_or-set_other}
 use Rattle.std.specs.Prelude.{All}
 use Rattle.std.specs.Global.{Vec}
-use Rattle.std.proofs.lemmas.List.{length-map, get_or-map, map-set}
+use Rattle.std.proofs.lemmas.List.{length-map}
 use Rattle.search_terms.specs.Rows.{Row, number}
 use Rattle.frac_master.specs.Table.{rows_of}
 use Rattle.frac_master.specs.Clearing.{at_row}

@@ -1,5 +1,5 @@
 -- the row of least ratio among the first rows
-use Rattle.std.proofs.Common.{◌≡◌, ◌≤◌, ◌<◌, ◌+◌, ◌⊎◌, inl, inr, ℕ, ℤ, pos, ◌*ℤ◌, ◌<ℤ◌, ◌≤ℤ◌, length, sym, ap, ◌∙◌, arith, below_more, Option, None, Some}
+use Rattle.std.proofs.Common.{◌≤◌, ◌<◌, ◌+◌, inl, inr, ℕ, ℤ, pos, ◌*ℤ◌, ◌<ℤ◌, ◌≤ℤ◌, length, sym, ap, ◌∙◌, arith, below_more, Option, None, Some}
 use Rattle.std.proofs.lemmas.Int.{ints}
 use Rattle.std.proofs.Math.IntN.{*ℤ_comm}
 use Rattle.search_terms.specs.Rows.{Rows, number, row_of, basic_of, last}
@@ -10,9 +10,7 @@ use Rattle.std.proofs.lemmas.List.{length-map}
 use Rattle.std.specs.Global.{Vec}
 use Rattle.frac_master.specs.Table.{table}
 use Rattle.frac_master.specs.Choosing.{IsBefore, IsBehind, IsLeast, IsBest, IsRatioFault}
-use Rattle.crew_num.specs.declared.Op.TheVariants.{Mul}
 use Rattle.crew_num.specs.declared.Overflow.{Overflow}
-use Rattle.crew_num.specs.Exact.{fault}
 use Rattle.crew_num.specs.Ratios.{IsFirstProduct}
 use Rattle.crew_num.specs.Ratios.IsFirstProduct.{Left, Right}
 use Rattle.frac_master.proofs.Ring.{assoc, times_up_to, cancel_up_to}

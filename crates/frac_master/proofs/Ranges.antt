@@ -1,15 +1,14 @@
 -- lists over a range that grows by one
-use Rattle.std.proofs.Common.{◌≡◌, ◌<◌, ◌+◌, ◌++◌, ◌∷◌, ◌∙◌, ◌↔◌, [], ℕ, zero, suc, List, Bool, true, false, cond, not, ap, refl, sym, arith, length, map, filter, append_assoc, append-nil, length-append}
+use Rattle.std.proofs.Common.{◌≡◌, ◌<◌, ◌+◌, ◌++◌, ◌∷◌, ◌∙◌, ◌↔◌, [], ℕ, zero, suc, List, Bool, true, false, cond, not, ap, refl, arith, length, filter, append_assoc, append-nil, length-append}
 use Rattle.crew_terms.specs.Limits.{is_required}
 use Rattle.crew_terms.specs.declared.Pair.{Pair}
 use Rattle.crew_terms.specs.declared.Pair.TheVariants.{Free, Forbidden, Required}
 use Rattle.std.specs.Prelude.{flat_map}
 use Rattle.std.specs.List.{range_with_len}
-use Rattle.std.proofs.lemmas.List.{map-append}
 use Rattle.std.proofs.lemmas.List.Elements.{filter-append}
 use Rattle.std.proofs.lemmas.Grind.{flat_map-append}
 
-range_from : (a n : ℕ) → range_with_len a (n + 1) ≡ range_with_len a n ++ (a + n) ∷ []
+pub range_from : (a n : ℕ) → range_with_len a (n + 1) ≡ range_with_len a n ++ (a + n) ∷ []
 range_from a zero = ap (λ k. k ∷ []) (omega arith)
 range_from a (suc n) =
     let e : suc n + 1 ≡ suc (n + 1) = omega arith in

@@ -1,5 +1,5 @@
 -- the value and the dual numbers, as numerator and positive denominator
-use Rattle.std.specs.Prelude.{◌≡◌, ◌<◌, ◌⊎◌, ℕ, ℤ, pos, ◌+ℤ◌, ◌-ℤ◌, ◌*ℤ◌, ◌<ℤ◌, List, Err, Result, MatchOption, MatchResult}
+use Rattle.std.specs.Prelude.{◌≡◌, ◌⊎◌, ℕ, ℤ, pos, ◌+ℤ◌, ◌-ℤ◌, ◌*ℤ◌, ◌<ℤ◌, List, Err, Result, MatchOption, MatchResult}
 use Rattle.crew_num.specs.declared.Op.TheVariants.{Add, Mul}
 use Rattle.crew_num.specs.declared.Overflow.{Overflow}
 use Rattle.crew_num.specs.Exact.{IsOverflow, fault}

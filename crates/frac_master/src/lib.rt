@@ -14,8 +14,10 @@ mod pivots;
 mod places;
 mod routes;
 mod running;
+mod shares;
 mod solved;
 mod widening;
 
 pub use master::Master;
+pub use shares::Share;
 pub use solved::{Added, Solved};

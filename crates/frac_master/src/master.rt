@@ -1,10 +1,11 @@
 // The master of a node.
 
-ghost use Rattle.std.specs.Prelude.{◌≡◌, ◌<◌, ◌+◌, ◌++◌, ◌∷◌, [], ◌*ℤ◌, ℕ, pos, true, List, None, length, All, Contains, IfOk, IfErr, MatchResult};
+ghost use Rattle.std.specs.Prelude.{◌≡◌, ◌<◌, ◌+◌, ◌++◌, ◌∷◌, [], ◌*ℤ◌, ℕ, pos, true, List, None, length, unsigned_abs, All, Contains, IfOk, IfErr, MatchResult};
 ghost use Rattle.crew_terms.specs.Leaf.{Prices};
 ghost use Rattle.crew_terms.specs.Limits.{Limits as NodeLimits, Route};
 ghost use Rattle.search_terms.specs.Duals.{AreDuals, IsUpTo};
-ghost use Rattle.search_terms.specs.Opening.{cost, opens};
+ghost use Rattle.search_terms.specs.BasicChoice.{AreWholeParts};
+ghost use Rattle.search_terms.specs.Opening.{cost, opens, places};
 ghost use Rattle.search_terms.specs.Overflows.{OverflowAt};
 ghost use Rattle.search_terms.specs.Pivot.{IsOptimal};
 ghost use Rattle.search_terms.specs.Rows.{value_row};
@@ -14,6 +15,7 @@ ghost use Rattle.frac_master.specs.Adding.{Adds, HaveSameDuals};
 ghost use Rattle.frac_master.specs.Columns.{route_of};
 ghost use Rattle.frac_master.specs.Follows.{AddsAlong, FollowsList, FollowsRun, SolvesAlong};
 ghost use Rattle.frac_master.specs.Prices.{GivesDual, GivesValue, IsSumOf};
+ghost use Rattle.frac_master.specs.Shares.{GivesShares, IsOptimalChoice, basic_choice, parts_at};
 ghost use Rattle.frac_master.specs.Solving.{Solves};
 ghost use Rattle.frac_master.specs.State.{opened};
 
@@ -23,13 +25,15 @@ use crate::opening::value_row;
 use crate::places::{places_of, teams_of};
 use crate::routes::column_of;
 use crate::running::run;
+use crate::shares::{Share, denominator_of, push_open, push_shares};
 use crate::solved::{Added, Solved};
 use crate::widening::{entries, widen};
 use crew_num::Overflow;
 use crew_terms::Visit;
 use master_laws::{
-    duals_stand, entering_keeps_duals, openers_differ, openers_within, optimal_prices,
-    pivot_keeps_width, places_are, run_keeps, some_row_bounds, strong_duality,
+    duals_stand, entering_keeps_duals, openers_differ, openers_within, optimal_choice,
+    optimal_prices, pivot_keeps_width, places_are, run_keeps, shares_are_parts, some_row_bounds,
+    strong_duality,
 };
 use node_limits::Limits;
 use search_terms::{Place, RIGHT, VALUE};
@@ -192,6 +196,57 @@ impl Master {
         strong_duality();
         let row = &self.rows[self.rows.len() - 1];
         Ok((row[RIGHT], row[VALUE]))
+    }
+
+    /// Makes `out` the positive shares of routes by rising column, and `left_open` the unassigned share of each task, 0 for a
+    /// task with a required pair; all are over one denominator, which is answered: the least common multiple of those of these
+    /// shares in lowest terms. After an overflow, or where memory is wanting, both lists are open.
+    pub fn shares(
+        &self,
+        out: &mut Vec<Share>,
+        left_open: &mut Vec<i128>,
+    ) -> Result<Result<i128, Overflow>, AllocError>
+        ensures shares { (n : NodeLimits) → self.now.places ≡ places n →
+            IfOk result (λ r. GivesShares n self.now r out.new.items left_open.new.items) }
+
+        // At the rows of a run: the shares are those of the basic solution, and an overflow of theirs belongs to the rows.
+        ensures parts { (n : NodeLimits) (routes : List Route) (made : ℕ) → FollowsRun n routes made self.now →
+            IfOk result (λ r. IfOk r (λ den. AreWholeParts n routes self.now.rows (unsigned_abs den) (parts_at self.now.rows (unsigned_abs den)))) }
+        ensures belongs { (n : NodeLimits) (routes : List Route) (made : ℕ) → FollowsRun n routes made self.now → IsOptimal self.now.rows →
+            IfOk result (λ r. IfErr r (λ f. (coming : List Route) → OverflowAt n self.now.rows coming f)) }
+
+        // At an optimum of a run over routes of the node they are a fractional choice of the master's value.
+        ensures optimum { (n : NodeLimits) (routes : List Route) (made : ℕ) → FollowsRun n routes made self.now →
+            IsOptimal self.now.rows → All (IsRouteIn n) routes →
+            IfOk result (λ r. IfOk r (λ den. IsOptimalChoice n self.now.rows (basic_choice n routes self.now.rows (unsigned_abs den)))) }
+    {
+        out.clear();
+        left_open.clear();
+        if let Some(fault) = self.ended {
+            return Ok(Err(fault));
+        }
+        run_keeps();
+        pivot_keeps_width();
+        places_are();
+        shares_are_parts();
+        optimal_choice();
+        let first = self.places.len();
+        let columns = self.columns.len();
+        match denominator_of(self.alloc, &self.rows, &self.basis, &self.places, columns)? {
+            Err(fault) => Ok(Err(fault)),
+            Ok(whole) => {
+                push_shares(out, &self.rows, &self.basis, &self.columns, first, whole)?;
+                push_open(
+                    left_open,
+                    &self.rows,
+                    &self.basis,
+                    &self.places,
+                    self.tasks,
+                    whole,
+                )?;
+                Ok(Ok(whole as i128))
+            }
+        }
     }
 
     /// The dual number of the row that opens with p.

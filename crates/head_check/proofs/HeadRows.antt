@@ -21,7 +21,8 @@ use Rattle.dossier_terms.specs.Dossier.{mask_of}
 use Rattle.dossier_terms.specs.Lines.{size_line, place_line, travel_line, team_words, task_words}
 use Rattle.dossier_terms.specs.Reading.{Answer, More as Goes, nothing, places_due, teams_due, tasks_due}
 use Rattle.dossier_terms.specs.Rules.{Holds, Fails, Spelled, On, IsShape}
-use Rattle.dossier_terms.specs.Table.{IsSize, IsTravel, IsTeamLine, IsTaskLine, size_row, place_row, travel_row, team_row, task_row, after_place, after_travel, after_team, after_task}
+use Rattle.dossier_terms.specs.Ranges.{IsSize, IsTravel, IsTeamLine, IsTaskLine}
+use Rattle.dossier_terms.specs.HeadTable.{size_row, place_row, travel_row, team_row, task_row, after_place, after_travel, after_team, after_task}
 use Rattle.head_check.specs.Head.{instance_so_far}
 use Rattle.head_check.proofs.GivenRow.{time_in_row, time_elsewhere}
 

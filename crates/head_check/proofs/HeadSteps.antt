@@ -15,7 +15,7 @@ use Rattle.dossier_terms.specs.Reading.{More as Goes, teams_due, tasks_due}
 use Rattle.dossier_terms.specs.Rules.{Holds, On}
 use Rattle.head_check.specs.Numbers.{naturals, AreBelow}
 use Rattle.head_check.specs.Head.{IsHead, IsDue, HeadTells, instance_so_far}
-use Rattle.dossier_terms.specs.Table.{after_team, after_task}
+use Rattle.dossier_terms.specs.HeadTable.{after_team, after_task}
 use Rattle.head_check.specs.declared.due.HeadDue.{HeadDue}
 use Rattle.head_check.specs.declared.due.HeadStep.TheVariants.{More}
 use Rattle.head_check.proofs.Steps.{plainly}

@@ -6,7 +6,8 @@ use Rattle.crew_terms.specs.Instance.{Instance}
 use Rattle.crew_terms.specs.Rules.{HasNoFrozen}
 use Rattle.crew_instance.specs.Draft.{Draft as Parts, time_of, minutes_from}
 use Rattle.dossier_terms.specs.Reading.{Reading, Answer, More as Goes, No as Refuses, Form as FormDue, Sizes, Places, Travels, Teams, Tasks, Pools}
-use Rattle.dossier_terms.specs.Table.{IsSize, Says}
+use Rattle.dossier_terms.specs.Ranges.{IsSize}
+use Rattle.dossier_terms.specs.Table.{Says}
 use Rattle.head_check.specs.declared.due.Head.{Head}
 use Rattle.head_check.specs.declared.due.HeadDue.{HeadDue}
 use Rattle.head_check.specs.declared.due.HeadDue.TheVariants.{Form, Size, Place, Travel, Team, Task, Whole}

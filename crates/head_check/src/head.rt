@@ -2,7 +2,8 @@
 ghost use Rattle.std.specs.Prelude.{◌≡◌, ◌<◌, ◌≤◌, ◌+◌, ◌-◌, ℕ, List, pos, map, length, IfOk, OnOk, IsTrue};
 ghost use Rattle.crew_terms.specs.Rules.{IsTeamCount};
 ghost use Rattle.crew_terms.specs.declared.TheConstants.{LAST_MINUTE};
-ghost use Rattle.dossier_terms.specs.Table.{IsTravel, after_place, after_travel, after_team, after_task};
+ghost use Rattle.dossier_terms.specs.Ranges.{IsTravel};
+ghost use Rattle.dossier_terms.specs.HeadTable.{after_place, after_travel, after_team, after_task};
 ghost use Rattle.crew_instance.specs.Draft.{with_row};
 ghost use Rattle.head_check.specs.Numbers.{AreBelow, naturals};
 ghost use Rattle.dossier_terms.specs.Reading.{places_due, travels_due, teams_due, tasks_due};

@@ -1,10 +1,9 @@
 -- the worths of all teams, and what they prove
-use Rattle.std.proofs.Common.{◌≡◌, ◌≢◌, ◌≤◌, ◌<◌, ◌+◌, ◌*◌, ℕ, zero, suc, ℤ, pos, List, ◌⊎◌, inl, inr, ap, sym, subst, arith, add-one}
-use Rattle.std.specs.Prelude.{◌≤ℤ◌, ◌<ℤ◌}
+use Rattle.std.proofs.Common.{◌≡◌, ◌≤◌, ◌<◌, ℕ, zero, suc, ℤ, List, subst, arith}
+use Rattle.std.specs.Prelude.{◌≤ℤ◌}
 use Rattle.std.proofs.lemmas.Int.{ints}
 use Rattle.crew_terms.specs.Limits.{Limits, IsRoute, teams_in}
 use Rattle.crew_terms.specs.Leaf.{Prices, HoldsLocally, IsValidLeaf, IsWorth, Proves, rewards, worth_of}
-use Rattle.crew_terms.specs.declared.TheConstants.{D}
 use Rattle.crew_terms.specs.declared.Visit.{Visit}
 use Rattle.label_pricing.specs.Worths.{AreWorths}
 

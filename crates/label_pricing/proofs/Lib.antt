@@ -2,6 +2,7 @@ pub mod Best
 pub mod Cells
 pub mod Onward
 pub mod OneCell
+pub mod Nearby
 pub mod Swept
 pub mod Followed
 pub mod Twins

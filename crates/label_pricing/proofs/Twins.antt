@@ -1,11 +1,10 @@
 -- teams that price alike
-use Rattle.std.proofs.Common.{◌≡◌, ◌≢◌, ◌≤◌, ◌<◌, ◌+◌, ℕ, ℤ, pos, List, [], ◌∷◌, ap, sym, ◌∙◌, subst, refl, arith}
-use Rattle.std.specs.Prelude.{◌+ℤ◌, ◌≤ℤ◌}
+use Rattle.std.proofs.Common.{◌≡◌, ◌≢◌, ◌<◌, ℕ, ℤ, List, [], ◌∷◌, ap, sym, ◌∙◌, subst, refl, arith}
 use Rattle.std.specs.Int.{bit_at}
 use Rattle.std.proofs.lemmas.Int.{ints}
-use Rattle.crew_terms.specs.Instance.{IsInShift, task_of, team_of, minutes_between}
+use Rattle.crew_terms.specs.Instance.{task_of, minutes_between}
 use Rattle.crew_terms.specs.Limits.{Limits, IsPermittedVisit, IsRoute, GoesOn, pair_of, tasks_in}
-use Rattle.crew_terms.specs.Leaf.{Prices, IsOnRequired, IsWorth, reward, rewards, rho_of}
+use Rattle.crew_terms.specs.Leaf.{Prices, IsOnRequired, IsWorth, reward, rewards}
 use Rattle.crew_terms.specs.declared.Pair.{Pair}
 use Rattle.crew_terms.specs.declared.Pair.TheVariants.{Free, Forbidden, Required}
 use Rattle.crew_terms.specs.declared.Visit.{Visit}

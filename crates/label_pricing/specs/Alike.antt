@@ -4,7 +4,7 @@ use Rattle.crew_terms.specs.Instance.{team_of}
 use Rattle.crew_terms.specs.Limits.{Limits, pair_of, tasks_in}
 use Rattle.crew_terms.specs.declared.Pair.{Pair}
 use Rattle.crew_terms.specs.declared.Team.{Team}
-use Rattle.crew_terms.specs.declared.Pair.TheVariants.{Free, Forbidden, Required}
+use Rattle.crew_terms.specs.declared.Pair.TheVariants.{Free, Forbidden}
 
 -- both pairs are free, or both are forbidden
 abbrev pub IsPairAlike : Pair → Pair → Type 0

@@ -1,5 +1,5 @@
 -- what the fields stand for
-use Rattle.std.specs.Prelude.{◌≤◌, ℕ, vec_capacity}
+use Rattle.std.specs.Prelude.{◌≤◌, vec_capacity}
 use Rattle.crew_terms.specs.declared.TheConstants.{MOST_TEAMS}
 use Rattle.label_pricing.specs.Pricing.{Pricing}
 use Rattle.label_pricing.specs.Work.{HasWorkRoom}

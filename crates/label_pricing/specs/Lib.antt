@@ -1,5 +1,6 @@
 pub mod Best
 pub mod Turns
+pub mod Near
 pub mod Cells
 pub mod Work
 pub mod Pricing

@@ -9,6 +9,7 @@ use Rattle.label_pricing.specs.declared.workspace.Workspace.{Workspace}
 -- there is room for any team of an instance with so many places
 pub record HasWorkRoom (places : ℕ) (a : Workspace) : Type 0 where
   pub turns : 400 ≤ vec_capacity a.turns
+  pub near : 400 ≤ vec_capacity a.near
   pub cells : IsGrid places a.cells.items
   pub route : 2881 ≤ vec_capacity a.route
 

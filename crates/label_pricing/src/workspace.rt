@@ -31,6 +31,8 @@ const VISITS: usize = 2881;
 pub(crate) struct Workspace {
     // What the team can do at each task.
     pub(crate) turns: Vec<Turn>,
+    // The tasks that it may begin about a minute.
+    pub(crate) near: Vec<u32>,
     // The team's first minute, and the one behind its last.
     pub(crate) start: u32,
     pub(crate) end: u32,
@@ -46,10 +48,12 @@ impl Workspace {
         ensures { IfOk result (HasWorkRoom (length instance.now.places)) }
     {
         let turns = Vec::with_capacity(alloc, TASKS)?;
+        let near = Vec::with_capacity(alloc, TASKS)?;
         let cells = cells_for(alloc, instance.places())?;
         let route = Vec::with_capacity(alloc, VISITS)?;
         Ok(Workspace {
             turns,
+            near,
             start: 0,
             end: 0,
             cells,
@@ -77,6 +81,7 @@ impl Workspace {
             k,
             prices,
             &self.turns,
+            &mut self.near,
             &mut self.cells,
             self.start,
             self.end,

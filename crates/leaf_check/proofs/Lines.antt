@@ -11,7 +11,8 @@ use Rattle.crew_terms.specs.Minutes.{minute_count, open_tasks, priced, required_
 use Rattle.dossier_terms.specs.Lines.{price_line, extra_line, worth_line, phi_line}
 use Rattle.dossier_terms.specs.Reading.{Answer, limits_of, LeafSite}
 use Rattle.dossier_terms.specs.Rules.{Holds, Spelled}
-use Rattle.dossier_terms.specs.Table.{AreNumbers, after_extra, after_phi, price_row, extra_row, worth_row, phi_row}
+use Rattle.dossier_terms.specs.Ranges.{AreNumbers}
+use Rattle.dossier_terms.specs.LeafTable.{after_extra, after_phi, price_row, extra_row, worth_row, phi_row}
 
 -- ---- numbers
 

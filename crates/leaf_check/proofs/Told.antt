@@ -10,7 +10,8 @@ use Rattle.dossier_terms.specs.declared.Reason.TheVariants.{Bound, Potential, Wo
 use Rattle.dossier_terms.specs.Dossier.{Leaf, Potentials, phi_in, prices_of, worths_of}
 use Rattle.dossier_terms.specs.Reading.{Reading, Answer, More as Goes, No as Refuses, Extras, Worths, Phis, limits_of, leaf_done, LeafSite}
 use Rattle.dossier_terms.specs.Rules.{Holds, Fails, HoldsOfAll, FailsAt, On}
-use Rattle.dossier_terms.specs.Table.{Says, after_extra, after_phi, after_table, extra_row, phi_row, price_row, worth_row}
+use Rattle.dossier_terms.specs.Table.{Says}
+use Rattle.dossier_terms.specs.LeafTable.{after_extra, after_phi, after_table, extra_row, phi_row, price_row, worth_row}
 use Rattle.potentials.specs.Table.{phi}
 use Rattle.potentials.specs.Rules.{IsLocalVerdict}
 use Rattle.potentials.specs.declared.rules.LocalVerdict.TheVariants as verdicts

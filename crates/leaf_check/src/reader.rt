@@ -4,7 +4,7 @@ ghost use Rattle.crew_terms.specs.Limits.{Limits as NodeLimits, has_required, ta
 ghost use Rattle.dossier_terms.specs.Dossier.{Leaf, Potentials};
 ghost use Rattle.crew_terms.specs.Minutes.{minute_count};
 ghost use Rattle.dossier_terms.specs.Reading.{Prices as PriceDue, LeafSite};
-ghost use Rattle.dossier_terms.specs.Table.{after_extra, after_phi, after_table, extra_row, phi_row, price_row, worth_row};
+ghost use Rattle.dossier_terms.specs.LeafTable.{after_extra, after_phi, after_table, extra_row, phi_row, price_row, worth_row};
 ghost use Rattle.leaf_check.specs.Keys.{AreLeft, IsRowDue, has_minutes};
 ghost use Rattle.leaf_check.specs.Reader.{HasPotentials, HasReadLeaf, IsGoalAt, IsLeafStep, IsReady, StandsFor, LeafTells, below_next, priced_leaf};
 

@@ -6,7 +6,7 @@ use Rattle.crew_terms.specs.Rules.{IsInstance}
 use Rattle.crew_terms.specs.Decided.{IsDecided}
 use Rattle.search_terms.specs.Closing.{CrowdedPrices, HasNoPlan, IsCrowded, IsShort, IsStuck, ShortPrices, StuckPrices}
 use Rattle.leaf_close.specs.Cases.{AreClosingPrices, CrowdedTask, HasFault, HasNoFault, OfCrowded, OfShort, OfStuck, ShortTask, StuckTeam}
-use Rattle.leaf_close.specs.Faults.{AreFaultPrices, IsFirstFault}
+use Rattle.leaf_close.specs.Faults.{AreFaultPrices, IsFirstNodeFault}
 use Rattle.leaf_close.specs.declared.faults.Fault.{Fault}
 use Rattle.leaf_close.specs.declared.faults.Fault.TheVariants.{Stuck, Crowded, Short}
 
@@ -23,27 +23,27 @@ fault_excludes n (CrowdedTask j crowded) none = let e = none.tasks j crowded.kno
 fault_excludes n (ShortTask j short) none = let e = none.tasks j short.known short.some in let l = short.few in omega arith
 
 module _ (n : Limits) (fault : Fault) where
-  pub is_fault : IsFirstFault n fault → HasFault n
+  pub is_fault : IsFirstNodeFault n fault → HasFault n
   is_fault = by fault
     where
-      by : (f : Fault) → IsFirstFault n f → HasFault n
+      by : (f : Fault) → IsFirstNodeFault n f → HasFault n
       by (Stuck k) first = StuckTeam k first.team first.stuck
       by (Crowded j) first = CrowdedTask j first.1.crowded
       by (Short j) first = ShortTask j first.2.short
 
   module _ (p : Prices) where
-    pub fault_prices : IsFirstFault n fault → AreFaultPrices n fault p → AreClosingPrices n p
+    pub fault_prices : IsFirstNodeFault n fault → AreFaultPrices n fault p → AreClosingPrices n p
     fault_prices = by fault
       where
-        by : (f : Fault) → IsFirstFault n f → AreFaultPrices n f p → AreClosingPrices n p
+        by : (f : Fault) → IsFirstNodeFault n f → AreFaultPrices n f p → AreClosingPrices n p
         by (Stuck k) first prices = OfStuck k first prices
         by (Crowded j) first prices = OfCrowded first.0 j first.1 prices
         by (Short j) first prices = OfShort first.0 first.1 j first.2 prices
 
-    pub no_plan : AreLaws → IsInstance n.instance → IsLimits n → IsDecided n → AreInRange p → IsFirstFault n fault → AreFaultPrices n fault p → HasNoPlan n p
+    pub no_plan : AreLaws → IsInstance n.instance → IsLimits n → IsDecided n → AreInRange p → IsFirstNodeFault n fault → AreFaultPrices n fault p → HasNoPlan n p
     no_plan laws instance limits decided range = by fault
       where
-        by : (f : Fault) → IsFirstFault n f → AreFaultPrices n f p → HasNoPlan n p
+        by : (f : Fault) → IsFirstNodeFault n f → AreFaultPrices n f p → HasNoPlan n p
         by (Stuck k) first prices = laws.stuck n p k instance limits decided range first.team first.stuck prices
         by (Crowded j) first prices = laws.crowded n p j instance limits decided range first.1.crowded prices
         by (Short j) first prices = laws.short n p j instance limits decided range first.2.short prices

@@ -9,16 +9,13 @@ use Rattle.std.proofs.lemmas.List.FromFn.{map-range_with_len_more}
 use Rattle.std.proofs.lemmas.List.Sums.{count_by_more_yes, count_by_more_no}
 use Rattle.crew_terms.specs.Instance.{task_of}
 use Rattle.crew_terms.specs.Limits.{Limits, IsLimits, is_required, pair_of}
+use Rattle.crew_terms.specs.Listed.{range_more}
 use Rattle.crew_terms.specs.Minutes.{required_teams}
 use Rattle.crew_terms.specs.declared.Pair.{Pair}
 use Rattle.crew_terms.specs.declared.Pair.TheVariants.{Free}
 use Rattle.node_limits.specs.Required.{required_count}
 use Rattle.search_terms.specs.Closing.{AreStaffed}
 use Rattle.leaf_close.specs.Cases.{NoneIsCrowded, NoneIsShort}
-
--- one number more
-range_more : (m : ℕ) → range_with_len 0 (m + 1) ≡ range_with_len 0 m ++ m ∷ []
-range_more m = sym (map-id (range_with_len 0 (m + 1))) ∙ map-range_with_len_more (λ x. x) 0 m m (omega arith) ∙ ap (λ (xs : List ℕ). xs ++ m ∷ []) (map-id (range_with_len 0 m))
 
 -- the required teams of task j among the first m
 abbrev pub teams_below : Limits → ℕ → ℕ → List ℕ

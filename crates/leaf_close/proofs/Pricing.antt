@@ -8,27 +8,10 @@ use Rattle.crew_terms.specs.Limits.{Limits, IsLimits, is_required, pair_of, task
 use Rattle.crew_terms.specs.declared.Pair.{Pair}
 use Rattle.crew_terms.specs.declared.Pair.TheVariants.{Free, Forbidden, Required}
 use Rattle.crew_terms.specs.Leaf.{zero_prices}
+use Rattle.crew_terms.specs.ZeroPrices.{zero_pi, zero_rho}
 use Rattle.potentials.specs.Prices.{ArePrices, ArePricesOf, with_rho}
 use Rattle.search_terms.specs.Closing.{ArePricedBy, StuckPrices, all_cost}
 use Rattle.leaf_close.proofs.Doing.{known_task, known_team}
-
--- ---- zeros
-
-zero_at : (m i : ℕ) → get_or (replicate m (pos 0)) i (pos 0) ≡ pos 0
-zero_at m i = elim (cases_lt i m) [ inl l ↦ get_or-replicate m i (pos 0) (pos 0) l | inr ge ↦ get_or_past (replicate m (pos 0)) i (pos 0) (let e = length-replicate m (pos 0) in omega arith) ]
-
-pub zero_pi : (n : Limits) (j : ℕ) → pi_of (zero_prices n) j ≡ pos 0
-zero_pi n j = zero_at (tasks_in n) j
-
-pub zero_rho : (n : Limits) (k j : ℕ) → rho_of (zero_prices n) k j ≡ pos 0
-zero_rho n k j = by (cases_lt k (teams_in n))
-  where
-    rows : List (List ℤ)
-    rows = replicate (teams_in n) (replicate (tasks_in n) (pos 0))
-
-    by : (k < teams_in n) ⊎ (teams_in n ≤ k) → rho_of (zero_prices n) k j ≡ pos 0
-    by (inl l) = ap (λ (r : List ℤ). get_or r j (pos 0)) (get_or-replicate (teams_in n) k (replicate (tasks_in n) (pos 0)) [] l) ∙ zero_at (tasks_in n) j
-    by (inr ge) = ap (λ (r : List ℤ). get_or r j (pos 0)) (get_or_past (replicate (teams_in n) (replicate (tasks_in n) (pos 0))) k [] (let e = length-replicate (teams_in n) (replicate (tasks_in n) (pos 0)) in omega arith))
 
 -- ---- one price of a pair is set
 

@@ -11,9 +11,9 @@ use Rattle.leaf_close.specs.declared.closings.Closing.{Closing}
 use Rattle.leaf_close.specs.declared.closings.Closing.TheVariants as closings
 
 -- the prices that close the node
-abbrev pub prices_of : Closing → Prices
-prices_of (closings.Prices p) = p
-prices_of (closings.Plan q p) = p
+abbrev pub closing_prices : Closing → Prices
+closing_prices (closings.Prices p) = p
+closing_prices (closings.Plan q p) = p
 
 -- the plan that closes it, if one does
 abbrev pub plan_of : Closing → Option Plan

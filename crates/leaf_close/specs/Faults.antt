@@ -7,10 +7,10 @@ use Rattle.leaf_close.specs.declared.faults.Fault.{Fault}
 use Rattle.leaf_close.specs.declared.faults.Fault.TheVariants.{Stuck, Crowded, Short}
 
 -- the first fault of the node: of the teams, of the tasks with too many required teams, of those with too few
-abbrev pub IsFirstFault : Limits → Fault → Type 0
-IsFirstFault n (Stuck k) = IsFirstStuck n k
-IsFirstFault n (Crowded j) = NoneIsStuck n × IsFirstCrowded n j
-IsFirstFault n (Short j) = NoneIsStuck n × NoneIsCrowded n × IsFirstShort n j
+abbrev pub IsFirstNodeFault : Limits → Fault → Type 0
+IsFirstNodeFault n (Stuck k) = IsFirstStuck n k
+IsFirstNodeFault n (Crowded j) = NoneIsStuck n × IsFirstCrowded n j
+IsFirstNodeFault n (Short j) = NoneIsStuck n × NoneIsCrowded n × IsFirstShort n j
 
 -- the prices that tell the fault
 abbrev pub AreFaultPrices : Limits → Fault → Prices → Type 0

@@ -7,7 +7,7 @@ ghost use Rattle.search_terms.specs.Closing.{HasNoPlan, HasOnePlan, required_pla
 ghost use Rattle.search_terms.specs.Inside.{IsNode};
 ghost use Rattle.potentials.specs.Prices.{ArePricesOf};
 ghost use Rattle.leaf_close.specs.Cases.{AreClosingPrices, HasFault, HasNoFault};
-ghost use Rattle.leaf_close.specs.Closings.{IsBetter, IsClosed, plan_of, prices_of};
+ghost use Rattle.leaf_close.specs.Closings.{IsBetter, IsClosed, plan_of, closing_prices};
 
 use crate::faults::first_fault;
 use crate::plans::required_plan;
@@ -43,15 +43,15 @@ pub fn close_decided(alloc: Global, limits: &Limits<'_>, best: u32) -> Result<Cl
     requires node { IsNode limits.now.limits }
     requires decided { IsDecided limits.now.limits }
     requires best { best ≤ tasks_in limits.now.limits }
-    ensures prices { IfOk result (λ c. AreClosingPrices limits.now.limits (prices_of c)) }
+    ensures prices { IfOk result (λ c. AreClosingPrices limits.now.limits (closing_prices c)) }
     ensures no_plan { IfOk result (λ c. HasFault limits.now.limits →
-        HasNoPlan limits.now.limits (prices_of c)) }
+        HasNoPlan limits.now.limits (closing_prices c)) }
     ensures one_plan { IfOk result (λ c. HasNoFault limits.now.limits →
-        HasOnePlan limits.now.limits (prices_of c) (plan_required limits.now.limits)) }
+        HasOnePlan limits.now.limits (closing_prices c) (plan_required limits.now.limits)) }
     ensures plan { IfOk result (λ c.
         SomeIff (plan_of c) (IsBetter limits.now.limits best) (plan_required limits.now.limits)) }
     ensures closed { IfOk result (IsClosed limits.now.limits best) }
-    ensures shape { IfOk result (λ c. ArePricesOf limits.now.limits (prices_of c)) }
+    ensures shape { IfOk result (λ c. ArePricesOf limits.now.limits (closing_prices c)) }
 {
     decided_cases();
     less_is_proved();

@@ -4,7 +4,7 @@ ghost use Rattle.crew_terms.specs.Limits.{tasks_in};
 ghost use Rattle.crew_terms.specs.Decided.{IsDecided};
 ghost use Rattle.search_terms.specs.Closing.{IsCrowded, IsShort, NoneIsStuck, required_plan};
 ghost use Rattle.leaf_close.specs.Cases.{HasNoFault, IsFirstCrowded, IsFirstShort, IsFirstStuck, NoneIsCrowded, NoneIsShort};
-ghost use Rattle.leaf_close.specs.Faults.{IsFirstFault};
+ghost use Rattle.leaf_close.specs.Faults.{IsFirstNodeFault};
 
 use crate::turns::is_stuck;
 use arrayvec::ArrayVec;
@@ -82,7 +82,7 @@ fn short_task(limits: &Limits<'_>) -> Option<u32>
 pub(crate) fn first_fault(limits: &Limits<'_>, plan: &Plan) -> Option<Fault>
     requires decided { IsDecided limits.now.limits }
     requires plan { plan.now ≡ required_plan limits.now.limits }
-    ensures { MatchOption result (HasNoFault limits.now.limits) (IsFirstFault limits.now.limits) }
+    ensures { MatchOption result (HasNoFault limits.now.limits) (IsFirstNodeFault limits.now.limits) }
 {
     if let Some(k) = stuck_team(limits, plan) {
         return Some(Fault::Stuck(k));

@@ -4,7 +4,7 @@ ghost use Rattle.crew_terms.specs.Leaf.{AreInRange, IsPrice};
 ghost use Rattle.crew_terms.specs.Limits.{tasks_in, teams_in};
 ghost use Rattle.search_terms.specs.Closing.{CrowdedPrices, OpenPrices, ShortPrices, StuckPrices, all_cost};
 ghost use Rattle.potentials.specs.Prices.{ArePricesOf};
-ghost use Rattle.leaf_close.specs.Faults.{AreFaultPrices, IsFirstFault};
+ghost use Rattle.leaf_close.specs.Faults.{AreFaultPrices, IsFirstNodeFault};
 
 use crate::faults::Fault;
 use crate::plans::is_required;
@@ -79,7 +79,7 @@ pub(crate) fn fault_prices(
     limits: &Limits<'_>,
     fault: Fault,
 ) -> Result<Prices, AllocError>
-    requires { IsFirstFault limits.now.limits fault }
+    requires { IsFirstNodeFault limits.now.limits fault }
     ensures prices { IfOk result (AreFaultPrices limits.now.limits fault) }
     ensures range { IfOk result AreInRange }
     ensures shape { IfOk result (ArePricesOf limits.now.limits) }

@@ -2,8 +2,10 @@
 use crate::asked::{extra, master_of, price, solve};
 use crate::asserts::same;
 use crew_fixtures::{joint_task, two_at_once};
-use frac_master::Solved;
+use frac_master::{Master, Share, Solved};
 use node_limits::{Limits, Pair, Visit};
+use std::alloc::Global;
+use std::process::Abort;
 use std::test::Fail;
 
 /// A task is begun at 07:00.
@@ -11,7 +13,25 @@ fn at_seven(task: u32) -> Visit {
     Visit { task, start: 420 }
 }
 
-/// One team can do one of two tasks, so one stays unassigned: value and both prices are 1.
+/// The master has these shares of its columns and these unassigned shares, over this denominator.
+fn same_shares(
+    rt: &impl Abort,
+    alloc: Global,
+    master: &Master,
+    den: i128,
+    shares: &[Share],
+    left_open: &[i128],
+) -> Result<(), Fail> {
+    let mut out = Vec::new(alloc);
+    let mut left = Vec::new(alloc);
+    same(rt, &master.shares(&mut out, &mut left)?, &Ok(den));
+    same(rt, &out.as_slice(), &shares);
+    same(rt, &left.as_slice(), &left_open);
+    Ok(())
+}
+
+/// One team can do one of two tasks, so one stays unassigned: value and both prices are 1. The first route enters first, and at the
+/// tie of team and task the unused share leaves, which is lower than the unassigned one: so the first task is done.
 #[test]
 fn one_of_two_tasks(rt: HostRuntime) -> Result<(), Fail> {
     let day = two_at_once(rt.alloc())?;
@@ -25,7 +45,8 @@ fn one_of_two_tasks(rt: HostRuntime) -> Result<(), Fail> {
     same(&rt, &master.value(), &Ok((1, 1)));
     same(&rt, &price(&master, &limits, 0), &Some(Ok((1, 1))));
     same(&rt, &price(&master, &limits, 1), &Some(Ok((1, 1))));
-    Ok(())
+    let share = Share { column: 0, num: 1 };
+    same_shares(&rt, rt.alloc(), &master, 1, &[share], &[0, 1])
 }
 
 /// A task needs two teams, and there is a route of one of them: half of the task stays unassigned, and the dual solution
@@ -39,7 +60,8 @@ fn half_a_joint_task(rt: HostRuntime) -> Result<(), Fail> {
     same(&rt, &solve(&mut master, 100), &Solved::Optimal);
     same(&rt, &master.value(), &Ok((1, 2)));
     same(&rt, &price(&master, &limits, 0), &Some(Ok((1, 2))));
-    Ok(())
+    let share = Share { column: 0, num: 2 };
+    same_shares(&rt, rt.alloc(), &master, 2, &[share], &[1])
 }
 
 /// A team is required at a task and has no route: the shortage and the missed part each cost a million, so the price of
@@ -62,7 +84,7 @@ fn a_required_pair_without_a_route(rt: HostRuntime) -> Result<(), Fail> {
         &extra(&master, &limits, 0, 0),
         &Some(Ok((1_000_000, 1))),
     );
-    Ok(())
+    same_shares(&rt, rt.alloc(), &master, 1, &[], &[0, 1])
 }
 
 /// A route visits A, B and A again, so half of it does A, and half of B stays unassigned: the price of B is 1, and that of
@@ -77,5 +99,6 @@ fn a_route_that_visits_a_task_twice(rt: HostRuntime) -> Result<(), Fail> {
     same(&rt, &master.value(), &Ok((1, 2)));
     same(&rt, &price(&master, &limits, 0), &Some(Ok((-1, 2))));
     same(&rt, &price(&master, &limits, 1), &Some(Ok((2, 2))));
-    Ok(())
+    let share = Share { column: 0, num: 1 };
+    same_shares(&rt, rt.alloc(), &master, 2, &[share], &[0, 1])
 }

@@ -7,10 +7,9 @@ use Rattle.crew_terms.specs.Limits.{Limits, pair_of, tasks_in, teams_in, IsWithi
 use Rattle.crew_terms.specs.Plan.{Plan, Job, job_of, Does}
 use Rattle.crew_terms.specs.Verdict.{IsPlanOf}
 use Rattle.crew_terms.specs.declared.Pair.TheVariants.{Forbidden, Required}
-use Rattle.crew_terms.specs.Nodes.{job_known}
+use Rattle.crew_terms.specs.Nodes.{job_known, task_known}
 use Rattle.crew_instance.specs.Teams.{job_teams as teams_of}
 use Rattle.plan_check.specs.Within.{BeginsWithin, KeepsPair, KeepsTask}
-use Rattle.plan_check.proofs.Known.{task_known}
 
 -- what `contains` tells of the numbers of teams
 listed_decides : (ks : List ℕ) (k : ℕ) (r : Bool) → IsAnyAnswer (λ y t. eqb y k ≡ t) ks r → IsTrue r ↔ Contains ks k

@@ -1,3 +1,2 @@
-pub mod Known
 pub mod Kept
 pub mod Listed

@@ -12,7 +12,7 @@ use Rattle.crew_laws.specs.Visits.{AreVisitsOf, visit}
 use Rattle.crew_instance.specs.declared.turns.Turn.{Turn}
 use Rattle.crew_instance.specs.Turns.{AreTurns}
 use Rattle.plan_check.specs.Visits.{AreTasksOf}
-use Rattle.plan_check.proofs.Known.{task_known}
+use Rattle.crew_terms.specs.Nodes.{task_known}
 
 abbrev pub turn : ℕ → ℕ → Turn
 turn j t = record { start = t; task = j }

@@ -1,2 +1,3 @@
-pub mod Uses
 pub mod Bounds
+pub mod Firsts
+pub mod Uses

@@ -1,2 +1,3 @@
 pub mod Bound
+pub mod Classes
 pub mod Found

@@ -62,26 +62,11 @@ fn keep_better(best: &mut Prices, trial: &mut Prices, most: i128, bound: i128) -
     most
 }
 
-// So many looks at what a team can earn from a place at a minute are made for one pricing of all teams: at each place from
-// each minute of each task.
-fn looks_of_round(limits: &Limits<'_>) -> u64 {
-    let instance = limits.instance();
-    let mut minutes = 0u64;
-    for k in 0..instance.teams() as u32 {
-        for j in 0..instance.tasks() as u32 {
-            if let Some((first, last)) = limits.minutes(k, j) {
-                minutes = minutes.saturating_add(u64::from(last.saturating_sub(first)) + 1);
-            }
-        }
-    }
-    minutes.saturating_mul(instance.places() as u64)
-}
-
 // As many rounds as the effort allows, and one at least if it allows any.
-fn rounds_within(limits: &Limits<'_>, effort: Effort) -> u32
+fn rounds_within(effort: Effort, looks_of_round: u64) -> u32
     ensures { result ≤ effort.rounds }
 {
-    let affordable = effort.looks / looks_of_round(limits).max(1);
+    let affordable = effort.looks / looks_of_round.max(1);
     let most = affordable.max(1).min(u64::from(u32::MAX)) as u32;
     effort.rounds.min(most)
 }
@@ -116,7 +101,8 @@ pub fn ascend(
     let mut most = bound;
     let mut pace = Pace::new(effort.step);
     let mut made = 0;
-    for round in 0..rounds_within(limits, effort) {
+    let rounds = rounds_within(effort, sight.looks_of_round(limits));
+    for round in 0..rounds {
         if proves(most, goal) || pace.step() == 0 {
             break;
         }

@@ -3,6 +3,7 @@
 
 mod ascent;
 mod averages;
+mod classes;
 mod pace;
 mod pricing;
 mod ranges;

@@ -3,7 +3,9 @@ ghost use Rattle.std.specs.Prelude.{◌<◌, IfOk};
 ghost use Rattle.crew_terms.specs.Leaf.{IsOnRequired, IsPrice};
 ghost use Rattle.crew_terms.specs.Limits.{teams_in};
 ghost use Rattle.potentials.specs.Prices.{ArePricesOf};
+ghost use Rattle.potentials.specs.Table.{IsTableOf};
 
+use crew_instance::Instance;
 use label_pricing::{Visit, price_team};
 use node_limits::Limits;
 use potentials::{Prices, Room, Table, holds_locally};
@@ -70,4 +72,38 @@ pub fn priced(
     assert!(rt; sum_of(list, route) == found.worth);
     let visits = Vec::from_slice(rt.alloc(), route)?;
     Ok((found.worth, visits))
+}
+
+// What the table has for the visit; None where it has none.
+fn potential(instance: &Instance, table: &Table, at: Visit) -> Option<i64>
+    requires { IsTableOf instance.now table.now }
+{
+    if at.task as usize >= instance.tasks() {
+        return None;
+    }
+    let task = instance.task(at.task);
+    if at.start < task.earliest || task.latest < at.start {
+        return None;
+    }
+    Some(table.get(at.task, at.start))
+}
+
+/// The potentials of team `k` at these prices and visits.
+pub fn potentials_at(
+    alloc: Global,
+    limits: &Limits<'_>,
+    k: u32,
+    list: &[i64],
+    visits: &[Visit],
+) -> Result<Vec<Option<i64>>, Fail>
+    requires { k < teams_in limits.now.limits }
+{
+    let prices = prices_of(alloc, limits, list)?;
+    let mut table = Table::reserve(alloc, limits.instance())?;
+    let _found = price_team(alloc, limits, k, &prices, &mut table)?;
+    let mut told = Vec::new(alloc);
+    for visit in visits {
+        told.push(potential(limits.instance(), &table, *visit))?;
+    }
+    Ok(told)
 }

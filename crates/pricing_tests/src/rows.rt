@@ -1,6 +1,6 @@
 // Rows with known answers.
 use crate::asserts::same;
-use crate::priced::{priced, prices_of};
+use crate::priced::{potentials_at, priced, prices_of};
 use crew_fixtures::{far_gates, gate_instance, task, team, two_at_once, visit};
 use crew_instance::{Task, Team};
 use label_pricing::{Pricer, alike};
@@ -32,6 +32,21 @@ fn takes_all_three(rt: HostRuntime) -> Result<(), Fail> {
         &rt,
         &route.as_slice(),
         &[visit(0, 420), visit(1, 440), visit(2, 460)].as_slice(),
+    );
+    Ok(())
+}
+
+#[test]
+fn can_still_earn_what_is_ahead(rt: HostRuntime) -> Result<(), Fail> {
+    let day = far_gates(rt.alloc())?;
+    let root = Limits::root(rt.alloc(), &day)?;
+    assert!(rt; day.teams() == 1);
+    let visits = [visit(0, 420), visit(1, 440), visit(2, 460)];
+    let told = potentials_at(rt.alloc(), &root, 0, &[TASK, TASK, TASK], &visits)?;
+    same(
+        &rt,
+        &told.as_slice(),
+        &[Some(2_520_000_000), Some(1_680_000_000), Some(840_000_000)].as_slice(),
     );
     Ok(())
 }

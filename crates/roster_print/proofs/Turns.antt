@@ -11,7 +11,7 @@ use Rattle.crew_terms.specs.Plan.{Plan, Job, job_of, Does}
 use Rattle.crew_terms.specs.Rules.{IsInstance, IsTask}
 use Rattle.crew_terms.specs.Legal.{IsLegal}
 use Rattle.crew_terms.specs.Verdict.{IsBefore}
-use Rattle.crew_terms.specs.Nodes.{job_known}
+use Rattle.crew_terms.specs.Nodes.{task_known}
 use Rattle.crew_terms.specs.declared.TheConstants.{LAST_MINUTE}
 use Rattle.crew_instance.specs.Turns.{AreTurns}
 use Rattle.crew_instance.specs.declared.turns.Turn.{Turn}
@@ -56,9 +56,6 @@ does_is p k j t (job, is, start, member) =
     let b : list_any (λ g. g == k) job.teams ≡ true = any_to k job.teams member in
     ap (λ o. option_map_or (λ (w : Job). (w.start == t) && list_any (λ g. g == k) w.teams) o false) is ∙ rw (a, b) refl
 
-known : (p : Plan) (k j t : ℕ) → Does p k j t → j < length p
-known p k j t (job, is, start, member) = job_known p j job is
-
 -- ---- the turns of a team
 
 abbrev turn : ℕ → ℕ → Turn
@@ -84,7 +81,7 @@ at_to : (p : Plan) (k : ℕ) (v : Turn) → Does p k v.task v.start → Contains
 unfolding turns_at
 at_to p k v does =
     mapped_to (turn v.start) (filter (begins_at p k v.start) (range_with_len 0 (length p))) v.task
-    (filtered_to (begins_at p k v.start) (range_with_len 0 (length p)) v.task (numbers_have (length p) v.task (known p k v.task v.start does)) (does_is p k v.task v.start does))
+    (filtered_to (begins_at p k v.start) (range_with_len 0 (length p)) v.task (numbers_have (length p) v.task (task_known p k v.task v.start does)) (does_is p k v.task v.start does))
 
 at_sorted : (p : Plan) (k t : ℕ) → AllPairs IsEarlier (turns_at p k t)
 unfolding turns_at
@@ -131,7 +128,7 @@ one_way a b (inr x) (inr y) = omega arith
 in_day : (i : Instance) (p : Plan) (k j t : ℕ) → IsInstance i → IsLegal i p → Does p k j t → t ≤ LAST_MINUTE
 in_day i p k j t limits legal does =
     let job = does.0 in
-    let within : j < length i.tasks = subst (λ n. j < n) legal.feasible.whole (known p k j t does) in
+    let within : j < length i.tasks = subst (λ n. j < n) legal.feasible.whole (task_known p k j t does) in
     let task : IsTask (length i.places) (task_of i j) = limits.parts.tasks j no_task within in
     let late = (legal.feasible.jobs j job does.1).window.late in
     let day = task.window.day in
@@ -145,6 +142,6 @@ turns_are i p k turns limits legal are =
     let same : turns ≡ turns_before p k (LAST_MINUTE + 1) =
     same_lists IsEarlier one_way turns (turns_before p k (LAST_MINUTE + 1)) are.order (before_sorted p k (LAST_MINUTE + 1))
     (λ v c. let does = (are.done v c).0 in before_to p k (LAST_MINUTE + 1) v does (let e = in_day i p k v.task v.start limits legal does in omega arith))
-    (λ v c. let does = before_from p k (LAST_MINUTE + 1) v c in are.all v.task v.start (known p k v.task v.start does) does)
+    (λ v c. let does = before_from p k (LAST_MINUTE + 1) v c in are.all v.task v.start (task_known p k v.task v.start does) does)
     in
     ap (map (λ (v : Turn). v.task)) same ∙ tasks_of_turns p k (range_with_len 0 (LAST_MINUTE + 1))

@@ -17,19 +17,11 @@ use Rattle.crew_terms.specs.declared.Side.TheVariants.{First, Second}
 use Rattle.crew_terms.specs.declared.TheConstants.{D}
 use Rattle.search_terms.specs.Inside.{IsInside, IsNode}
 use Rattle.search_terms.specs.Proven.{PricesProve}
+use Rattle.crew_terms.specs.Bounds.{proves_less, proves_more}
 use Rattle.crew_terms.specs.Totals.{total-le}
 use Rattle.crew_terms.specs.Nodes.{required_is}
 
 -- ---- numbers that are proved
-
-pub proves_more : (b c : ℤ) (l : ℕ) → b ≤ℤ c → Proves b l → Proves c l
-proves_more b c zero le h = tt
-proves_more b c (suc l) le h = omega (arith, ints)
-
-pub proves_less : (b : ℤ) (l m : ℕ) → m ≤ l → Proves b l → Proves b m
-proves_less b l zero le h = tt
-proves_less b zero (suc m) le h = absurd (omega arith)
-proves_less b (suc l) (suc m) le h = omega (arith, ints)
 
 pub less_proved : (n : Limits) (p : Prices) (l m : ℕ) → m ≤ l → PricesProve n p l → PricesProve n p m
 less_proved n p l m le h = record { worths = h.worths; phi = h.phi; proved = (h.proved.0, proves_less (bound_of n p h.worths) l m le h.proved.1) }

@@ -2,12 +2,12 @@
 use Rattle.std.proofs.Common.{◌≡◌, ◌≢◌, ◌≤◌, ◌<◌, ◌+◌, ℕ, zero, suc, min, Bool, true, false, cond, List, [], ◌∷◌, refl, ap, sym, ◌∙◌, arith, ◌⊎◌, inl, inr}
 use Rattle.std.specs.Prelude.{ℤ, pos, ◌+ℤ◌, ◌≤ℤ◌, ◌-◌, bit_and}
 use Rattle.std.specs.Int.{int_max, bit_at}
-use Rattle.std.proofs.lemmas.Nat.Bits.{bit_at_and, bit_at-lt, same_from_bits}
 use Rattle.std.proofs.lemmas.Int.{ints, clamps}
 use Rattle.std.proofs.lemmas.Bool.{cases_eq, cases_lt, both_ways}
 use Rattle.crew_terms.specs.Instance.{Instance, team_of, task_of, minutes_between, IsQualified, CanFollow}
 use Rattle.crew_terms.specs.Limits.{Limits, IsPermittedVisit, IsPermittedStep, IsRoute, GoesOn, tasks_in, window_of, pair_of}
 use Rattle.crew_terms.specs.Leaf.{Prices, HoldsLocally, reward, rewards}
+use Rattle.crew_terms.specs.Skills.{bits_had, has_bits}
 use Rattle.crew_terms.specs.declared.Pair.{Pair}
 use Rattle.crew_terms.specs.declared.Pair.TheVariants.{Free, Forbidden, Required}
 use Rattle.crew_terms.specs.declared.Visit.{Visit}
@@ -73,26 +73,12 @@ true_told : {A : Type 0} (t : Told A) → tells t ≡ true → A
 true_told (inl a) e = a
 true_told (inr b) e = absurd (both_ways false refl e)
 
-part_of : (a b : ℕ) → bit_and a b ≡ b → (s : ℕ) → bit_at b s ≡ 1 → bit_at a s ≡ 1
-part_of a b e s h =
-    let f = bit_at_and a b s in
-    let g : bit_at (bit_and a b) s ≡ bit_at b s = ap (λ x. bit_at x s) e in
-    let i = bit_at-lt a s in
-    omega arith
-
-whole : (a b : ℕ) → ((s : ℕ) → bit_at b s ≡ 1 → bit_at a s ≡ 1) → bit_and a b ≡ b
-whole a b h = same_from_bits (bit_and a b) b (λ s. bit_at_and a b s ∙ at s (cases_eq (bit_at b s) 1))
-  where
-    at : (s : ℕ) → (bit_at b s ≡ 1) ⊎ (bit_at b s ≡ 1 → ⊥) → min (bit_at a s) (bit_at b s) ≡ bit_at b s
-    at s (inl e) = let f = h s e in omega arith
-    at s (inr ne) = let l = bit_at-lt b s in let z : bit_at b s ≡ 0 = omega arith in omega arith
-
 pub tell_qualified : (i : Instance) (k j : ℕ) → Told (IsQualified i k j)
 tell_qualified i k j = by (cases_eq (bit_and (team_of i k).skills (task_of i j).skills) (task_of i j).skills)
   where
     by : Told (bit_and (team_of i k).skills (task_of i j).skills ≡ (task_of i j).skills) → Told (IsQualified i k j)
-    by (inl e) = inl (part_of (team_of i k).skills (task_of i j).skills e)
-    by (inr ne) = inr (λ h. ne (whole (team_of i k).skills (task_of i j).skills h))
+    by (inl e) = inl (has_bits (team_of i k).skills (task_of i j).skills e)
+    by (inr ne) = inr (λ h. ne (bits_had (team_of i k).skills (task_of i j).skills h))
 
 tell_le : (a b : ℕ) → Told (a ≤ b)
 tell_le a b = by (cases_lt b a)

@@ -8,7 +8,7 @@ use Rattle.crew_terms.specs.declared.Side.TheVariants.{First, Second}
 use Rattle.search_terms.specs.Proven.{PricesProve}
 use Rattle.search_terms.specs.SearchTree.{SearchTree, SearchLeaf, OpenLeaf, ClosedLeaf, EachLeaf, EachOpen, IsTreeOf, IsClaimOf, closed_leaves}
 use Rattle.search_terms.specs.Search.{SearchState, best, IsHandedOut, Whole, Untaken}
-use Rattle.search_laws.proofs.Inside.{proves_less}
+use Rattle.crew_terms.specs.Bounds.{proves_less}
 use Rattle.search_laws.proofs.Ways.{AreValid}
 
 -- P holds of the prices of the leaf, if it is closed

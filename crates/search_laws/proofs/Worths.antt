@@ -10,7 +10,7 @@ use Rattle.crew_terms.specs.Total.{total}
 use Rattle.crew_terms.specs.declared.Visit.{Visit}
 use Rattle.search_terms.specs.Proven.{PricesProve}
 use Rattle.crew_terms.specs.Totals.{total-le}
-use Rattle.search_laws.proofs.Inside.{proves_more}
+use Rattle.crew_terms.specs.Bounds.{proves_more}
 use Rattle.search_laws.proofs.Potentials.{potential, greatest_worth, holds, reached}
 
 -- the values below n, in order

@@ -12,7 +12,7 @@ use Rattle.crew_terms.specs.Verdict.{IsBefore}
 use Rattle.crew_instance.specs.Turns.{AreTurns}
 use Rattle.crew_instance.specs.declared.turns.Turn.{Turn}
 use Rattle.team_days.specs.Free.{IsLastBefore}
-use Rattle.team_days.specs.Obstacles.{IsCut, IsDay, IsNextFrom, IsTurnOf}
+use Rattle.team_days.specs.Obstacles.{IsCountBefore, IsTeamDay, IsNextFrom, IsTurnOf}
 
 abbrev pub turn : ℕ → ℕ → Turn
 turn h s = record { start = s; task = h }
@@ -43,7 +43,7 @@ turns_known i p k n vs feasible are x d l = known (get_or vs x d) (are.done (get
     }
 
 -- and so is one of them, if there is one
-pub turn_known : (i : Instance) (k : ℕ) (vs : List Turn) (o : Option Turn) → IsDay i k vs → IfSome o (Contains vs) → IfSome o (IsTurnOf i)
+pub turn_known : (i : Instance) (k : ℕ) (vs : List Turn) (o : Option Turn) → IsTeamDay i k vs → IfSome o (Contains vs) → IfSome o (IsTurnOf i)
 turn_known i k vs None day listed = tt
 turn_known i k vs (Some v) (p, feasible, are) listed = All-contains (IsTurnOf i) vs v (turns_known i p k (length p) vs feasible are) listed
 
@@ -77,7 +77,7 @@ module _ (p : Plan) (k : ℕ) (vs : List Turn) (are : AreTurns p k (length p) vs
   rise : (x y : ℕ) → x < length vs → y < length vs → x ≤ y → (at_place vs x).start ≤ (at_place vs y).start
   rise x y l m n = starts_rise p k (length p) vs are x y no_turn n m
 
-  module _ (t at : ℕ) (bound : at ≤ length vs) (cut : IsCut vs t at) where
+  module _ (t at : ℕ) (bound : at ≤ length vs) (cut : IsCountBefore vs t at) where
     below : (x : ℕ) → x < at → (at_place vs x).start < t
     below x l = cut.below x no_turn l
 

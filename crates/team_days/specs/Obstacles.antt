@@ -26,8 +26,8 @@ pub record IsTurnOf (i : Instance) (v : Turn) : Type 0 where
   pub window : v.start ≤ (task_of i v.task).latest
 
 -- the turns are what team k does in a feasible plan, in order
-abbrev pub IsDay : Instance → ℕ → List Turn → Type 0
-IsDay i k turns = (p : Plan) × IsFeasible i p × AreTurns p k (length p) turns
+abbrev pub IsTeamDay : Instance → ℕ → List Turn → Type 0
+IsTeamDay i k turns = (p : Plan) × IsFeasible i p × AreTurns p k (length p) turns
 
 -- of what team k begins at minute t or later, this is the first
 pub record IsNextFrom (p : Plan) (k t : ℕ) (v : Turn) : Type 0 where
@@ -36,6 +36,6 @@ pub record IsNextFrom (p : Plan) (k t : ℕ) (v : Turn) : Type 0 where
   pub first : (g r : ℕ) → Does p k g r → (r < t) ⊎ (v.start ≤ r)
 
 -- of the turns, the first so many begin before minute t, and the others don't
-pub record IsCut (turns : List Turn) (t at : ℕ) : Type 0 where
+pub record IsCountBefore (turns : List Turn) (t at : ℕ) : Type 0 where
   pub below : (x : ℕ) (d : Turn) → x < at → (slice_index_or turns x d).start < t
   pub above : (x : ℕ) (d : Turn) → at ≤ x → x < length turns → t ≤ (slice_index_or turns x d).start

@@ -1,7 +1,7 @@
 // How long a team waits before and after a task that it takes into its day.
 ghost use Rattle.std.specs.Prelude.{◌≤◌, ◌<◌, length};
 ghost use Rattle.crew_terms.specs.Instance.{task_of};
-ghost use Rattle.team_days.specs.Obstacles.{IsDay, IsTurnOf};
+ghost use Rattle.team_days.specs.Obstacles.{IsTeamDay, IsTurnOf};
 
 use crate::obstacles::neighbours;
 use crew_instance::{Instance, Turn};
@@ -27,7 +27,7 @@ pub fn idle_in(instance: &Instance, turns: &[Turn], k: u32, j: u32, t: u32) -> u
     requires team { k < length instance.now.teams }
     requires task { j < length instance.now.tasks }
     requires window { t ≤ (task_of instance.now j).latest }
-    requires day { IsDay instance.now k turns.now }
+    requires day { IsTeamDay instance.now k turns.now }
     ensures { result ≤ LONGEST_IDLE }
 {
     let turn = Turn { start: t, task: j };

@@ -5,7 +5,7 @@ ghost use Rattle.crew_terms.specs.Legal.{IsFeasible};
 ghost use Rattle.crew_terms.specs.Plan.{Plan as Jobs, Does};
 ghost use Rattle.crew_instance.specs.Turns.{AreTurns};
 ghost use Rattle.team_days.specs.Free.{IsFreeFor, IsLastBefore};
-ghost use Rattle.team_days.specs.Obstacles.{IsCut, IsDay, IsNextFrom, IsObstacle, IsTurnOf};
+ghost use Rattle.team_days.specs.Obstacles.{IsCountBefore, IsNextFrom, IsObstacle, IsTeamDay, IsTurnOf};
 
 use arrayvec::ArrayVec;
 use crew_instance::{Instance, Plan, Turn, fill_turns};
@@ -35,34 +35,9 @@ impl Obstacle {
     }
 }
 
-/// Whether the team can come from home and be back in its shift.
-fn is_in_shift(instance: &Instance, k: u32, j: u32, t: u32) -> bool
-    requires team { k < length instance.now.teams }
-    requires task { j < length instance.now.tasks }
-    requires window { t ≤ (task_of instance.now j).latest }
-    ensures { IsTrue result ↔ IsInShift instance.now k j t }
-{
-    let team = instance.team(k);
-    let task = instance.task(j);
-    let there = instance.travel(team.home, task.place);
-    let back = instance.travel(task.place, team.home);
-    team.from + there <= t && t + task.minutes + back <= team.until
-}
-
-/// Whether a team that takes the one turn can take the other after it.
-fn can_follow(instance: &Instance, before: Turn, after: Turn) -> bool
-    requires before { IsTurnOf instance.now before }
-    requires after { IsTurnOf instance.now after }
-    ensures { IsTrue result ↔ CanFollow instance.now before.task before.start after.task after.start }
-{
-    let from = instance.task(before.task);
-    let to = instance.task(after.task);
-    before.start + from.minutes + instance.travel(from.place, to.place) <= after.start
-}
-
 /// How many of a team's turns begin before the minute.
 fn turns_before(turns: &[Turn], t: u32) -> usize
-    ensures cut { (p : Jobs) (k n : ℕ) → AreTurns p k n turns.now → IsCut turns.now t result }
+    ensures cut { (p : Jobs) (k n : ℕ) → AreTurns p k n turns.now → IsCountBefore turns.now t result }
     ensures bound { result ≤ length turns.now }
 {
     turns.partition_point(|v| v.start < t)
@@ -107,7 +82,7 @@ fn comes_late(instance: &Instance, before: Option<Turn>, turn: Turn) -> Option<u
         (λ h. (s : ℕ) × (before ≡ Some (record { start = s; task = h })) × ¬ (CanFollow instance.now h s turn.task turn.start)) }
 {
     let before = before?;
-    if can_follow(instance, before, turn) {
+    if instance.can_follow(before.task, before.start, turn.task, turn.start) {
         None
     } else {
         Some(before.task)
@@ -122,7 +97,7 @@ fn goes_on_late(instance: &Instance, turn: Turn, next: Option<Turn>) -> Option<u
         (λ h. (u : ℕ) × (next ≡ Some (record { start = u; task = h })) × ¬ (CanFollow instance.now turn.task turn.start h u)) }
 {
     let next = next?;
-    if can_follow(instance, turn, next) {
+    if instance.can_follow(turn.task, turn.start, next.task, next.start) {
         None
     } else {
         Some(next.task)
@@ -135,13 +110,13 @@ pub fn obstacle_in(instance: &Instance, turns: &[Turn], k: u32, j: u32, t: u32) 
     requires team { k < length instance.now.teams }
     requires task { j < length instance.now.tasks }
     requires window { t ≤ (task_of instance.now j).latest }
-    requires day { IsDay instance.now k turns.now }
+    requires day { IsTeamDay instance.now k turns.now }
     ensures { (p : Jobs) → IsFeasible instance.now p → AreTurns p k (length p) turns.now → IsObstacle instance.now p k j t result }
 {
     if !instance.qualified(k, j) {
         return Obstacle::Skill;
     }
-    if !is_in_shift(instance, k, j, t) {
+    if !instance.in_shift(k, j, t) {
         return Obstacle::Shift;
     }
     let turn = Turn { start: t, task: j };
@@ -164,7 +139,7 @@ pub fn is_free_in(instance: &Instance, turns: &[Turn], k: u32, j: u32, t: u32) -
     requires team { k < length instance.now.teams }
     requires task { j < length instance.now.tasks }
     requires window { t ≤ (task_of instance.now j).latest }
-    requires day { IsDay instance.now k turns.now }
+    requires day { IsTeamDay instance.now k turns.now }
     ensures { (p : Jobs) → IsFeasible instance.now p → AreTurns p k (length p) turns.now → IsTrue result ↔ IsFreeFor instance.now p k j t }
 {
     obstacle_in(instance, turns, k, j, t).is_free()

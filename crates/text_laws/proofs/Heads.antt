@@ -15,10 +15,10 @@ use Rattle.crew_terms.specs.declared.TheConstants.{MOST_PLACES, SKILLS, LAST_MIN
 use Rattle.crew_terms.specs.declared.Team.{Team}
 use Rattle.crew_terms.specs.declared.Task.{Task}
 use Rattle.dossier_terms.specs.Dossier.{skills_of}
-use Rattle.dossier_terms.specs.Lines.{size_of, size_line, place_line, travel_line, team_line, task_line, head_lines}
+use Rattle.dossier_terms.specs.Lines.{size_of, size_line, place_line, travel_line, team_line, task_line, instance_lines}
 use Rattle.text_laws.specs.Texts.{AreLine}
 use Rattle.text_laws.proofs.Lists.{rec-append, rec-map, rec_weaker, rec-filter, range_less}
-use Rattle.text_laws.proofs.Spellings.{IsFew, form_is_line, size_is_line, place_is_line, travel_is_line, team_is_line, task_is_line}
+use Rattle.text_laws.proofs.Spellings.{IsFew, size_is_line, place_is_line, travel_is_line, team_is_line, task_is_line}
 
 -- those below n that pass
 pub picked_few : (n : ℕ) (p : ℕ → Bool) → length (filter p (range_with_len 0 n)) ≤ n
@@ -58,8 +58,8 @@ travel_good places few row h = travel_is_line row (omega (arith, h.count)) (rec_
 pub size_good : (i : Instance) (budget : ℕ) → IsInstance i → budget ≤ MOST_NODES → AreLine (size_line (size_of i budget))
 size_good i budget h spend = let few = h.parts.few_places in size_is_line (size_of i budget) (omega (arith, h.parts.few_teams)) (omega (arith, h.parts.few_tasks)) (omega arith) (omega arith)
 
-pub head_good : (i : Instance) (budget : ℕ) → IsInstance i → budget ≤ MOST_NODES → AllByRecursion AreLine (head_lines i budget)
-head_good i budget h spend =
+pub instance_good : (i : Instance) (budget : ℕ) → IsInstance i → budget ≤ MOST_NODES → AllByRecursion AreLine (instance_lines i budget)
+instance_good i budget h spend =
     let few = h.parts.few_places in
     let n : ℕ = length i.places in
     let travels : All (IsTravel n) i.travel = λ k d l. record { count = h.times.columns k d l; minutes = h.times.minutes k d l } in
@@ -67,13 +67,10 @@ head_good i budget h spend =
     let rows = rec-map (IsTravel n) AreLine travel_line (travel_good n few) i.travel (recursion_from_All (IsTravel n) i.travel travels) in
     let teams = rec-map (IsTeam n) AreLine team_line (team_good n few) i.teams (recursion_from_All (IsTeam n) i.teams h.parts.teams) in
     let tasks = rec-map (IsTask n) AreLine task_line (task_good n few) i.tasks (recursion_from_All (IsTask n) i.tasks h.parts.tasks) in (
-      form_is_line,
-      (
-        size_good i budget h spend,
-        rec-append AreLine (map place_line i.places ++ map travel_line i.travel ++ map team_line i.teams) (map task_line i.tasks)
-            (rec-append AreLine (map place_line i.places ++ map travel_line i.travel) (map team_line i.teams)
-            (rec-append AreLine (map place_line i.places) (map travel_line i.travel) places rows) teams) tasks,
-      ),
+      size_good i budget h spend,
+      rec-append AreLine (map place_line i.places ++ map travel_line i.travel ++ map team_line i.teams) (map task_line i.tasks)
+          (rec-append AreLine (map place_line i.places ++ map travel_line i.travel) (map team_line i.teams)
+          (rec-append AreLine (map place_line i.places) (map travel_line i.travel) places rows) teams) tasks,
     )
 
 -- ---- what its numbers are

@@ -11,14 +11,16 @@ use Rattle.crew_terms.specs.Rules.{IsInstance}
 use Rattle.crew_terms.specs.Plan.{Plan, Job, job_of, unassigned_count}
 use Rattle.crew_terms.specs.Legal.{IsFeasible, IsLegal}
 use Rattle.crew_terms.specs.Limits.{Limits, IsPermittedVisit, GoesOn, IsRoute, root_limits, Route}
-use Rattle.crew_terms.specs.declared.TheConstants.{LAST_MINUTE}
+use Rattle.crew_terms.specs.declared.TheConstants.{LAST_MINUTE, MOST_NODES}
 use Rattle.crew_terms.specs.declared.Visit.{Visit}
+use Rattle.dossier_terms.specs.declared.DossierForm.{DossierForm}
+use Rattle.dossier_terms.specs.declared.DossierForm.TheVariants.{One, Two}
 use Rattle.dossier_terms.specs.Dossier.{IsPooled}
-use Rattle.dossier_terms.specs.Lines.{route_line, pool_lines, do_line, jobs_from, plan_lines}
+use Rattle.dossier_terms.specs.Lines.{route_line, pool_lines, do_line, keep_line, jobs_from, instance_lines, frozen_lines, head_lines, plan_lines}
 use Rattle.text_laws.specs.Texts.{AreLine}
-use Rattle.text_laws.proofs.Lists.{rec-map}
-use Rattle.text_laws.proofs.Heads.{less_few, until_day, task_at}
-use Rattle.text_laws.proofs.Spellings.{IsSmall, IsFewJob, pool_is_line, route_is_line, plan_is_line, do_is_line}
+use Rattle.text_laws.proofs.Lists.{rec-append, rec-map}
+use Rattle.text_laws.proofs.Heads.{instance_good, less_few, until_day, task_at}
+use Rattle.text_laws.proofs.Spellings.{IsSmall, IsFewJob, pool_is_line, route_is_line, plan_is_line, do_is_line, form_is_line, frozen_is_line, keep_is_line}
 
 -- ---- the pool
 
@@ -62,11 +64,11 @@ planned i p j job h e = elim (cases_lt j (length p)) [
   | inr l ↦ absurd (let a : job_of p j ≡ None = get_or_past p j None l in let b : Some job ≡ None = sym e ∙ a in cc)
 ]
 
-job_few : (i : Instance) (p : Plan) → IsInstance i → IsLegal i p → (j : ℕ) (job : Job) → job_of p j ≡ Some job → IsFewJob (0 + j, job)
+job_few : (i : Instance) (p : Plan) → IsInstance i → IsFeasible i p → (j : ℕ) (job : Job) → job_of p j ≡ Some job → IsFewJob (0 + j, job)
 job_few i p h legal j job e =
-    let l = planned i p j job legal.feasible e in
+    let l = planned i p j job legal e in
     let t = task_at i h j l in
-    let is = legal.feasible.jobs j job e in
+    let is = legal.jobs j job e in
     let teams : All (λ k. k < length i.teams) job.teams = λ k d m. is.known _ (Contains-get_or job.teams k d m) in
     record {
       task = omega (arith, h.parts.few_tasks);
@@ -78,5 +80,22 @@ job_few i p h legal j job e =
 pub plan_good : (i : Instance) (p : Plan) (bound : ℕ) → IsInstance i → IsLegal i p → bound ≤ length i.tasks → AllByRecursion AreLine (plan_lines p bound)
 plan_good i p bound h legal few = (
   plan_is_line (unassigned_count p) bound (omega (arith, count_by-le-length is_none p, legal.feasible.whole, h.parts.few_tasks)) (omega (arith, h.parts.few_tasks)),
-  rec-map IsFewJob AreLine do_line do_is_line (jobs_from 0 p) (jobs_all IsFewJob 0 p (job_few i p h legal)),
+  rec-map IsFewJob AreLine do_line do_is_line (jobs_from 0 p) (jobs_all IsFewJob 0 p (job_few i p h legal.feasible)),
 )
+
+-- ---- the head, with the frozen jobs
+
+jobs_few : (o : ℕ) (p : Plan) → length (jobs_from o p) ≤ length p
+jobs_few o [] = omega arith
+jobs_few o (None ∷ p) = let a = jobs_few (suc o) p in omega arith
+jobs_few o (Some job ∷ p) = let a = jobs_few (suc o) p in omega arith
+
+frozen_good : (form : DossierForm) (i : Instance) → IsInstance i → AllByRecursion AreLine (frozen_lines form i.frozen)
+frozen_good One i h = tt
+frozen_good Two i h = (
+  frozen_is_line (length (jobs_from 0 i.frozen)) (omega (arith, jobs_few 0 i.frozen, h.frozen.whole, h.parts.few_tasks)),
+  rec-map IsFewJob AreLine keep_line keep_is_line (jobs_from 0 i.frozen) (jobs_all IsFewJob 0 i.frozen (job_few i i.frozen h h.frozen)),
+)
+
+pub head_good : (form : DossierForm) (i : Instance) (budget : ℕ) → IsInstance i → budget ≤ MOST_NODES → AllByRecursion AreLine (head_lines form i budget)
+head_good form i budget h spend = (form_is_line form, rec-append AreLine (instance_lines i budget) (frozen_lines form i.frozen) (instance_good i budget h spend) (frozen_good form i h))

@@ -1,5 +1,5 @@
 -- each kind of line is a line
-use Rattle.std.proofs.Common.{◌≡◌, ◌≤◌, ◌<◌, ◌+◌, ◌*◌, [], ◌∷◌, ℕ, ℤ, List, length, refl, arith}
+use Rattle.std.proofs.Common.{◌≤◌, ◌<◌, ◌+◌, ◌*◌, [], ◌∷◌, ℕ, ℤ, List, length, refl, arith}
 use Rattle.std.specs.Prelude.{codes, map}
 use Rattle.std.specs.List.{AllByRecursion, flat_map}
 use Rattle.std.specs.Fmt.{decimal, signed_decimal}
@@ -12,10 +12,13 @@ use Rattle.crew_terms.specs.declared.TreeCounts.{TreeCounts}
 use Rattle.crew_terms.specs.declared.Team.{Team}
 use Rattle.crew_terms.specs.declared.Task.{Task}
 use Rattle.crew_terms.specs.declared.Visit.{Visit}
+use Rattle.dossier_terms.specs.declared.DossierForm.{DossierForm}
+use Rattle.dossier_terms.specs.declared.DossierForm.TheVariants.{One, Two}
 use Rattle.dossier_terms.specs.declared.Size.{Size}
 use Rattle.crew_terms.specs.Limits.{Route}
-use Rattle.dossier_terms.specs.Lines.{form_line, size_line, place_line, travel_line, team_words, task_words, pool_line, route_line, visit_words, plan_line, do_line, tree_line, window_line, pair_line, bare_line, open_line, closed_line, price_line, extra_line, worth_line, phi_line, end_line}
-use Rattle.dossier_terms.specs.Counted.{IsWide, visits_length}
+use Rattle.dossier_terms.specs.Lines.{form_word, form_line, size_line, place_line, travel_line, team_words, task_words, pool_line, route_line, visit_words, plan_line, do_line, tree_line, window_line, pair_line, bare_line, open_line, closed_line, price_line, extra_line, worth_line, phi_line, end_line, frozen_line, keep_line, why_none_line, run_words, steps_line}
+use Rattle.dossier_terms.specs.Runs.{Run}
+use Rattle.dossier_terms.specs.Counted.{IsWide, visits_length, runs_length}
 use Rattle.text_laws.specs.Texts.{AreLine}
 use Rattle.text_laws.proofs.Lists.{rec-map}
 use Rattle.text_laws.proofs.Short.{IsShort, short_line, fixed, number, small_number, signed_number, name}
@@ -34,9 +37,13 @@ few_32 n l = number 32 n (omega arith) l
 fixed_words : (n : ℕ) (w : List ℕ) (ws : Words) → n ≤ 6241 → length (w ∷ ws) ≤ n → AllByRecursion (IsShort 20) (w ∷ ws) → AreLine (w ∷ ws)
 fixed_words n w ws room count h = short_line 20 6241 w ws (omega arith) (omega arith) h
 
-pub form_is_line : AreLine form_line
-form_is_line = fixed_words 3 (codes "crew") _ (omega arith) (omega arith)
-    (fixed 20 (codes "crew") refl (omega arith), (fixed 20 (codes "dossier") refl (omega arith), (fixed 20 (codes "1") refl (omega arith), tt)))
+form_word_short : (form : DossierForm) → IsShort 20 (form_word form)
+form_word_short One = fixed 20 (codes "1") refl (omega arith)
+form_word_short Two = fixed 20 (codes "2") refl (omega arith)
+
+pub form_is_line : (form : DossierForm) → AreLine (form_line form)
+form_is_line form = fixed_words 3 (codes "crew") _ (omega arith) (omega arith)
+    (fixed 20 (codes "crew") refl (omega arith), (fixed 20 (codes "dossier") refl (omega arith), (form_word_short form, tt)))
 
 pub size_is_line : (z : Size) → IsFew z.teams → IsFew z.tasks → IsFew z.places → IsFew z.nodes → AreLine (size_line z)
 size_is_line z a b c d = fixed_words 5 (codes "size") _ (omega arith) (omega arith)
@@ -108,6 +115,13 @@ pub do_is_line : (p : ℕ × Job) → IsFewJob p → AreLine (do_line p)
 do_is_line p h = let n = h.count in fixed_words (MOST_TEAMS + 3) (codes "do") _ (omega arith) (omega (arith, length-map p.1.teams decimal))
     (fixed 20 (codes "do") refl (omega arith), (few p.0 h.task, (few p.1.start h.start, rec-map IsFew (IsShort 20) decimal few p.1.teams h.teams)))
 
+pub frozen_is_line : (count : ℕ) → IsFew count → AreLine (frozen_line count)
+frozen_is_line count l = fixed_words 2 (codes "frozen") _ (omega arith) (omega arith) (fixed 20 (codes "frozen") refl (omega arith), (few count l, tt))
+
+pub keep_is_line : (p : ℕ × Job) → IsFewJob p → AreLine (keep_line p)
+keep_is_line p h = let n = h.count in fixed_words (MOST_TEAMS + 3) (codes "keep") _ (omega arith) (omega (arith, length-map p.1.teams decimal))
+    (fixed 20 (codes "keep") refl (omega arith), (few p.0 h.task, (few p.1.start h.start, rec-map IsFew (IsShort 20) decimal few p.1.teams h.teams)))
+
 pub tree_is_line : (c : TreeCounts) → IsFew c.splits → IsFew c.closed → IsFew c.left_open → IsFew c.depth → AreLine (tree_line c)
 tree_is_line c k l m n = fixed_words 5 (codes "tree") _ (omega arith) (omega arith)
     (fixed 20 (codes "tree") refl (omega arith), (few c.splits k, (few c.closed l, (few c.left_open m, (few c.depth n, tt)))))
@@ -117,6 +131,9 @@ window_is_line j cut a b = fixed_words 3 (codes "window") _ (omega arith) (omega
 
 pub pair_is_line : (k j : ℕ) → IsFew k → IsFew j → AreLine (pair_line k j)
 pair_is_line k j a b = fixed_words 3 (codes "pair") _ (omega arith) (omega arith) (fixed 20 (codes "pair") refl (omega arith), (few k a, (few j b, tt)))
+
+pub why_none_is_line : AreLine why_none_line
+why_none_is_line = fixed_words 2 (codes "why") _ (omega arith) (omega arith) (fixed 20 (codes "why") refl (omega arith), (fixed 20 (codes "none") refl (omega arith), tt))
 
 leaf_is_line : (word : List ℕ) → IsShort 20 word → AreLine (codes "leaf" ∷ word ∷ [])
 leaf_is_line word h = fixed_words 2 (codes "leaf") (word ∷ []) (omega arith) (omega arith) (fixed 20 (codes "leaf") refl (omega arith), (h, tt))
@@ -144,6 +161,19 @@ worth_is_line v h = fixed_words 2 (codes "worth") _ (omega arith) (omega arith) 
 pub phi_is_line : (j : ℕ) (vs : List ℤ) → IsFew j → length vs ≤ LAST_MINUTE + 1 → AllByRecursion IsWide vs → AreLine (phi_line j vs)
 phi_is_line j vs l count h = fixed_words (LAST_MINUTE + 3) (codes "phi") _ (omega arith) (omega (arith, length-map vs signed_decimal))
     (fixed 20 (codes "phi") refl (omega arith), (few j l, rec-map IsWide (IsShort 20) signed_decimal signed_number vs h))
+
+-- both numbers of a run are short
+pub record IsFewRun (r : Run) : Type 0 where
+  pub from : IsFew r.from
+  pub value : IsWide r.value
+
+runs_short : (rs : List Run) → AllByRecursion IsFewRun rs → AllByRecursion (IsShort 20) (flat_map run_words rs)
+runs_short [] h = tt
+runs_short (r ∷ rs) h = (few r.from h.0.from, (signed_number r.value h.0.value, runs_short rs h.1))
+
+pub steps_is_line : (j : ℕ) (rs : List Run) → IsFew j → length rs ≤ LAST_MINUTE + 1 → AllByRecursion IsFewRun rs → AreLine (steps_line j rs)
+steps_is_line j rs l count h = fixed_words (2 * LAST_MINUTE + 4) (codes "steps") _ (omega arith) (omega (arith, runs_length rs))
+    (fixed 20 (codes "steps") refl (omega arith), (few j l, runs_short rs h))
 
 pub end_is_line : AreLine end_line
 end_is_line = fixed_words 1 (codes "end") [] (omega arith) (omega arith) (fixed 20 (codes "end") refl (omega arith), tt)

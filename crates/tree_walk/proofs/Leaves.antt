@@ -9,7 +9,7 @@ use Rattle.crew_terms.specs.declared.TreeCounts.{TreeCounts}
 use Rattle.node_limits.specs.Trail.{Trail, changed}
 use Rattle.tree_walk.specs.Splits.{second_of}
 use Rattle.crew_terms.specs.Tree.{CanSplit}
-use Rattle.crew_terms.specs.Nodes.{instance_below}
+use Rattle.dossier_terms.specs.Counted.{instance_below}
 use Rattle.tree_walk.specs.Way.{Walked, IsWay, IsAt, IsAtEnd, IsSomewhere, IsLeaf, LeavesLeaf, counts_in, innermost, branch_of, with_leaf}
 use Rattle.tree_walk.specs.declared.split.Branch.{Branch}
 use Rattle.tree_walk.proofs.Numbers.{leaf_counted, root_counted}
@@ -50,7 +50,7 @@ split_at root t w [] tree s past some = absurd (none_above root t w tree s past 
 split_at root t w (f ∷ fs) tree s past some = record {
   some = let l = ap length past.way.past in omega arith;
   split = λ u undone. let way = up root t u w.above f fs past.way undone in
-      subst (λ (b : Branch). CanSplit u.limits b.choice) (innermost_is root t w f fs tree s past some) (subst (λ n. CanSplit n (split_of f)) (sym way.limits) past.way.splits.0);
+      subst (λ (b : Branch). CanSplit u.limits b.choice) (innermost_is root t w f fs tree s past some) (subst (λ n. CanSplit n (split_of f).choice) (sym way.limits) past.way.splits.0);
   instance = λ u undone. let way = up root t u w.above f fs past.way undone in ap (λ (n : Limits). n.instance) way.limits ∙ instance_below root fs;
 }
 

@@ -3,9 +3,8 @@ use Rattle.std.proofs.Common.{◌≡◌, ◌+◌, ℕ, suc, Bool, List, [], ◌�
 use Rattle.std.proofs.lemmas.Bool.Decides.{nat_tests}
 use Rattle.std.specs.Prelude.{max}
 use Rattle.crew_terms.specs.Branches.{LeafNode, SplitNode, Claim, Bare, Open, Closed, InFirst, InSecond, splits, closed, left_open, depth, frame_sum, deepest}
-use Rattle.crew_terms.specs.declared.Choice.{Choice}
 use Rattle.crew_terms.specs.declared.TreeCounts.{TreeCounts}
-use Rattle.dossier_terms.specs.Dossier.{Written, Leaf}
+use Rattle.dossier_terms.specs.Dossier.{Written, Split, Leaf}
 use Rattle.dossier_terms.specs.Lines.{counts_of}
 use Rattle.dossier_terms.specs.Reading.{Above}
 use Rattle.tree_walk.specs.Way.{IsLeaf, counts_in, with_leaf}
@@ -33,11 +32,11 @@ leaf_counted is_closed fs Bare is = rw is (same_counts _ _ _ _ _ _ _ _ (omega ar
 leaf_counted is_closed fs (Open leaf) is = rw is (same_counts _ _ _ _ _ _ _ _ (omega arith) (omega arith) (omega arith) (ap (max (deepest fs)) (omega arith)))
 leaf_counted is_closed fs (Closed leaf) is = rw is (same_counts _ _ _ _ _ _ _ _ (omega arith) (omega arith) (omega arith) (ap (max (deepest fs)) (omega arith)))
 
-pub first_counted : (fs : List Above) (choice : Choice) (t : Written) → counts_past (InFirst choice ∷ fs) t ≡ counts_in (InSecond choice t ∷ fs)
-first_counted fs choice t = same_counts _ _ _ _ _ _ _ _ (omega arith) (omega arith) (omega arith) (ap (λ n. max (deepest fs) (n + depth t)) (omega arith))
+pub first_counted : (fs : List Above) (split : Split) (t : Written) → counts_past (InFirst split ∷ fs) t ≡ counts_in (InSecond split t ∷ fs)
+first_counted fs split t = same_counts _ _ _ _ _ _ _ _ (omega arith) (omega arith) (omega arith) (ap (λ n. max (deepest fs) (n + depth t)) (omega arith))
 
-pub second_counted : (fs : List Above) (choice : Choice) (first t : Written) → counts_past (InSecond choice first ∷ fs) t ≡ counts_past fs (SplitNode choice first t)
-second_counted fs choice first t = same_counts _ _ _ _ _ _ _ _ (omega arith) (omega arith) (omega arith) (deeper (deepest fs) (length fs) (depth first) (depth t))
+pub second_counted : (fs : List Above) (split : Split) (first t : Written) → counts_past (InSecond split first ∷ fs) t ≡ counts_past fs (SplitNode split first t)
+second_counted fs split first t = same_counts _ _ _ _ _ _ _ _ (omega arith) (omega arith) (omega arith) (deeper (deepest fs) (length fs) (depth first) (depth t))
 
 pub root_counted : (t : Written) → counts_past [] t ≡ counts_of t
 root_counted t = same_counts _ _ _ _ _ _ _ _ (omega arith) (omega arith) (omega arith) (omega arith)

@@ -1,5 +1,6 @@
 -- a walk that stands at a node of some tree
 use Rattle.std.proofs.Common.{◌≡◌, Bool, false, []}
+use Rattle.dossier_terms.specs.declared.DossierForm.TheVariants.{One}
 use Rattle.dossier_terms.specs.Reading.{nothing, Begun}
 use Rattle.crew_terms.specs.declared.TreeCounts.{TreeCounts}
 use Rattle.node_limits.specs.Trail.{Trail}
@@ -7,7 +8,7 @@ use Rattle.tree_walk.specs.Way.{Walked, IsAt, IsSomewhere, LeavesLeaf}
 use Rattle.tree_walk.proofs.Leaves.{some_leaf}
 
 some_draft : Begun
-some_draft = record { instance = nothing; budget = 0; kept = 0; pool = []; plan = []; bound = 0 }
+some_draft = record { form = One; instance = nothing; budget = 0; kept = 0; pool = []; plan = []; bound = 0 }
 
 some_counts : TreeCounts
 some_counts = record { splits = 0; closed = 0; left_open = 0; depth = 0 }

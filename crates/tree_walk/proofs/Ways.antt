@@ -1,15 +1,14 @@
 -- the way of a walk, up to a parent and down into a child
 use Rattle.std.proofs.Common.{◌≡◌, List, [], ◌∷◌, drop, None, Some, ap, sym, subst, ◌∙◌, refl}
 use Rattle.crew_terms.specs.Limits.{Limits}
-use Rattle.crew_terms.specs.Branches.{SplitNode, InFirst, InSecond, split_of, side_of}
-use Rattle.crew_terms.specs.Tree.{limits_below, child, CanSplit}
+use Rattle.crew_terms.specs.Branches.{SplitNode, InFirst, InSecond, split_of}
+use Rattle.crew_terms.specs.Tree.{child, CanSplit}
 use Rattle.crew_terms.specs.declared.Choice.{Choice}
-use Rattle.crew_terms.specs.declared.Choice.TheVariants as choices
 use Rattle.crew_terms.specs.declared.Side.{Side}
 use Rattle.crew_terms.specs.declared.Side.TheVariants.{First, Second}
 use Rattle.crew_terms.specs.declared.TreeCounts.{TreeCounts}
 use Rattle.dossier_terms.specs.Dossier.{Written}
-use Rattle.dossier_terms.specs.Reading.{Nodes, node_done, Begun, Above}
+use Rattle.dossier_terms.specs.Reading.{Nodes, node_done, Begun, Above, limits_below}
 use Rattle.node_limits.specs.Trail.{Trail, changed}
 use Rattle.tree_walk.specs.Splits.{second_child, second_of}
 use Rattle.tree_walk.specs.Way.{Walked, IsWay, IsAt, counts_in, innermost, branch_of}
@@ -40,7 +39,7 @@ up root t u bs f fs way undone =
     }
 
 -- the way into a child
-pub down : (root : Limits) (u t : Trail) (bs : List Branch) (f : Above) (fs : List Above) → IsWay root u bs fs → CanSplit (limits_below root fs) (split_of f)
+pub down : (root : Limits) (u t : Trail) (bs : List Branch) (f : Above) (fs : List Above) → IsWay root u bs fs → CanSplit (limits_below root fs) (split_of f).choice
     → t.limits ≡ limits_in u.limits (branch_of f) → t.past ≡ u.limits ∷ u.past → IsWay root t (branch_of f ∷ bs) (f ∷ fs)
 down root u t bs f fs way is limits past = record {
   limits = limits ∙ ap (λ n. limits_in n (branch_of f)) way.limits;
@@ -51,7 +50,7 @@ down root u t bs f fs way is limits past = record {
 
 -- the walk turned from one child into another
 into : (root : Limits) (u new : Trail) (w to : Walked) (f : Above) (fs : List Above) (next : Branch)
-    → IsWay root u (drop 1 w.above) fs → CanSplit (limits_below root fs) (split_of f) → branch_of f ≡ next
+    → IsWay root u (drop 1 w.above) fs → CanSplit (limits_below root fs) (split_of f).choice → branch_of f ≡ next
     → new ≡ changed u (limits_in u.limits next) → to ≡ record w { above = next ∷ drop 1 w.above } → w.seen ≡ counts_in (f ∷ fs) → IsAt root new to (f ∷ fs)
 into root u new w to f fs next way is same changes turns seen =
     let limits : new.limits ≡ limits_in u.limits (branch_of f) = ap (λ (t : Trail). t.limits) changes ∙ ap (limits_in u.limits) (sym same) in
@@ -67,26 +66,26 @@ pub turned : (root : Limits) (t u new : Trail) (w to : Walked) (f : Above) (fs :
     → IsPast root t w (f ∷ fs) tree → t.past ≡ u.limits ∷ u.past → second_of (branch_of f) ≡ Some next
     → new ≡ changed u (limits_in u.limits next) → to ≡ record w { above = next ∷ drop 1 w.above }
     → (gs : List Above) × (node_done b c (f ∷ fs) tree ≡ Nodes b c gs) × IsAt root new to gs
-turned root t u new w to (InFirst choice) fs tree next b c past undone second changes turns =
-    let way = up root t u w.above (InFirst choice) fs past.way undone in
-    let is : branch_of (InSecond choice tree) ≡ next = cc second in
-    (InSecond choice tree ∷ fs, refl, into root u new w to (InSecond choice tree) fs next way past.way.splits.0 is changes turns (past.seen ∙ first_counted fs choice tree))
-turned root t u new w to (InSecond choice first) fs tree next b c past undone second changes turns = absurd (cc)
+turned root t u new w to (InFirst split) fs tree next b c past undone second changes turns =
+    let way = up root t u w.above (InFirst split) fs past.way undone in
+    let is : branch_of (InSecond split tree) ≡ next = cc second in
+    (InSecond split tree ∷ fs, refl, into root u new w to (InSecond split tree) fs next way past.way.splits.0 is changes turns (past.seen ∙ first_counted fs split tree))
+turned root t u new w to (InSecond split first) fs tree next b c past undone second changes turns = absurd (cc)
 
 -- the second child is whole, and with it the parent
 pub risen : (root : Limits) (t u : Trail) (w to : Walked) (f : Above) (fs : List Above) (tree : Written)
     → IsPast root t w (f ∷ fs) tree → t.past ≡ u.limits ∷ u.past → second_of (branch_of f) ≡ None → to ≡ record w { above = drop 1 w.above }
     → (parent : Written) × ((b : Begun) (c : TreeCounts) → node_done b c (f ∷ fs) tree ≡ node_done b c fs parent) × IsPast root u to fs parent
-risen root t u w to (InSecond choice first) fs tree past undone second rises =
-    let way = up root t u w.above (InSecond choice first) fs past.way undone in (
-      SplitNode choice first tree,
+risen root t u w to (InSecond split first) fs tree past undone second rises =
+    let way = up root t u w.above (InSecond split first) fs past.way undone in (
+      SplitNode split first tree,
       (λ b c. refl),
       record {
         way = subst (λ bs. IsWay root u bs fs) (sym (ap (λ (v : Walked). v.above) rises)) way;
-        seen = ap (λ (v : Walked). v.seen) rises ∙ past.seen ∙ second_counted fs choice first tree;
+        seen = ap (λ (v : Walked). v.seen) rises ∙ past.seen ∙ second_counted fs split first tree;
       },
     )
-risen root t u w to (InFirst choice) fs tree past undone second rises = absurd (cc)
+risen root t u w to (InFirst split) fs tree past undone second rises = absurd (cc)
 
 -- the innermost branch above is that of the innermost frame
 pub innermost_is : (root : Limits) (t : Trail) (w : Walked) (f : Above) (fs : List Above) (tree : Written) (s : Branch) → IsPast root t w (f ∷ fs) tree → innermost w.above ≡ Some s → branch_of f ≡ s

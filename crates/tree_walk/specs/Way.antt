@@ -2,12 +2,12 @@
 use Rattle.std.specs.Prelude.{◌≡◌, ◌+◌, ℕ, Bool, true, false, List, [], ◌∷◌, map, reverse, Option, None, Some, if◌then◌else◌, max}
 use Rattle.crew_terms.specs.Limits.{Limits}
 use Rattle.crew_terms.specs.Branches.{LeafNode, Claim, Bare, Open, Closed, InFirst, splits, closed, left_open, split_of, side_of, frame_sum, deepest}
-use Rattle.crew_terms.specs.Tree.{CanSplit, limits_below}
+use Rattle.crew_terms.specs.Tree.{CanSplit}
 use Rattle.crew_terms.specs.declared.Choice.{Choice}
 use Rattle.crew_terms.specs.declared.TreeCounts.{TreeCounts}
-use Rattle.dossier_terms.specs.Dossier.{Written, Leaf}
+use Rattle.dossier_terms.specs.Dossier.{Written, Cause, Leaf}
 use Rattle.dossier_terms.specs.Lines.{counts_of}
-use Rattle.dossier_terms.specs.Reading.{Reading, Nodes, Ends, node_done, Begun, Above}
+use Rattle.dossier_terms.specs.Reading.{Reading, Nodes, Ends, node_done, Begun, Above, limits_below}
 use Rattle.node_limits.specs.Trail.{Trail}
 use Rattle.tree_walk.specs.declared.split.Branch.{Branch}
 use Rattle.tree_walk.specs.declared.walk.Walk.TheInside.{Inside}
@@ -48,9 +48,9 @@ leaves_like is_closed c = if is_closed then c.closed else c.left_open
 
 -- ---- where a walk stands
 
--- the branch of a frame, without the child that is whole
+-- the branch of a frame, without its cause and the child that is whole
 abbrev pub branch_of : Above → Branch
-branch_of frame = record { choice = split_of frame; side = side_of frame }
+branch_of frame = record { choice = (split_of frame).choice; side = side_of frame }
 
 -- the limits of the nodes above, the nearest first
 abbrev pub passed : Limits → List Above → List Limits
@@ -60,7 +60,7 @@ passed root (frame ∷ above) = limits_below root above ∷ passed root above
 -- each node above can be split as it is
 abbrev pub AreSplits : Limits → List Above → Type 0
 AreSplits root [] = Unit {0}
-AreSplits root (frame ∷ above) = CanSplit (limits_below root above) (split_of frame) × AreSplits root above
+AreSplits root (frame ∷ above) = CanSplit (limits_below root above) (split_of frame).choice × AreSplits root above
 
 -- these frames lead from the root to the node, and the limits and the branches that are kept are theirs
 pub record IsWay (root : Limits) (t : Trail) (branches : List Branch) (above : List Above) : Type 0 where
@@ -87,9 +87,9 @@ pub record IsAtEnd (root : Limits) (t : Trail) (w : Walked) (tree : Written) : T
 
 -- ---- how a walk goes on
 
--- from each node where the walk may stand it went into the first child of this split
+-- from each node where the walk may stand it went into the first child of a split by this choice, whatever its cause
 abbrev pub Enters : Choice → Trail → Walked → Trail → Walked → Type 0
-Enters choice old from new to = (root : Limits) (above : List Above) → IsAt root old from above → IsAt root new to (InFirst choice ∷ above)
+Enters choice old from new to = (root : Limits) (above : List Above) (cause : Cause) → IsAt root old from above → IsAt root new to (InFirst (record { choice = choice; cause = cause }) ∷ above)
 
 -- the leaf is closed or not
 abbrev pub IsLeaf : Bool → Claim Leaf → Type 0

@@ -3,7 +3,7 @@ use Rattle.std.specs.Prelude.{false, true, List}
 use Rattle.cert_format.specs.Lines.{IsNodeLine}
 use Rattle.dossier_terms.specs.Reading.{Nodes, No as Refuses, Above}
 use Rattle.crew_terms.specs.declared.Choice.TheVariants.{Window, Pair}
-use Rattle.dossier_terms.specs.Table.{node_row, after_bare, after_leaf, after_split}
+use Rattle.dossier_terms.specs.NodeTable.{node_row, after_bare, after_leaf, after_split}
 use Rattle.cert_checker.specs.Due.{IsAtNode, IsStep, Tells, draft_of}
 use Rattle.cert_checker.specs.declared.due.BegunDossier.{BegunDossier}
 use Rattle.cert_checker.specs.declared.due.TreeDraft.{TreeDraft}

@@ -3,7 +3,7 @@ use Rattle.std.proofs.lemmas.Bool.{both_ways}
 use Rattle.std.specs.Prelude.{◌∷◌}
 use Rattle.std.specs.Box.{with_value}
 use Rattle.dossier_terms.specs.Reading.{Nodes, No as Refuses}
-use Rattle.dossier_terms.specs.Table.{after_split}
+use Rattle.dossier_terms.specs.NodeTable.{after_split}
 use Rattle.crew_terms.specs.Branches.{InFirst}
 use Rattle.tree_walk.specs.Way.{Enters}
 use Rattle.cert_checker.specs.Due.{HasSplitLeft, draft_of}

@@ -6,7 +6,9 @@ use Rattle.crew_terms.specs.declared.TheConstants.{MOST_TEAMS}
 use Rattle.dossier_terms.specs.declared.Reason.TheVariants as reasons
 use Rattle.dossier_terms.specs.Reading.{Jobs, No as Refuses}
 use Rattle.dossier_terms.specs.Rules.{Holds, Fails}
-use Rattle.dossier_terms.specs.Table.{IsDoLine, Says, after_job, job_row}
+use Rattle.dossier_terms.specs.Ranges.{IsDoLine}
+use Rattle.dossier_terms.specs.Table.{Says}
+use Rattle.dossier_terms.specs.BodyTable.{after_job, job_row}
 use Rattle.cert_format.specs.Lines.{IsJobLine}
 use Rattle.head_check.specs.Numbers.{AreBelow, naturals}
 use Rattle.cert_checker.specs.Due.{IsBegun, Tells, draft_of}

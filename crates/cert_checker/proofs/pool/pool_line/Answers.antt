@@ -3,7 +3,8 @@ use Rattle.std.proofs.lemmas.Int.{ints}
 use Rattle.dossier_terms.specs.declared.Reason.TheVariants as reasons
 use Rattle.head_check.specs.declared.due.Base.{Base}
 use Rattle.dossier_terms.specs.Reading.{No as Refuses, routes_due}
-use Rattle.dossier_terms.specs.Table.{Says, begin}
+use Rattle.dossier_terms.specs.Table.{Says}
+use Rattle.dossier_terms.specs.BodyTable.{begin}
 use Rattle.cert_format.specs.Lines.{IsPoolLine}
 use Rattle.cert_checker.specs.Due.{Awaits, Tells}
 use Rattle.cert_checker.specs.declared.due.Step.TheVariants.{More}

@@ -1,7 +1,8 @@
 use Rattle.std.proofs.Common.{◌≡◌, ◌<◌, length, ap, sym, subst, refl, ◌∙◌, arith}
 use Rattle.crew_terms.specs.Limits.{root_limits, teams_in, Route}
 use Rattle.dossier_terms.specs.Reading.{Routes}
-use Rattle.dossier_terms.specs.Table.{IsRouteLine, Says}
+use Rattle.dossier_terms.specs.Ranges.{IsRouteLine}
+use Rattle.dossier_terms.specs.Table.{Says}
 use Rattle.cert_format.specs.Lines.{IsRouteOf}
 use Rattle.node_limits.specs.Rest.{trail_over}
 use Rattle.node_limits.specs.Trail.{Trail}

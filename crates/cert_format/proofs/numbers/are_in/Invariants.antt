@@ -1,5 +1,5 @@
 use Rattle.std.proofs.Common.{ℕ, ◌≤◌, ◌<◌, [], get_or}
-use Rattle.cert_format.proofs.Fields.{SpellsOne}
+use Rattle.cert_format.specs.Fields.{SpellsOne}
 use Rattle.cert_format.proofs.numbers.are_in.Given as goal
 
 abbrev pub invariant-loop-n : goal.invariant-loop-n

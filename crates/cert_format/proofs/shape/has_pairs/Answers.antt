@@ -2,7 +2,7 @@ use Rattle.std.proofs.Common.{◌≡◌, ◌≤◌, ◌%◌, ◌/◌, ◌-◌, �
 use Rattle.std.proofs.lemmas.Bool.{eqb-true, eq-eqb}
 use Rattle.crew_terms.specs.Words.{Words}
 use Rattle.dossier_terms.specs.Rules.{Begins}
-use Rattle.dossier_terms.specs.Table.{IsPairs}
+use Rattle.dossier_terms.specs.Ranges.{IsPairs}
 use Rattle.cert_format.proofs.shape.has_pairs.Goals as goal
 
 -- four words or more are pairs where their number is even

@@ -1,31 +1,25 @@
 use Rattle.std.proofs.Common.{◌≡◌, ◌+◌, ◌-◌, true, length, get_or, arith, subst, sym, refl}
 use Rattle.crew_terms.specs.Verdict.{IsFirstClash}
 use Rattle.crew_instance.specs.Turns.{AreTurns}
-use Rattle.crew_instance.proofs.TeamTurns.{Follows, no_turn, turn_done, turn_known, turn_in_window, follows_more, no_clash_from, first_clash_from}
+use Rattle.crew_terms.specs.Nodes.{task_known}
+use Rattle.crew_instance.proofs.TeamTurns.{Follows, no_turn, turn_done, follows_more, no_clash_from, first_clash_from}
 use Rattle.crew_instance.proofs.turns.clash_of.Goals as goal
 
-pub can_follow-requires-clause-before : goal.can_follow-requires-clause-before
-can_follow-requires-clause-before c =
+pub can_follow-requires-clause-from : goal.can_follow-requires-clause-from
+can_follow-requires-clause-from c =
     let are : AreTurns c.args.plan.now c.args.k (length c.args.plan.now) c.as_slice-turns.result.now =
     subst (AreTurns c.args.plan.now c.args.k (length c.args.plan.now)) (sym c.as_slice-turns.ensures.value) c.fill_turns.ensures in
-    let l = turn_known c.args.plan.now c.args.k _ _ (turn_done c.args.plan.now c.args.k _ c.as_slice-turns.result.now are (c.loop-i.i - 1) (omega arith)) in
+    let l = task_known c.args.plan.now c.args.k _ _ (turn_done c.args.plan.now c.args.k _ c.as_slice-turns.result.now are (c.loop-i.i - 1) (omega arith)) in
     let w = c.requires.plan.whole in
     omega arith
 
-pub can_follow-requires-clause-after : goal.can_follow-requires-clause-after
-can_follow-requires-clause-after c =
+pub can_follow-requires-clause-to : goal.can_follow-requires-clause-to
+can_follow-requires-clause-to c =
     let are : AreTurns c.args.plan.now c.args.k (length c.args.plan.now) c.as_slice-turns.result.now =
     subst (AreTurns c.args.plan.now c.args.k (length c.args.plan.now)) (sym c.as_slice-turns.ensures.value) c.fill_turns.ensures in
-    let l = turn_known c.args.plan.now c.args.k _ _ (turn_done c.args.plan.now c.args.k _ c.as_slice-turns.result.now are c.loop-i.i (omega arith)) in
+    let l = task_known c.args.plan.now c.args.k _ _ (turn_done c.args.plan.now c.args.k _ c.as_slice-turns.result.now are c.loop-i.i (omega arith)) in
     let w = c.requires.plan.whole in
     omega arith
-
-pub can_follow-requires-clause-window : goal.can_follow-requires-clause-window
-can_follow-requires-clause-window c =
-    let are : AreTurns c.args.plan.now c.args.k (length c.args.plan.now) c.as_slice-turns.result.now =
-    subst (AreTurns c.args.plan.now c.args.k (length c.args.plan.now)) (sym c.as_slice-turns.ensures.value) c.fill_turns.ensures in
-    turn_in_window c.args.instance.now c.args.plan.now c.args.k (get_or c.as_slice-turns.result.now (c.loop-i.i - 1) no_turn) c.requires.jobs
-    (turn_done c.args.plan.now c.args.k _ c.as_slice-turns.result.now are (c.loop-i.i - 1) (omega arith))
 
 pub returns-then-not-can_follow : goal.returns-then-not-can_follow
 returns-then-not-can_follow c =

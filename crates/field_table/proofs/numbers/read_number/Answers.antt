@@ -4,6 +4,7 @@ use Rattle.std.specs.Int.{w64}
 use Rattle.std.proofs.lemmas.Int.{ints}
 use Rattle.std.specs.Fmt.{decimal}
 use Rattle.std.proofs.lemmas.List.{take_all}
+use Rattle.crew_terms.specs.declared.TheConstants.{MOST_NUMBER}
 use Rattle.field_table.proofs.Signed.{empty_spells_none, minus_spells, negative_fits, read_back}
 use Rattle.field_table.proofs.numbers.read_number.Goals as goal
 
@@ -24,7 +25,7 @@ returns-then-bytes-eq45 c =
 pub returns-clause-back : goal.returns-clause-back
 returns-clause-back c =
     let n = c.in_ok-read_digits.field-0 in
-    let read : (n ≤ 9223372036854775807) × (c.args.bytes.now ≡ decimal n) = c.in_ok-read_digits.ensures in
-    let most : n ≤ 9223372036854775807 = read.0 in
+    let read : (n ≤ MOST_NUMBER) × (c.args.bytes.now ≡ decimal n) = c.in_ok-read_digits.ensures in
+    let most : n ≤ MOST_NUMBER = read.0 in
     let same : to_z w64 n ≡ pos n = omega (arith, ints) in
     rw same (read_back c.args.bytes.now (Some (pos n)) (record { sfits = omega arith }) read.1)

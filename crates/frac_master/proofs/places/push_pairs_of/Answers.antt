@@ -1,13 +1,12 @@
-use Rattle.std.proofs.Common.{◌≡◌, ◌++◌, ◌∷◌, [], ◌∙◌, ◌+◌, ℕ, Bool, true, false, cond, refl, ap, sym, arith, map, filter, append-nil, rules}
+use Rattle.std.proofs.Common.{◌≡◌, ◌++◌, ◌∷◌, [], ◌∙◌, ◌+◌, ℕ, Bool, true, false, cond, refl, ap, sym, arith, map, filter, append-nil}
 use Rattle.std.specs.Prelude.{flat_map}
 use Rattle.std.specs.List.{range_with_len}
-use Rattle.std.proofs.lemmas.Bool.{cases_Bool}
 use Rattle.std.proofs.lemmas.List.{map-append}
 use Rattle.std.proofs.lemmas.Grind.{flat_map-append}
 use Rattle.crew_terms.specs.Limits.{is_required, pair_of}
 use Rattle.search_terms.specs.declared.Place.TheVariants.{Missed, Repeated}
 use Rattle.frac_master.specs.Places.{both_of_pair}
-use Rattle.frac_master.proofs.Ranges.{filter_range_more, grown_twice, longer_by_one, pair_from}
+use Rattle.frac_master.proofs.Ranges.{filter_range_more, grown_twice, longer_by_one}
 use Rattle.frac_master.proofs.places.push_pairs_of.Goals as goal
 use Rattle.frac_master.proofs.places.push_pairs_of.Goals.{then-is_required+in_ok-push+in_ok-push-2, else-is_required}
 

@@ -3,7 +3,7 @@ use Rattle.std.specs.Prelude.{IsTrue}
 use Rattle.head_check.specs.declared.due.Head.{Head}
 use Rattle.head_check.specs.declared.due.HeadStep.TheVariants.{More}
 use Rattle.head_check.specs.Head.{IsHead, HeadTells, instance_so_far}
-use Rattle.dossier_terms.specs.Table.{after_task}
+use Rattle.dossier_terms.specs.HeadTable.{after_task}
 use Rattle.head_check.proofs.HeadSteps.{task_more}
 use Rattle.head_check.proofs.head.add_task.Goals as goal
 

@@ -5,7 +5,8 @@ use Rattle.crew_terms.specs.declared.TheConstants.{LAST_MINUTE}
 use Rattle.crew_instance.specs.Draft.{with_row}
 use Rattle.dossier_terms.specs.Reading.{More as Goes, travels_due}
 use Rattle.dossier_terms.specs.Rules.{On}
-use Rattle.dossier_terms.specs.Table.{IsTravel, after_travel}
+use Rattle.dossier_terms.specs.Ranges.{IsTravel}
+use Rattle.dossier_terms.specs.HeadTable.{after_travel}
 use Rattle.head_check.specs.declared.due.Head.{Head}
 use Rattle.head_check.specs.declared.due.HeadStep.TheVariants.{More}
 use Rattle.head_check.specs.Numbers.{AreBelow, naturals}

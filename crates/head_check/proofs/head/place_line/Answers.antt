@@ -1,6 +1,6 @@
 use Rattle.std.proofs.Common.{sym, subst}
 use Rattle.cert_format.specs.Lines.{IsPlaceLine}
-use Rattle.dossier_terms.specs.Table.{after_place}
+use Rattle.dossier_terms.specs.HeadTable.{after_place}
 use Rattle.head_check.specs.Head.{reading_of, IsHeadStep, HeadTells, instance_so_far}
 use Rattle.head_check.specs.declared.due.HeadDue.TheVariants.{Place}
 use Rattle.head_check.specs.declared.due.HeadStep.TheVariants.{No}

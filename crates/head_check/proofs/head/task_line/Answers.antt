@@ -2,7 +2,7 @@ use Rattle.std.proofs.Common.{sym, subst, ◌∙◌}
 use Rattle.cert_format.specs.Lines.{IsFaultOf, IsTaskOf}
 use Rattle.cert_format.specs.declared.kinds.Expect.TheVariants as expects
 use Rattle.head_check.specs.Numbers.{AreBelow}
-use Rattle.dossier_terms.specs.Table.{after_task}
+use Rattle.dossier_terms.specs.HeadTable.{after_task}
 use Rattle.head_check.specs.Head.{reading_of, IsHeadStep, HeadTells, instance_so_far}
 use Rattle.std.specs.Prelude.{IsTrue}
 use Rattle.crew_terms.specs.declared.Task.{Task}

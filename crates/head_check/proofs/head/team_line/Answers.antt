@@ -2,7 +2,7 @@ use Rattle.std.proofs.Common.{sym, subst, ◌∙◌}
 use Rattle.cert_format.specs.Lines.{IsFaultOf, IsTeamOf}
 use Rattle.cert_format.specs.declared.kinds.Expect.TheVariants as expects
 use Rattle.head_check.specs.Numbers.{AreBelow}
-use Rattle.dossier_terms.specs.Table.{after_team}
+use Rattle.dossier_terms.specs.HeadTable.{after_team}
 use Rattle.head_check.specs.Head.{reading_of, IsHeadStep, HeadTells, instance_so_far}
 use Rattle.std.specs.Prelude.{IsTrue}
 use Rattle.crew_terms.specs.declared.Team.{Team}

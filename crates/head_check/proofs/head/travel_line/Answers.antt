@@ -1,7 +1,7 @@
 use Rattle.std.proofs.Common.{sym, subst}
 use Rattle.cert_format.specs.Lines.{IsFaultOf, IsTimesLine}
 use Rattle.cert_format.specs.declared.kinds.Expect.TheVariants as expects
-use Rattle.dossier_terms.specs.Table.{after_travel}
+use Rattle.dossier_terms.specs.HeadTable.{after_travel}
 use Rattle.head_check.specs.Head.{reading_of, IsHeadStep, instance_so_far, rows_read}
 use Rattle.head_check.specs.declared.due.Head.{Head}
 use Rattle.head_check.specs.declared.due.HeadDue.TheVariants.{Travel}

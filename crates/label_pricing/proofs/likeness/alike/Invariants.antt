@@ -1,7 +1,6 @@
 use Rattle.std.proofs.Common.{◌<◌, ℕ}
-use Rattle.crew_terms.specs.Instance.{team_of}
 use Rattle.crew_terms.specs.Limits.{pair_of}
-use Rattle.label_pricing.specs.Alike.{AreSame, IsPairAlike}
+use Rattle.label_pricing.specs.Alike.{IsPairAlike}
 use Rattle.label_pricing.proofs.likeness.alike.Given as goal
 
 abbrev pub invariant-loop-j : goal.invariant-loop-j

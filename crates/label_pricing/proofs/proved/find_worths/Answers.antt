@@ -1,4 +1,4 @@
-use Rattle.std.proofs.Common.{rules, ◌≡◌, ◌≢◌, ◌≤◌, ◌<◌, ◌+◌, ◌++◌, ◌∷◌, [], ℕ, pos, cond, ◌⊎◌, inl, inr, ap, sym, subst, ◌∙◌, refl, arith, to_z, of_z, w64, length}
+use Rattle.std.proofs.Common.{rules, ◌≡◌, ◌≢◌, ◌<◌, ◌+◌, ◌++◌, ◌∷◌, [], ℕ, pos, cond, ◌⊎◌, inl, inr, ap, sym, subst, ◌∙◌, arith, to_z, of_z, w64, length}
 use Rattle.std.specs.Prelude.{FitsSigned, is_ok}
 use Rattle.std.proofs.lemmas.Bool.{cases_eq}
 use Rattle.std.proofs.lemmas.Int.{to_z-of_z}

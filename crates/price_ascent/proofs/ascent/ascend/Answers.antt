@@ -1,10 +1,11 @@
-use Rattle.std.proofs.Common.{rules, ◌∙◌, sym, subst, arith, to_z, of_z}
+use Rattle.std.proofs.Common.{rules, ℕ, Vec, Global, ◌∙◌, sym, subst, arith, to_z, of_z}
 use Rattle.std.specs.Int.{w128}
 use Rattle.std.specs.Prelude.{FitsSigned}
 use Rattle.std.specs.List.{All}
 use Rattle.std.proofs.lemmas.Int.{ints, to_z-of_z}
 use Rattle.crew_terms.specs.Leaf.{AreInRange, IsOnRequired}
 use Rattle.price_ascent.specs.Bound.{ArePricedAt, IsBoundAt}
+use Rattle.price_ascent.specs.Classes.{AreFirsts}
 use Rattle.price_ascent.specs.Found.{IsFound}
 use Rattle.price_ascent.proofs.Bounds.{in_bits, zero_on_required}
 use Rattle.price_ascent.proofs.ascent.ascend.Goals as goal
@@ -22,6 +23,8 @@ loop-round-init c =
     } in
     record {
       room = c.in_ok-sight.ensures.room ∙ sym c.in_ok-bound.ensures.room;
+      firsts = subst (λ (v : Vec ℕ Global). AreFirsts n v.items) (sym c.in_ok-bound.ensures.firsts) c.in_ok-sight.ensures.firsts;
+      count = c.in_ok-bound.ensures.count ∙ c.in_ok-sight.ensures.count;
       routes = c.in_ok-bound.ensures.routes;
       trial = record {
         of_node = c.in_ok-trial.ensures.prices;
@@ -47,6 +50,8 @@ loop-round-preserved c =
     in_bits n c.write.new.prices c.in_ok-bound-2.bound fits here in
     record {
       room = c.loop-round.invariant.room ∙ sym c.in_ok-bound-2.ensures.room;
+      firsts = subst (λ (v : Vec ℕ Global). AreFirsts n v.items) (sym c.in_ok-bound-2.ensures.firsts) c.loop-round.invariant.firsts;
+      count = c.in_ok-bound-2.ensures.count ∙ c.loop-round.invariant.count;
       routes = c.in_ok-bound-2.ensures.routes;
       trial = c.keep_better-most.ensures.trial n best trial;
       best = in_bits n c.keep_better-most.new.best c.keep_better-most.result kept (c.keep_better-most.ensures.best n best trial);

@@ -7,13 +7,13 @@ use Rattle.team_days.proofs.obstacles.obstacle_in.Goals as goal
 
 pub returns-in-Some : goal.returns-in-Some
 returns-in-Some c = λ p feasible are.
-    let fit : IsFit c.args.instance.now c.args.j c.args.t c.args.k = record { qualified = c.qualified.ensures.0 c.if-not-qualified.false; in_shift = c.is_in_shift.ensures.0 c.if-not-is_in_shift.false } in
+    let fit : IsFit c.args.instance.now c.args.j c.args.t c.args.k = record { qualified = c.qualified.ensures.0 c.if-not-qualified.false; in_shift = c.in_shift.ensures.0 c.if-not-in_shift.false } in
     begins_then c.args.instance.now p c.args.k c.args.j c.args.t feasible fit c.neighbours-before.result.1 c.in-Some.h
     (c.neighbours-before.ensures.next p c.args.k are) c.in-Some.ensures
 
 pub returns-in-Some-comes_late : goal.returns-in-Some-comes_late
 returns-in-Some-comes_late c = λ p feasible are.
-    let fit : IsFit c.args.instance.now c.args.j c.args.t c.args.k = record { qualified = c.qualified.ensures.0 c.if-not-qualified.false; in_shift = c.is_in_shift.ensures.0 c.if-not-is_in_shift.false } in
+    let fit : IsFit c.args.instance.now c.args.j c.args.t c.args.k = record { qualified = c.qualified.ensures.0 c.if-not-qualified.false; in_shift = c.in_shift.ensures.0 c.if-not-in_shift.false } in
     let next = c.neighbours-before.ensures.next p c.args.k are in
     let idle = idle_from c.args.instance.now p c.args.k c.args.j c.args.t feasible c.neighbours-before.result.1 next c.in_default.ensures in
     let late = c.in-Some-comes_late.ensures in
@@ -22,7 +22,7 @@ returns-in-Some-comes_late c = λ p feasible are.
 
 pub returns-in-Some-goes_on_late : goal.returns-in-Some-goes_on_late
 returns-in-Some-goes_on_late c = λ p feasible are.
-    let fit : IsFit c.args.instance.now c.args.j c.args.t c.args.k = record { qualified = c.qualified.ensures.0 c.if-not-qualified.false; in_shift = c.is_in_shift.ensures.0 c.if-not-is_in_shift.false } in
+    let fit : IsFit c.args.instance.now c.args.j c.args.t c.args.k = record { qualified = c.qualified.ensures.0 c.if-not-qualified.false; in_shift = c.in_shift.ensures.0 c.if-not-in_shift.false } in
     let next = c.neighbours-before.ensures.next p c.args.k are in
     let idle = idle_from c.args.instance.now p c.args.k c.args.j c.args.t feasible c.neighbours-before.result.1 next c.in_default.ensures in
     let comes = comes_from c.args.instance.now p c.args.k c.args.j c.args.t feasible c.neighbours-before.result.0 (c.neighbours-before.ensures.before p c.args.k are) c.in_default-comes_late.ensures in
@@ -34,7 +34,7 @@ returns c = λ p feasible are.
     let next = c.neighbours-before.ensures.next p c.args.k are in
     HasNone (record {
       known = c.requires.team;
-      fit = record { qualified = c.qualified.ensures.0 c.if-not-qualified.false; in_shift = c.is_in_shift.ensures.0 c.if-not-is_in_shift.false };
+      fit = record { qualified = c.qualified.ensures.0 c.if-not-qualified.false; in_shift = c.in_shift.ensures.0 c.if-not-in_shift.false };
       idle = idle_from c.args.instance.now p c.args.k c.args.j c.args.t feasible c.neighbours-before.result.1 next c.in_default.ensures;
       comes = comes_from c.args.instance.now p c.args.k c.args.j c.args.t feasible c.neighbours-before.result.0 (c.neighbours-before.ensures.before p c.args.k are) c.in_default-comes_late.ensures;
       goes_on = goes_on_from c.args.instance.now p c.args.k c.args.j c.args.t feasible c.neighbours-before.result.1 next c.in_default.ensures c.in_default-goes_on_late.ensures;

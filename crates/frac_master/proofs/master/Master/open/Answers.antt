@@ -1,4 +1,4 @@
-use Rattle.std.proofs.Common.{◌≡◌, ◌<◌, ◌∙◌, [], None, All, ap, sym, subst, arith, length, map, List, refl, ℕ}
+use Rattle.std.proofs.Common.{◌≡◌, ◌<◌, ◌∙◌, [], None, All, ap, sym, subst, arith, length, List, refl, ℕ}
 use Rattle.std.specs.Prelude.{Contains}
 use Rattle.crew_terms.specs.Limits.{Limits, tasks_in}
 use Rattle.search_terms.specs.declared.Place.{Place}

@@ -1,7 +1,7 @@
-use Rattle.std.proofs.Common.{ap, refl, subst}
+use Rattle.std.proofs.Common.{refl, subst}
 use Rattle.std.specs.Prelude.{Contains}
-use Rattle.crew_terms.specs.Leaf.{pi_of, rho_of}
-use Rattle.search_terms.specs.declared.Place.TheVariants.{Shortage, Missed}
+use Rattle.crew_terms.specs.Leaf.{pi_of}
+use Rattle.search_terms.specs.declared.Place.TheVariants.{Shortage}
 use Rattle.frac_master.proofs.DualPlaces.{near}
 use Rattle.frac_master.proofs.master.Master.price.Goals as goal
 

@@ -1,7 +1,7 @@
 use Rattle.std.proofs.Common.{ap, sym, subst, refl, ◌∙◌, zero-add}
 use Rattle.crew_terms.specs.Limits.{has_required, tasks_in, teams_in}
 use Rattle.dossier_terms.specs.Reading.{limits_of}
-use Rattle.dossier_terms.specs.Table.{after_extra}
+use Rattle.dossier_terms.specs.LeafTable.{after_extra}
 use Rattle.leaf_check.specs.Keys.{AreLeft}
 use Rattle.leaf_check.specs.Reader.{LeafTells, priced_leaf}
 use Rattle.leaf_check.specs.declared.reader.LeafDue.TheVariants as due

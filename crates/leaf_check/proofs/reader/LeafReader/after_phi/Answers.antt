@@ -1,6 +1,6 @@
 use Rattle.std.proofs.Common.{sym, subst, refl}
 use Rattle.crew_terms.specs.Limits.{tasks_in}
-use Rattle.dossier_terms.specs.Table.{after_phi}
+use Rattle.dossier_terms.specs.LeafTable.{after_phi}
 use Rattle.leaf_check.specs.Keys.{AreLeft, has_minutes}
 use Rattle.leaf_check.specs.Reader.{HasPotentials, LeafTells, below_next}
 use Rattle.leaf_check.specs.declared.reader.LeafDue.TheVariants as due

@@ -1,6 +1,6 @@
 use Rattle.std.proofs.Common.{◌≡◌, zero, length, ap, sym, subst, refl, ◌∙◌, arith}
 use Rattle.crew_terms.specs.Limits.{teams_in}
-use Rattle.dossier_terms.specs.Table.{after_table}
+use Rattle.dossier_terms.specs.LeafTable.{after_table}
 use Rattle.leaf_check.specs.Reader.{LeafTells}
 use Rattle.leaf_check.specs.declared.reader.LeafDue.TheVariants as due
 use Rattle.leaf_check.proofs.Told.{worth_due_for}

@@ -5,7 +5,8 @@ use Rattle.cert_format.specs.Lines.{IsFaultOf, IsExtraLine}
 use Rattle.cert_format.specs.declared.kinds.Expect.TheVariants as expected
 use Rattle.crew_terms.specs.Minutes.{required_teams}
 use Rattle.dossier_terms.specs.Reading.{No as Refuses, limits_of, Extras}
-use Rattle.dossier_terms.specs.Table.{AreNumbers, after_extra, extra_row}
+use Rattle.dossier_terms.specs.Ranges.{AreNumbers}
+use Rattle.dossier_terms.specs.LeafTable.{after_extra, extra_row}
 use Rattle.leaf_check.specs.Keys.{IsNextKey}
 use Rattle.leaf_check.specs.Reader.{HasReadLeaf, TellsNo, priced_leaf}
 use Rattle.leaf_check.specs.declared.reader.LeafReader.{LeafReader}

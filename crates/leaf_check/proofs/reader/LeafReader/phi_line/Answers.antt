@@ -5,7 +5,8 @@ use Rattle.cert_format.specs.declared.kinds.Expect.TheVariants as expected
 use Rattle.dossier_terms.specs.Dossier.{Potentials, IsSigned}
 use Rattle.crew_terms.specs.Minutes.{minute_count}
 use Rattle.dossier_terms.specs.Reading.{No as Refuses, limits_of, Phis}
-use Rattle.dossier_terms.specs.Table.{AreNumbers, after_phi, phi_row}
+use Rattle.dossier_terms.specs.Ranges.{AreNumbers}
+use Rattle.dossier_terms.specs.LeafTable.{after_phi, phi_row}
 use Rattle.leaf_check.specs.Keys.{AreCounted, IsNextKey, has_minutes}
 use Rattle.leaf_check.specs.Reader.{HasReadLeaf, HasPotentials, TellsNo, below_next}
 use Rattle.leaf_check.specs.declared.reader.LeafReader.{LeafReader}

@@ -5,7 +5,8 @@ use Rattle.cert_format.specs.Lines.{IsFaultOf, IsPriceLine}
 use Rattle.cert_format.specs.declared.kinds.Expect.TheVariants as expected
 use Rattle.crew_terms.specs.Minutes.{priced}
 use Rattle.dossier_terms.specs.Reading.{No as Refuses, limits_of, Prices}
-use Rattle.dossier_terms.specs.Table.{AreNumbers, after_extra, price_row}
+use Rattle.dossier_terms.specs.Ranges.{AreNumbers}
+use Rattle.dossier_terms.specs.LeafTable.{after_extra, price_row}
 use Rattle.leaf_check.specs.Reader.{HasReadLeaf, LeafTells, TellsNo, priced_leaf}
 use Rattle.leaf_check.specs.declared.reader.LeafReader.{LeafReader}
 use Rattle.leaf_check.proofs.Listed.{left_first}

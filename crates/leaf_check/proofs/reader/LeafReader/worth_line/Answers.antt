@@ -7,7 +7,7 @@ use Rattle.cert_format.specs.Lines.{IsWorthLine}
 use Rattle.dossier_terms.specs.Dossier.{Potentials}
 use Rattle.crew_terms.specs.Minutes.{open_tasks}
 use Rattle.dossier_terms.specs.Reading.{No as Refuses, limits_of, Worths}
-use Rattle.dossier_terms.specs.Table.{after_phi, worth_row}
+use Rattle.dossier_terms.specs.LeafTable.{after_phi, worth_row}
 use Rattle.leaf_check.specs.Keys.{has_minutes}
 use Rattle.leaf_check.specs.Reader.{HasReadLeaf, HasPotentials, LeafTells, TellsNo, below_next}
 use Rattle.leaf_check.specs.declared.reader.LeafReader.{LeafReader}

@@ -1,0 +1,18 @@
+// Assertions as calls: `assert_eq!` writes its formatting anew at each place, and each is proved.
+use std::fmt::Debug;
+use std::process::Abort;
+
+/// Ends the test where the two differ, and tells both.
+pub fn same<T: PartialEq + Debug>(rt: &impl Abort, told: &T, wanted: &T) {
+    assert_eq!(rt; told, wanted);
+}
+
+/// Ends the test where the two differ, and tells both and the case.
+pub fn same_at<T: PartialEq + Debug, C: Debug>(rt: &impl Abort, told: &T, wanted: &T, case: &C) {
+    assert_eq!(rt; told, wanted, "{case:?}");
+}
+
+/// Ends the test where it doesn't hold, and tells the case.
+pub fn holds_at<C: Debug>(rt: &impl Abort, holds: bool, case: &C) {
+    assert!(rt; holds, "{case:?}");
+}

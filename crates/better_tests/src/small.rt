@@ -1,0 +1,123 @@
+// Plans that are bettered on small days.
+ghost use Rattle.std.specs.Prelude.{IfOk};
+ghost use Rattle.crew_terms.specs.Legal.{IsLegal};
+
+use crew_fixtures::{gate_builder, gate_instance, task, team};
+use crew_instance::{Builder, Instance, Plan, unassigned};
+use crew_terms::Task;
+use plan_builder::{Use, from_uses, greedy};
+use plan_search::{Effort, better};
+use std::alloc::Global;
+use std::test::Fail;
+
+/// So many iterations, until no more tasks are unassigned than these.
+fn effort(iterations: u32, enough: u32) -> Effort<'static> {
+    Effort {
+        iterations,
+        enough,
+        weights: None,
+    }
+}
+
+#[test]
+fn leaves_three_of_twelve(rt: HostRuntime) -> Result<(), Fail> {
+    let names: [&[u8]; 12] = [
+        b"A", b"B", b"C", b"D", b"E", b"F", b"G", b"H", b"I", b"J", b"K", b"L",
+    ];
+    let mut tasks = [task(b"A")?; 12];
+    for n in 0..12 {
+        let hour = 420 + 60 * (n as u32 / 4);
+        tasks[n] = Task {
+            earliest: hour,
+            latest: hour,
+            ..task(names[n])?
+        };
+    }
+    let teams = [team(b"T1")?, team(b"T2")?, team(b"T3")?];
+    let day = gate_instance(rt.alloc(), &teams, &tasks)?;
+    let plan = greedy(rt.alloc(), &day)?;
+    let found = better(rt.alloc(), &day, &plan, effort(100, 0))?;
+    assert!(rt; unassigned(&found) == 3);
+    Ok(())
+}
+
+/// Two teams, and the task A from 07:00 to 07:30 for one of them and B at 07:30 alone for both, half an hour each.
+fn two_tasks(alloc: Global) -> Result<Builder, Fail> {
+    let joint = Task {
+        earliest: 450,
+        teams: 2,
+        ..task(b"B")?
+    };
+    let teams = [team(b"T1")?, team(b"T2")?];
+    Ok(gate_builder(alloc, &teams, &[task(b"A")?, joint])?)
+}
+
+/// The plan in which the first team begins A so late that B doesn't fit.
+fn late_plan(alloc: Global, day: &Instance) -> Result<Plan, Fail>
+    ensures { IfOk result (λ p. IsLegal day.now p) }
+{
+    let late = Use {
+        team: 0,
+        task: 0,
+        start: 450,
+        num: 1,
+    };
+    Ok(from_uses(alloc, day, &[late])?)
+}
+
+/// When the first of two tasks is begun.
+fn first_start(plan: &Plan) -> Option<u32> {
+    if plan.len() != 2 {
+        return None;
+    }
+    plan.start(0)
+}
+
+#[test]
+fn makes_room_for_a_joint_task(rt: HostRuntime) -> Result<(), Fail> {
+    let day = two_tasks(rt.alloc())?.finish()?;
+    let plan = late_plan(rt.alloc(), &day)?;
+    assert!(rt; unassigned(&plan) == 1 && first_start(&plan) == Some(450));
+    let found = better(rt.alloc(), &day, &plan, effort(10, 0))?;
+    assert!(rt; unassigned(&found) == 0 && first_start(&found) == Some(420));
+    assert!(rt; found.len() == 2);
+    assert!(rt; found.teams(1) == [0, 1].as_slice());
+    Ok(())
+}
+
+#[test]
+fn takes_weights(rt: HostRuntime) -> Result<(), Fail> {
+    let day = two_tasks(rt.alloc())?.finish()?;
+    let plan = late_plan(rt.alloc(), &day)?;
+    let weights = [21, 1];
+    let weighted = Effort {
+        weights: Some(&weights),
+        ..effort(10, 0)
+    };
+    let found = better(rt.alloc(), &day, &plan, weighted)?;
+    assert!(rt; unassigned(&found) == 0);
+    Ok(())
+}
+
+#[test]
+fn leaves_a_plan_that_is_good_enough(rt: HostRuntime) -> Result<(), Fail> {
+    let day = two_tasks(rt.alloc())?.finish()?;
+    let plan = late_plan(rt.alloc(), &day)?;
+    for (iterations, enough) in [(0, 0), (10, 1), (10, 2)] {
+        let found = better(rt.alloc(), &day, &plan, effort(iterations, enough))?;
+        assert!(rt; unassigned(&found) == 1 && first_start(&found) == Some(450));
+    }
+    Ok(())
+}
+
+#[test]
+fn frozen_jobs_stay(rt: HostRuntime) -> Result<(), Fail> {
+    let mut builder = two_tasks(rt.alloc())?;
+    assert!(rt; builder.tasks() == 2);
+    builder.freeze(0, 450, &[1])?;
+    let day = builder.finish()?;
+    let plan = greedy(rt.alloc(), &day)?;
+    let found = better(rt.alloc(), &day, &plan, effort(10, 0))?;
+    assert!(rt; unassigned(&found) == 1 && first_start(&found) == Some(450));
+    Ok(())
+}

@@ -1,0 +1,16 @@
+// Plans that leave fewer tasks unassigned, found by search over the orders in which teams do their tasks.
+#![tactic(auto)]
+
+mod bettered;
+mod draws;
+mod facts;
+mod judge;
+mod memory;
+mod moves;
+mod orders;
+mod picks;
+mod places;
+mod search;
+mod walks;
+
+pub use bettered::{Effort, better};

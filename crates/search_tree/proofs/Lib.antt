@@ -1,0 +1,5 @@
+pub mod Levels
+pub mod Leading
+pub mod Changing
+pub mod Numbering
+pub mod Opening
