@@ -1,0 +1,63 @@
+// The words of a measurement: what is done, over which generated day, and how often.
+ghost use Rattle.std.specs.Prelude.{◌≤◌, IfSome};
+ghost use Rattle.crew_terms.specs.declared.TheConstants.{MOST_TASKS, MOST_TEAMS};
+
+use crew_terms::{MOST_TASKS, MOST_TEAMS};
+use std::string::String;
+
+/// A piece of the planner's work.
+#[derive(Clone, Copy, Debug, PartialEq, Eq)]
+pub enum Kind {
+    /// A greedy plan.
+    Plan,
+    /// The worths of all teams.
+    Pricing,
+    /// Prices that rise from zero.
+    Ascent,
+}
+
+/// What is done, over the generated day with this number and so many teams and tasks, and how often.
+#[derive(Clone, Copy, Debug)]
+pub struct Work {
+    pub kind: Kind,
+    pub day: u64,
+    pub teams: u32,
+    pub tasks: u32,
+    pub rounds: u32,
+    ghost few_teams: { teams ≤ MOST_TEAMS },
+    ghost few_tasks: { tasks ≤ MOST_TASKS },
+}
+
+/// The kind of work with this name.
+fn kind_of(word: &str) -> Option<Kind> {
+    match word {
+        "plan" => Some(Kind::Plan),
+        "pricing" => Some(Kind::Pricing),
+        "ascent" => Some(Kind::Ascent),
+        _ => None,
+    }
+}
+
+impl Work {
+    /// The work that the words ask for: its kind, the day's number, teams, tasks, and rounds.
+    pub fn of(words: &[String]) -> Option<Work> {
+        let [kind, day, teams, tasks, rounds] = words else {
+            return None;
+        };
+        let kind = kind_of(kind.as_str())?;
+        let day = day.as_str().parse::<u64>().ok()?;
+        let teams = teams.as_str().parse::<u32>().ok()?;
+        let tasks = tasks.as_str().parse::<u32>().ok()?;
+        let rounds = rounds.as_str().parse::<u32>().ok()?;
+        if teams as usize > MOST_TEAMS || tasks as usize > MOST_TASKS {
+            return None;
+        }
+        Some(Work {
+            kind,
+            day,
+            teams,
+            tasks,
+            rounds,
+        })
+    }
+}
