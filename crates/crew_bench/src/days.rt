@@ -22,12 +22,7 @@ fn desk_after(alloc: Global, entries: &[Entry]) -> Result<Desk, BenchError>
 }
 
 /// The instance of the generated day with this number and so many teams and tasks.
-pub fn instance_of(
-    alloc: Global,
-    day: u64,
-    teams: u32,
-    tasks: u32,
-) -> Result<Instance, BenchError>
+pub fn instance_of(alloc: Global, day: u64, teams: u32, tasks: u32) -> Result<Instance, BenchError>
     requires teams { teams ≤ MOST_TEAMS }
     requires tasks { tasks ≤ MOST_TASKS }
 {

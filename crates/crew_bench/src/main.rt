@@ -4,6 +4,7 @@
 
 mod days;
 mod errors;
+mod figures;
 mod tasks;
 mod words;
 

@@ -1,100 +1,138 @@
 // Pieces of the planner's work over an instance, and their figures.
 ghost use Rattle.std.specs.Prelude.{◌≡◌, ◌<◌, ◌≤◌, IfOk, length};
 ghost use Rattle.crew_terms.specs.Leaf.{IsOnRequired};
+ghost use Rattle.crew_terms.specs.Legal.{IsLegal};
 ghost use Rattle.potentials.specs.Prices.{ArePricesOf};
 
 use crate::days::instance_of;
 use crate::errors::BenchError;
+use crate::figures::{Ending, Figures};
 use crate::words::{Kind, Work};
-use crew_instance::Instance;
+use column_arena::{Columns, VecColumns};
+use crew_instance::{Instance, Plan, unassigned};
+use crew_terms::{MOST_TASKS, MOST_TEAMS};
 use label_pricing::Pricer;
+use master_run::{Halt, Run};
 use node_limits::Limits;
 use plan_builder::greedy;
-use plan_check::unassigned;
+use plan_search::{Effort as SearchEffort, better};
 use potentials::Prices;
-use price_ascent::{Effort, ascend};
+use price_ascent::{Ascended, Effort, FoundRoute, ascend};
 use std::alloc::{AllocError, Global};
-use std::fmt;
 
 /// So long are the first steps of an ascent at the root, in 1/256 of what would close the gap.
 const ROOT_STEP: u32 = 256;
 
-/// What a piece of work came to: the unassigned tasks of a plan, a bound in 1/D of a task, the number of tasks that it
-/// proves unassigned, and the rounds that were made.
-#[derive(Clone, Copy, Debug, Default)]
-pub struct Figures {
-    pub unassigned: u32,
-    pub bound: i128,
-    pub proved: u32,
-    pub rounds: u32,
-}
+/// So many rounds an ascent makes at the root.
+const ROOT_ROUNDS: u32 = 500;
 
-impl fmt::Display for Figures {
-    fn fmt<W: fmt::Write>(&self, f: &mut fmt::Formatter<W>) -> fmt::Result {
-        let Figures {
-            unassigned,
-            bound,
-            proved,
-            rounds,
-        } = self;
-        write!(f, "unassigned {unassigned} bound {bound} proved {proved} rounds {rounds}")
-    }
-}
+/// So many iterations the first search for a plan makes.
+const FIRST_SEARCH: u32 = 20_000;
 
-/// A greedy plan, made as often.
-fn plan(alloc: Global, instance: &Instance, rounds: u32) -> Result<Figures, AllocError> {
-    let mut figures = Figures::default();
-    for _ in 0..rounds {
-        figures.unassigned = unassigned(&greedy(alloc, instance)?);
-        figures.rounds = rounds;
-    }
-    Ok(figures)
-}
+/// The routes of so many last rounds of an ascent become columns.
+const COLUMN_ROUNDS: u32 = 10;
 
-/// The prices of an ascent of a few rounds that aims at what a greedy plan leaves unassigned.
-fn some_prices(alloc: Global, limits: &Limits<'_>) -> Result<Prices, AllocError>
-    ensures prices { IfOk result (ArePricesOf limits.now.limits) }
-    ensures required { IfOk result (IsOnRequired limits.now.limits) }
-{
-    let start = Prices::zero(alloc, limits)?;
-    let effort = Effort {
-        rounds: 20,
-        step: ROOT_STEP,
-        looks: u64::MAX,
+/// A greedy plan, bettered by so many iterations.
+fn planned(alloc: Global, instance: &Instance, iterations: u32) -> Result<Plan, AllocError> {
+    let effort = SearchEffort {
+        iterations,
+        enough: 0,
+        weights: None,
     };
-    let goal = unassigned(&greedy(alloc, limits.instance())?);
-    Ok(ascend(alloc, limits, start, goal, effort)?.prices)
+    let plan = greedy(alloc, instance)?;
+    better(alloc, instance, &plan, effort)
 }
 
-/// The worths of all teams, by the prices of a short ascent.
-fn pricing(alloc: Global, limits: &Limits<'_>, rounds: u32) -> Result<Figures, AllocError> {
-    let mut figures = Figures::default();
-    let prices = some_prices(alloc, limits)?;
-    let mut pricer = Pricer::reserve(alloc, limits.instance())?;
-    for _ in 0..rounds {
-        let found = pricer.proved(limits, &prices);
-        figures.bound = found.bound;
-        figures.proved = found.count;
-        figures.rounds = rounds;
-    }
-    Ok(figures)
+/// What a greedy plan leaves unassigned, bettered by so many iterations.
+fn plan(alloc: Global, instance: &Instance, iterations: u32) -> Result<Figures, AllocError> {
+    let unassigned = unassigned(&planned(alloc, instance, iterations)?);
+    Ok(Figures::Plan {
+        unassigned,
+        iterations,
+    })
 }
 
-/// An ascent from zero prices that aims at what a greedy plan leaves unassigned.
-fn ascent(alloc: Global, limits: &Limits<'_>, rounds: u32) -> Result<Figures, AllocError> {
-    let goal = unassigned(&greedy(alloc, limits.instance())?);
+/// Prices that rise from zero by so many rounds, towards this number of unassigned tasks.
+fn risen(alloc: Global, limits: &Limits<'_>, goal: u32, rounds: u32) -> Result<Ascended, AllocError>
+    ensures prices { IfOk result (λ a. ArePricesOf limits.now.limits a.prices) }
+    ensures required { IfOk result (λ a. IsOnRequired limits.now.limits a.prices) }
+{
     let start = Prices::zero(alloc, limits)?;
     let effort = Effort {
         rounds,
         step: ROOT_STEP,
         looks: u64::MAX,
     };
-    let found = ascend(alloc, limits, start, goal, effort)?;
-    Ok(Figures {
-        unassigned: goal,
+    ascend(alloc, limits, start, goal, effort)
+}
+
+/// The worths of all teams, by the prices of a short ascent, as often.
+fn pricing(alloc: Global, limits: &Limits<'_>, rounds: u32) -> Result<Figures, AllocError> {
+    let goal = unassigned(&greedy(alloc, limits.instance())?);
+    let prices = risen(alloc, limits, goal, 20)?.prices;
+    let mut pricer = Pricer::reserve(alloc, limits.instance())?;
+    let mut found = pricer.proved(limits, &prices);
+    for _ in 0..rounds {
+        found = pricer.proved(limits, &prices);
+    }
+    Ok(Figures::Prices {
+        goal,
+        bound: found.bound,
+        proved: found.count,
+        rounds,
+    })
+}
+
+/// An ascent from zero prices that aims at what a plan leaves unassigned.
+fn ascent(alloc: Global, limits: &Limits<'_>, rounds: u32) -> Result<Figures, AllocError> {
+    let goal = unassigned(&planned(alloc, limits.instance(), FIRST_SEARCH)?);
+    let found = risen(alloc, limits, goal, rounds)?;
+    Ok(Figures::Prices {
+        goal,
         bound: found.bound,
         proved: found.proved,
         rounds: found.rounds,
+    })
+}
+
+/// Adds a route to the columns, if it is of the last rounds.
+fn add_column(columns: &mut VecColumns, route: &FoundRoute, last: u32) -> Result<(), AllocError> {
+    let is_late = last < route.round.saturating_add(COLUMN_ROUNDS);
+    let are_tasks = route
+        .visits
+        .iter()
+        .all(|visit| (visit.task as usize) < MOST_TASKS);
+    if !is_late || route.visits.is_empty() || !are_tasks || route.team as usize >= MOST_TEAMS {
+        return Ok(());
+    }
+    columns.add(route.team, &route.visits)?;
+    Ok(())
+}
+
+/// The routes of the last rounds of an ascent, as columns.
+fn columns_of(alloc: Global, found: &Ascended) -> Result<VecColumns, AllocError> {
+    let mut columns = VecColumns::new(alloc);
+    for route in &found.routes {
+        add_column(&mut columns, route, found.rounds)?;
+    }
+    Ok(columns)
+}
+
+/// The run of the master over the routes of the last rounds of an ascent, with so many pivots.
+fn run(alloc: Global, limits: &Limits<'_>, pivots: u32) -> Result<Figures, AllocError> {
+    let goal = unassigned(&planned(alloc, limits.instance(), FIRST_SEARCH)?);
+    let found = risen(alloc, limits, goal, ROOT_ROUNDS)?;
+    let columns = columns_of(alloc, &found)?;
+    let (made, ending) = match Run::over(alloc, limits, &columns, pivots) {
+        Ok(run) => (pivots.saturating_sub(run.left()), Ending::Optimum),
+        Err(Halt::Spent) => (pivots, Ending::Spent),
+        Err(Halt::Overflow(_)) => (0, Ending::Overflow),
+        Err(Halt::OutOfMemory) => return Err(AllocError),
+    };
+    Ok(Figures::Run {
+        columns: columns.len(),
+        pivots: made,
+        ending,
     })
 }
 
@@ -103,9 +141,10 @@ pub fn done(alloc: Global, work: &Work) -> Result<Figures, BenchError> {
     let instance = instance_of(alloc, work.day, work.teams, work.tasks)?;
     let limits = Limits::root(alloc, &instance)?;
     let figures = match work.kind {
-        Kind::Plan => plan(alloc, &instance, work.rounds)?,
-        Kind::Pricing => pricing(alloc, &limits, work.rounds)?,
-        Kind::Ascent => ascent(alloc, &limits, work.rounds)?,
+        Kind::Plan => plan(alloc, &instance, work.count)?,
+        Kind::Pricing => pricing(alloc, &limits, work.count)?,
+        Kind::Ascent => ascent(alloc, &limits, work.count)?,
+        Kind::Master => run(alloc, &limits, work.count)?,
     };
     Ok(figures)
 }

@@ -8,22 +8,24 @@ use std::string::String;
 /// A piece of the planner's work.
 #[derive(Clone, Copy, Debug, PartialEq, Eq)]
 pub enum Kind {
-    /// A greedy plan.
+    /// A greedy plan, bettered.
     Plan,
     /// The worths of all teams.
     Pricing,
     /// Prices that rise from zero.
     Ascent,
+    /// The run of the master over routes of an ascent.
+    Master,
 }
 
-/// What is done, over the generated day with this number and so many teams and tasks, and how often.
+/// What is done, over the generated day with this number and so many teams and tasks, and how often or how long.
 #[derive(Clone, Copy, Debug)]
 pub struct Work {
     pub kind: Kind,
     pub day: u64,
     pub teams: u32,
     pub tasks: u32,
-    pub rounds: u32,
+    pub count: u32,
     ghost few_teams: { teams ≤ MOST_TEAMS },
     ghost few_tasks: { tasks ≤ MOST_TASKS },
 }
@@ -34,21 +36,22 @@ fn kind_of(word: &str) -> Option<Kind> {
         "plan" => Some(Kind::Plan),
         "pricing" => Some(Kind::Pricing),
         "ascent" => Some(Kind::Ascent),
+        "master" => Some(Kind::Master),
         _ => None,
     }
 }
 
 impl Work {
-    /// The work that the words ask for: its kind, the day's number, teams, tasks, and rounds.
+    /// The work that the words ask for: its kind, the day's number, teams, tasks, and how often or how long.
     pub fn of(words: &[String]) -> Option<Work> {
-        let [kind, day, teams, tasks, rounds] = words else {
+        let [kind, day, teams, tasks, count] = words else {
             return None;
         };
         let kind = kind_of(kind.as_str())?;
         let day = day.as_str().parse::<u64>().ok()?;
         let teams = teams.as_str().parse::<u32>().ok()?;
         let tasks = tasks.as_str().parse::<u32>().ok()?;
-        let rounds = rounds.as_str().parse::<u32>().ok()?;
+        let count = count.as_str().parse::<u32>().ok()?;
         if teams as usize > MOST_TEAMS || tasks as usize > MOST_TASKS {
             return None;
         }
@@ -57,7 +60,7 @@ impl Work {
             day,
             teams,
             tasks,
-            rounds,
+            count,
         })
     }
 }

@@ -1,0 +1,58 @@
+// What a piece of work came to.
+use std::fmt;
+
+/// How a run of the master ended.
+#[derive(Clone, Copy, Debug, PartialEq, Eq)]
+pub enum Ending {
+    Optimum,
+    Spent,
+    Overflow,
+}
+
+/// What a piece of work came to.
+#[derive(Clone, Copy, Debug)]
+pub enum Figures {
+    /// The unassigned tasks of a plan, after so many iterations at most.
+    Plan {
+        unassigned: u32,
+        iterations: u32,
+    },
+    /// The unassigned tasks aimed at, a bound in 1/D of a task, what it proves unassigned, and the rounds that were made.
+    Prices {
+        goal: u32,
+        bound: i128,
+        proved: u32,
+        rounds: u32,
+    },
+    /// The columns, and the pivots of a run over them, 0 where it overflowed.
+    Run {
+        columns: usize,
+        pivots: u32,
+        ending: Ending,
+    },
+}
+
+impl fmt::Display for Figures {
+    fn fmt<W: fmt::Write>(&self, f: &mut fmt::Formatter<W>) -> fmt::Result {
+        match self {
+            Figures::Plan {
+                unassigned,
+                iterations,
+            } => write!(f, "unassigned {unassigned} iterations {iterations}"),
+            Figures::Prices {
+                goal,
+                bound,
+                proved,
+                rounds,
+            } => write!(
+                f,
+                "goal {goal} bound {bound} proved {proved} rounds {rounds}"
+            ),
+            Figures::Run {
+                columns,
+                pivots,
+                ending,
+            } => write!(f, "columns {columns} pivots {pivots} {ending:?}"),
+        }
+    }
+}
