@@ -12,7 +12,7 @@ ghost use Rattle.crew_cli.specs.declared.run.Command.TheVariants as command;
 
 use crate::refused::{DayFault, put_refused};
 use crate::status::Status;
-use cert_format::write_instance;
+use cert_write::write_instance;
 use crew_instance::Instance;
 use crew_io::sink::{Sink, WriteFault};
 use crew_io::source::Source;
