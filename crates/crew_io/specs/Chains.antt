@@ -44,8 +44,9 @@ module _ {K : Type 0} (sink : Ghosts K) where
   puts_done text old new x y a = record { all = a.all; part = tt; later = a.later; cause = λ h. absurd (cc); told = a.told; steady = λ h. ((a.steady h).0, λ e. absurd (cc)) }
 
   -- where the front of a text is written and a write fails, a front of the whole is written
-  pub puts_front : {T E U F : Type 0} (xs whole : List ℕ) (old new : K) (e : E) (f : F) → Puts {T = T} sink xs old new (Err e) → IsFront xs whole → Puts {T = U} sink whole old new (Err f)
-  puts_front xs whole old new e f a front = record {
+  pub puts_front : {T E U F : Type 0} (xs whole : List ℕ) (old new : K) (e : E) (result : Result U F) → IsErr result → Puts {T = T} sink xs old new (Err e) → IsFront xs whole → Puts sink whole old new result
+  puts_front xs whole old new e (Ok x) is a front = absurd (cc)
+  puts_front xs whole old new e (Err f) is a front = record {
     all = tt;
     part = part_after (sink.got old) (sink.got old) (sink.got new) [] xs whole (appended_none (sink.got old)) a.part front;
     later = a.later;
@@ -83,10 +84,11 @@ module _ {K A : Type 0} (sink : Ghosts K) (text : A → List ℕ) (items : List 
       (puts_same sink _ (flat_map text (take (i + 1) items)) old new _ (sym texts_more) (puts_then sink (flat_map text (take i items)) (text (get_or items i d)) old mid new x _ a b))
 
   -- a front of the text of one item more
-  pub puts_more_front : {T E U F V G : Type 0} (old mid new : K) (x : T) (e : F) (f : G) → Puts {E = E} sink (flat_map text (take i items)) old mid (Ok x) → Puts {T = U} sink (text (get_or items i d)) mid new (Err e)
-      → Puts {T = V} sink (flat_map text items) old new (Err f)
-  puts_more_front old mid new x e f a b =
-      puts_front sink (flat_map text (take i items) ++ text (get_or items i d)) (flat_map text items) old new e f (puts_then sink (flat_map text (take i items)) (text (get_or items i d)) old mid new x _ a b) texts_front
+  pub puts_more_front : {T E U F V G : Type 0} (old mid new : K) (x : T) (e : F) (result : Result V G) → IsErr result → Puts {E = E} sink (flat_map text (take i items)) old mid (Ok x)
+      → Puts {T = U} sink (text (get_or items i d)) mid new (Err e) → Puts sink (flat_map text items) old new result
+  puts_more_front old mid new x e result is a b =
+      puts_front sink (flat_map text (take i items) ++ text (get_or items i d)) (flat_map text items) old new e result is
+      (puts_then sink (flat_map text (take i items)) (text (get_or items i d)) old mid new x _ a b) texts_front
 
 -- the texts of all items
 pub puts_all : {K A T E U F : Type 0} (sink : Ghosts K) (text : A → List ℕ) (items : List A) (i : ℕ) (old new : K) (x : T) (y : U) → length items ≤ i
