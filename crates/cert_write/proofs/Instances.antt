@@ -1,4 +1,4 @@
--- lines that are written one after another
+-- the parts of lines, and of an instance
 use Rattle.std.proofs.Common.{◌≡◌, ◌≢◌, ◌<◌, ◌+◌, ◌++◌, ◌∷◌, [], ℕ, Bool, true, false, List, Option, None, Some, length, take, drop, map, get_or, cond, ap, sym, ◌∙◌, refl, arith, subst, append_assoc, append-nil}
 use Rattle.std.specs.Prelude.{◌==◌, codes, slice_index_or}
 use Rattle.std.specs.List.{filter, flat_map, range_with_len}
@@ -9,8 +9,7 @@ use Rattle.std.proofs.lemmas.List.{take_more, map-append, take-append-drop, map-
 use Rattle.std.proofs.lemmas.List.Elements.{filter-append, All-get_or}
 use Rattle.std.proofs.lemmas.List.Concat.{flat_map-append}
 use Rattle.std.proofs.lemmas.List.FromFn.{map-range_with_len_more}
-use Rattle.crew_io.specs.Io.{Appended, AppendedPart}
-use Rattle.crew_io.specs.Appends.{appended_none, appended_both}
+use Rattle.crew_io.specs.Chains.{first_front}
 use Rattle.crew_terms.specs.Words.{Words, line_text}
 use Rattle.crew_terms.specs.Instance.{Instance, minutes_between}
 use Rattle.crew_terms.specs.Rules.{IsInstance}
@@ -18,40 +17,7 @@ use Rattle.dossier_terms.specs.Lines.{instance_text, size_of, size_line, place_l
 use Rattle.line_out.specs.Parts.{part_word}
 use Rattle.line_out.specs.declared.Part.{Part}
 use Rattle.line_out.specs.declared.Part.TheVariants.{Number}
-use Rattle.line_out.specs.Fronts.{IsFront, part_after}
-
--- the text of some lines
-abbrev pub text_of_lines : {A : Type 0} → (A → Words) → List A → List ℕ
-text_of_lines line items = flat_map line_text (map line items)
-
-module _ {A : Type 0} (line : A → Words) (items : List A) (i : ℕ) (d : A) (within : i < length items) where
-  lines_more : text_of_lines line (take (i + 1) items) ≡ text_of_lines line (take i items) ++ line_text (line (get_or items i d))
-  lines_more =
-      ap (text_of_lines line) (take_more items i d within) ∙ ap (flat_map line_text) (map-append line (take i items) (get_or items i d ∷ []))
-      ∙ flat_map-append line_text (map line (take i items)) (line (get_or items i d) ∷ [])
-      ∙ ap (λ x. text_of_lines line (take i items) ++ x) (append-nil (line_text (line (get_or items i d))))
-
-  lines_front : IsFront (text_of_lines line (take i items) ++ line_text (line (get_or items i d))) (text_of_lines line items)
-  lines_front = record {
-    rest = text_of_lines line (drop (i + 1) items);
-    is =
-        ap (text_of_lines line) (sym (take-append-drop (i + 1) items)) ∙ ap (flat_map line_text) (map-append line (take (i + 1) items) (drop (i + 1) items))
-        ∙ flat_map-append line_text (map line (take (i + 1) items)) (map line (drop (i + 1) items))
-        ∙ ap (λ x. x ++ text_of_lines line (drop (i + 1) items)) lines_more;
-  }
-
-  -- one line more was written
-  pub line_written : (old mid new : Option (List ℕ)) (words : Words) → words ≡ line (get_or items i d) → Appended old mid (text_of_lines line (take i items)) → Appended mid new (line_text words)
-      → Appended old new (text_of_lines line (take (i + 1) items))
-  line_written old mid new words is a b =
-      subst (λ x. Appended old new x) (sym lines_more)
-      (appended_both old mid new (text_of_lines line (take i items)) (line_text (line (get_or items i d))) a (subst (λ ws. Appended mid new (line_text ws)) is b))
-
-  -- a front of one line more was written
-  pub line_part : (old mid new : Option (List ℕ)) (words : Words) → words ≡ line (get_or items i d) → Appended old mid (text_of_lines line (take i items)) → AppendedPart mid new (line_text words)
-      → AppendedPart old new (text_of_lines line items)
-  line_part old mid new words is a b =
-      part_after old mid new (text_of_lines line (take i items)) (line_text (line (get_or items i d))) (text_of_lines line items) a (subst (λ ws. AppendedPart mid new (line_text ws)) is b) lines_front
+use Rattle.crew_io.specs.Fronts.{IsFront, front_within}
 
 -- ---- skills of a set, one after another
 
@@ -97,26 +63,42 @@ time_pushed i a b minutes old new part is from to time part_is pushed so =
 
 -- ---- the parts of an instance, one after another
 
--- the text of the line of its sizes
-abbrev pub size_text : Instance → ℕ → List ℕ
-size_text i nodes = line_text (size_line (size_of i nodes))
+module _ (i : Instance) (nodes : ℕ) where
+  abbrev size : List ℕ
+  size = line_text (size_line (size_of i nodes))
 
-pub instance_parts : (i : Instance) (nodes : ℕ) → instance_text i nodes
-    ≡ size_text i nodes ++ (text_of_lines place_line i.places ++ (text_of_lines travel_line i.travel ++ (text_of_lines team_line i.teams ++ text_of_lines task_line i.tasks)))
-instance_parts i nodes =
-    let p = map place_line i.places in
-    let r = map travel_line i.travel in
-    let m = map team_line i.teams in
-    let n = map task_line i.tasks in
-    let f = flat_map line_text in
-    ap (λ x. size_text i nodes ++ x) (flat_map-append line_text ((p ++ r) ++ m) n
-    ∙ ap (λ x. x ++ f n) (flat_map-append line_text (p ++ r) m ∙ ap (λ x. x ++ f m) (flat_map-append line_text p r))
-    ∙ append_assoc (f p ++ f r) (f m) (f n) ∙ append_assoc (f p) (f r) (f m ++ f n))
+  abbrev places : List ℕ
+  places = flat_map line_text (map place_line i.places)
 
--- a front of the first of two pieces and more
-pub part_first : (old new : Option (List ℕ)) (xs rest whole : List ℕ) → whole ≡ xs ++ rest → AppendedPart old new xs → AppendedPart old new whole
-part_first old new xs rest whole is p = part_after old old new [] xs whole (appended_none old) p (record { rest = rest; is = is })
+  abbrev travels : List ℕ
+  travels = flat_map line_text (map travel_line i.travel)
 
--- a front of the next piece
-pub part_next : (old mid new : Option (List ℕ)) (xs ys rest whole : List ℕ) → whole ≡ xs ++ (ys ++ rest) → Appended old mid xs → AppendedPart mid new ys → AppendedPart old new whole
-part_next old mid new xs ys rest whole is a p = part_after old mid new xs ys whole a p (record { rest = rest; is = is ∙ sym (append_assoc xs ys rest) })
+  abbrev teams : List ℕ
+  teams = flat_map line_text (map team_line i.teams)
+
+  abbrev tasks : List ℕ
+  tasks = flat_map line_text (map task_line i.tasks)
+
+  -- the whole text, part by part
+  pub all_parts : instance_text i nodes ≡ (((size ++ places) ++ travels) ++ teams) ++ tasks
+  all_parts =
+      let p = map place_line i.places in
+      let r = map travel_line i.travel in
+      let m = map team_line i.teams in
+      let n = map task_line i.tasks in
+      ap (λ x. size ++ x) (flat_map-append line_text ((p ++ r) ++ m) n
+      ∙ ap (λ x. x ++ tasks) (flat_map-append line_text (p ++ r) m ∙ ap (λ x. x ++ teams) (flat_map-append line_text p r)))
+      ∙ sym (append_assoc size ((places ++ travels) ++ teams) tasks)
+      ∙ ap (λ x. x ++ tasks) (sym (append_assoc size (places ++ travels) teams) ∙ ap (λ x. x ++ teams) (sym (append_assoc size places travels)))
+
+  pub teams_front : IsFront (((size ++ places) ++ travels) ++ teams) (instance_text i nodes)
+  teams_front = record { rest = tasks; is = all_parts }
+
+  pub travels_front : IsFront ((size ++ places) ++ travels) (instance_text i nodes)
+  travels_front = front_within _ _ _ (first_front ((size ++ places) ++ travels) teams) teams_front
+
+  pub places_front : IsFront (size ++ places) (instance_text i nodes)
+  places_front = front_within _ _ _ (first_front (size ++ places) travels) travels_front
+
+  pub size_front : IsFront size (instance_text i nodes)
+  size_front = front_within _ _ _ (first_front size places) places_front

@@ -1,10 +1,10 @@
 // The lines of an instance, written.
-ghost use Rattle.std.specs.Prelude.{◌≡◌, ◌≤◌, ◌<◌, ◌+◌, ◌++◌, [], map, length, slice_index_or, OnOk, OnErr, IsErr};
+ghost use Rattle.std.specs.Prelude.{◌≡◌, ◌≤◌, ◌<◌, ◌+◌, ◌++◌, [], map, length, slice_index_or};
 ghost use Rattle.std.specs.List.{flat_map};
 ghost use Rattle.std.specs.Fmt.{decimal};
 ghost use Rattle.arrayvec.specs.ArrayVec.{array_vec_len};
 ghost use Rattle.crew_terms.specs.Words.{line_text};
-ghost use Rattle.crew_io.specs.Io.{Rose, Appended, AppendedPart};
+ghost use Rattle.crew_io.specs.Puts.{Puts};
 ghost use Rattle.dossier_terms.specs.Dossier.{skills_of};
 ghost use Rattle.dossier_terms.specs.Lines.{instance_text, size_line, size_of, place_line, travel_line, team_line, task_line};
 ghost use Rattle.line_out.specs.Parts.{part_word};
@@ -29,12 +29,7 @@ fn number(n: u32) -> Part<'static>
 }
 
 fn put_size<K: Sink>(out: &mut K, instance: &Instance, nodes: u32) -> Result<(), WriteFault>
-    ensures all { OnOk result (Appended (K.got out.old) (K.got out.new) (line_text (size_line (size_of instance.now nodes)))) }
-    ensures part { OnErr result (AppendedPart (K.got out.old) (K.got out.new) (line_text (size_line (size_of instance.now nodes)))) }
-    ensures later { K.faults out.old ≤ K.faults out.new }
-    ensures cause { IsErr result → Rose (K.faults out.old) (K.faults out.new) }
-    ensures told { OnOk result (K.faults out.new ≡ K.faults out.old) }
-    ensures steady { K.steady out.old → K.steady out.new × (IsErr result → K.full out.new) }
+    ensures { Puts K.Sink (line_text (size_line (size_of instance.now nodes))) out.old out.new result }
 {
     let teams = number(instance.teams() as u32);
     let tasks = number(instance.tasks() as u32);
@@ -46,12 +41,7 @@ fn put_size<K: Sink>(out: &mut K, instance: &Instance, nodes: u32) -> Result<(),
 }
 
 fn put_places<K: Sink>(out: &mut K, instance: &Instance) -> Result<(), WriteFault>
-    ensures all { OnOk result (Appended (K.got out.old) (K.got out.new) (flat_map line_text (map place_line instance.now.places))) }
-    ensures part { OnErr result (AppendedPart (K.got out.old) (K.got out.new) (flat_map line_text (map place_line instance.now.places))) }
-    ensures later { K.faults out.old ≤ K.faults out.new }
-    ensures cause { IsErr result → Rose (K.faults out.old) (K.faults out.new) }
-    ensures told { OnOk result (K.faults out.new ≡ K.faults out.old) }
-    ensures steady { K.steady out.old → K.steady out.new × (IsErr result → K.full out.new) }
+    ensures { Puts K.Sink (flat_map line_text (map place_line instance.now.places)) out.old out.new result }
 {
     for p in 0..instance.places() as u32 {
         let name = instance.place(p).bytes();
@@ -63,12 +53,7 @@ fn put_places<K: Sink>(out: &mut K, instance: &Instance) -> Result<(), WriteFaul
 /// The line of the travel times from a place.
 fn put_travel<K: Sink>(out: &mut K, instance: &Instance, a: u32) -> Result<(), WriteFault>
     requires { a < length instance.now.places }
-    ensures all { OnOk result (Appended (K.got out.old) (K.got out.new) (line_text (travel_line (slice_index_or instance.now.travel a [])))) }
-    ensures part { OnErr result (AppendedPart (K.got out.old) (K.got out.new) (line_text (travel_line (slice_index_or instance.now.travel a [])))) }
-    ensures later { K.faults out.old ≤ K.faults out.new }
-    ensures cause { IsErr result → Rose (K.faults out.old) (K.faults out.new) }
-    ensures told { OnOk result (K.faults out.new ≡ K.faults out.old) }
-    ensures steady { K.steady out.old → K.steady out.new × (IsErr result → K.full out.new) }
+    ensures { Puts K.Sink (line_text (travel_line (slice_index_or instance.now.travel a []))) out.old out.new result }
 {
     let mut line = Line::new();
     line.push(Part::Word(b"travel"));
@@ -79,12 +64,7 @@ fn put_travel<K: Sink>(out: &mut K, instance: &Instance, a: u32) -> Result<(), W
 }
 
 fn put_travels<K: Sink>(out: &mut K, instance: &Instance) -> Result<(), WriteFault>
-    ensures all { OnOk result (Appended (K.got out.old) (K.got out.new) (flat_map line_text (map travel_line instance.now.travel))) }
-    ensures part { OnErr result (AppendedPart (K.got out.old) (K.got out.new) (flat_map line_text (map travel_line instance.now.travel))) }
-    ensures later { K.faults out.old ≤ K.faults out.new }
-    ensures cause { IsErr result → Rose (K.faults out.old) (K.faults out.new) }
-    ensures told { OnOk result (K.faults out.new ≡ K.faults out.old) }
-    ensures steady { K.steady out.old → K.steady out.new × (IsErr result → K.full out.new) }
+    ensures { Puts K.Sink (flat_map line_text (map travel_line instance.now.travel)) out.old out.new result }
 {
     for a in 0..instance.places() as u32 {
         put_travel(out, instance, a)?;
@@ -105,12 +85,7 @@ fn push_skills(line: &mut Line<'_>, skills: u64)
 }
 
 fn put_team<K: Sink>(out: &mut K, team: &Team) -> Result<(), WriteFault>
-    ensures all { OnOk result (Appended (K.got out.old) (K.got out.new) (line_text (team_line team.now))) }
-    ensures part { OnErr result (AppendedPart (K.got out.old) (K.got out.new) (line_text (team_line team.now))) }
-    ensures later { K.faults out.old ≤ K.faults out.new }
-    ensures cause { IsErr result → Rose (K.faults out.old) (K.faults out.new) }
-    ensures told { OnOk result (K.faults out.new ≡ K.faults out.old) }
-    ensures steady { K.steady out.old → K.steady out.new × (IsErr result → K.full out.new) }
+    ensures { Puts K.Sink (line_text (team_line team.now)) out.old out.new result }
 {
     let mut line = Line::new();
     line.push(Part::Word(b"team"));
@@ -123,12 +98,7 @@ fn put_team<K: Sink>(out: &mut K, team: &Team) -> Result<(), WriteFault>
 }
 
 fn put_teams<K: Sink>(out: &mut K, instance: &Instance) -> Result<(), WriteFault>
-    ensures all { OnOk result (Appended (K.got out.old) (K.got out.new) (flat_map line_text (map team_line instance.now.teams))) }
-    ensures part { OnErr result (AppendedPart (K.got out.old) (K.got out.new) (flat_map line_text (map team_line instance.now.teams))) }
-    ensures later { K.faults out.old ≤ K.faults out.new }
-    ensures cause { IsErr result → Rose (K.faults out.old) (K.faults out.new) }
-    ensures told { OnOk result (K.faults out.new ≡ K.faults out.old) }
-    ensures steady { K.steady out.old → K.steady out.new × (IsErr result → K.full out.new) }
+    ensures { Puts K.Sink (flat_map line_text (map team_line instance.now.teams)) out.old out.new result }
 {
     for k in 0..instance.teams() as u32 {
         put_team(out, instance.team(k))?;
@@ -137,12 +107,7 @@ fn put_teams<K: Sink>(out: &mut K, instance: &Instance) -> Result<(), WriteFault
 }
 
 fn put_task<K: Sink>(out: &mut K, task: &Task) -> Result<(), WriteFault>
-    ensures all { OnOk result (Appended (K.got out.old) (K.got out.new) (line_text (task_line task.now))) }
-    ensures part { OnErr result (AppendedPart (K.got out.old) (K.got out.new) (line_text (task_line task.now))) }
-    ensures later { K.faults out.old ≤ K.faults out.new }
-    ensures cause { IsErr result → Rose (K.faults out.old) (K.faults out.new) }
-    ensures told { OnOk result (K.faults out.new ≡ K.faults out.old) }
-    ensures steady { K.steady out.old → K.steady out.new × (IsErr result → K.full out.new) }
+    ensures { Puts K.Sink (line_text (task_line task.now)) out.old out.new result }
 {
     let mut line = Line::new();
     line.push(Part::Word(b"task"));
@@ -157,12 +122,7 @@ fn put_task<K: Sink>(out: &mut K, task: &Task) -> Result<(), WriteFault>
 }
 
 fn put_tasks<K: Sink>(out: &mut K, instance: &Instance) -> Result<(), WriteFault>
-    ensures all { OnOk result (Appended (K.got out.old) (K.got out.new) (flat_map line_text (map task_line instance.now.tasks))) }
-    ensures part { OnErr result (AppendedPart (K.got out.old) (K.got out.new) (flat_map line_text (map task_line instance.now.tasks))) }
-    ensures later { K.faults out.old ≤ K.faults out.new }
-    ensures cause { IsErr result → Rose (K.faults out.old) (K.faults out.new) }
-    ensures told { OnOk result (K.faults out.new ≡ K.faults out.old) }
-    ensures steady { K.steady out.old → K.steady out.new × (IsErr result → K.full out.new) }
+    ensures { Puts K.Sink (flat_map line_text (map task_line instance.now.tasks)) out.old out.new result }
 {
     for j in 0..instance.tasks() as u32 {
         put_task(out, instance.task(j))?;
@@ -177,12 +137,7 @@ pub fn write_instance<K: Sink>(
     instance: &Instance,
     nodes: u32,
 ) -> Result<(), WriteFault>
-    ensures all { OnOk result (Appended (K.got out.old) (K.got out.new) (instance_text instance.now nodes)) }
-    ensures part { OnErr result (AppendedPart (K.got out.old) (K.got out.new) (instance_text instance.now nodes)) }
-    ensures later { K.faults out.old ≤ K.faults out.new }
-    ensures cause { IsErr result → Rose (K.faults out.old) (K.faults out.new) }
-    ensures told { OnOk result (K.faults out.new ≡ K.faults out.old) }
-    ensures steady { K.steady out.old → K.steady out.new × (IsErr result → K.full out.new) }
+    ensures { Puts K.Sink (instance_text instance.now nodes) out.old out.new result }
 {
     put_size(out, instance, nodes)?;
     put_places(out, instance)?;

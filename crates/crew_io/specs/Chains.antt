@@ -8,7 +8,7 @@ use Rattle.std.proofs.lemmas.Result.{on_ok_weaker, on_err_weaker}
 use Rattle.crew_io.specs.Io.{Rose, Appended, AppendedPart}
 use Rattle.crew_io.specs.Appends.{appended_none, appended_both}
 use Rattle.crew_io.specs.Fronts.{IsFront, part_after}
-use Rattle.crew_io.specs.Puts.{Puts}
+use Rattle.crew_io.specs.Puts.{Puts, TellsWrites}
 use Rattle.crew_io.specs.declared.sink.Sink.{Ghosts}
 
 -- an answer that is no fault
@@ -94,3 +94,25 @@ module _ {K A : Type 0} (sink : Ghosts K) (text : A → List ℕ) (items : List 
 pub puts_all : {K A T E U F : Type 0} (sink : Ghosts K) (text : A → List ℕ) (items : List A) (i : ℕ) (old new : K) (x : T) (y : U) → length items ≤ i
     → Puts {E = E} sink (flat_map text (take i items)) old new (Ok x) → Puts {E = F} sink (flat_map text items) old new (Ok y)
 puts_all sink text items i old new x y past a = puts_done sink (flat_map text items) old new x y (puts_same sink _ (flat_map text items) old new _ (ap (flat_map text) (take_all i items past)) a)
+
+-- ---- what is said of write faults
+
+module _ {K : Type 0} (sink : Ghosts K) where
+  -- before a call no fault is told
+  pub writes_none : (old : K) → TellsWrites sink old old ⊥
+  writes_none old = record { cause = λ fault. absurd fault; told = λ _. refl; later = omega arith; steady = λ h. (h, λ fault. absurd fault) }
+
+  -- a call that told no fault, and then another, which tells the fault of both
+  pub writes_then : {First Next Fault : Type 0} (old mid new : K) → (First → ⊥) → TellsWrites sink old mid First → TellsWrites sink mid new Next → (Fault → Next) → (Next → Fault)
+      → TellsWrites sink old new Fault
+  writes_then old mid new none_first a b to from = record {
+    cause = λ fault. subst (λ n. Rose n (sink.faults new)) (a.told none_first) (b.cause (to fault));
+    told = λ none. b.told (λ fault. none (from fault)) ∙ a.told none_first;
+    later = let p = a.later in let q = b.later in omega (arith, p, q);
+    steady = λ h. let t = b.steady (a.steady h).0 in (t.0, λ fault. t.1 (to fault));
+  }
+
+  -- a call that writes a text tells a fault where it fails
+  pub puts_tell : {T E : Type 0} (text : List ℕ) (old new : K) (result : Result T E) → Puts sink text old new result → TellsWrites sink old new (IsErr result)
+  puts_tell text old new (Ok x) p = record { cause = p.cause; told = λ _. p.told; later = p.later; steady = p.steady }
+  puts_tell text old new (Err e) p = record { cause = p.cause; told = λ none. absurd (none refl); later = p.later; steady = p.steady }

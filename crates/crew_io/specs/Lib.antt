@@ -4,6 +4,7 @@ pub mod Fronts
 pub mod Puts
 pub mod Chains
 pub mod Draws
+pub mod Bytes
 pub mod Memory
 pub mod KeptSource
 pub mod KeptSteady

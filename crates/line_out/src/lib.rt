@@ -2,6 +2,7 @@
 #![tactic(auto)]
 
 ghost use Rattle.std.specs.Prelude.{◌≡◌, ◌++◌, [], ◌∷◌, map, OnOk};
+ghost use Rattle.std.specs.Fmt.{decimal};
 ghost use Rattle.crew_io.specs.Puts.{Puts};
 ghost use Rattle.crew_terms.specs.Words.{line_text};
 ghost use Rattle.line_out.specs.Parts.{part_word};
@@ -122,4 +123,19 @@ pub fn put_line<K: Sink>(out: &mut K, parts: &[Part<'_>]) -> Result<(), WriteFau
         Ok(()) => put_all(out, &line),
         Err(Longer) => put_long(out, parts),
     }
+}
+
+/// Writes a line of a word, a number and one more word.
+pub fn put_word<'a, K: Sink>(
+    out: &mut K,
+    first: &'a [u8],
+    number: u64,
+    word: &'a [u8],
+) -> Result<(), WriteFault>
+    ensures { Puts K.Sink (line_text (first.now ∷ decimal number ∷ word.now ∷ [])) out.old out.new result }
+{
+    put_line(
+        out,
+        &[Part::Word(first), Part::Number(number), Part::Word(word)],
+    )
 }
