@@ -29,7 +29,8 @@ fn number(n: u32) -> Part<'static>
 }
 
 fn put_size<K: Sink>(out: &mut K, instance: &Instance, nodes: u32) -> Result<(), WriteFault>
-    ensures { Puts K.Sink (line_text (size_line (size_of instance.now nodes))) out.old out.new result }
+    ensures { Puts K.Sink (line_text (size_line (size_of instance.now nodes)))
+        out.old out.new result }
 {
     let teams = number(instance.teams() as u32);
     let tasks = number(instance.tasks() as u32);
@@ -41,7 +42,8 @@ fn put_size<K: Sink>(out: &mut K, instance: &Instance, nodes: u32) -> Result<(),
 }
 
 fn put_places<K: Sink>(out: &mut K, instance: &Instance) -> Result<(), WriteFault>
-    ensures { Puts K.Sink (flat_map line_text (map place_line instance.now.places)) out.old out.new result }
+    ensures { Puts K.Sink (flat_map line_text (map place_line instance.now.places))
+        out.old out.new result }
 {
     for p in 0..instance.places() as u32 {
         let name = instance.place(p).bytes();
@@ -53,7 +55,8 @@ fn put_places<K: Sink>(out: &mut K, instance: &Instance) -> Result<(), WriteFaul
 /// The line of the travel times from a place.
 fn put_travel<K: Sink>(out: &mut K, instance: &Instance, a: u32) -> Result<(), WriteFault>
     requires { a < length instance.now.places }
-    ensures { Puts K.Sink (line_text (travel_line (slice_index_or instance.now.travel a []))) out.old out.new result }
+    ensures { Puts K.Sink (line_text (travel_line (slice_index_or instance.now.travel a [])))
+        out.old out.new result }
 {
     let mut line = Line::new();
     line.push(Part::Word(b"travel"));
@@ -64,7 +67,8 @@ fn put_travel<K: Sink>(out: &mut K, instance: &Instance, a: u32) -> Result<(), W
 }
 
 fn put_travels<K: Sink>(out: &mut K, instance: &Instance) -> Result<(), WriteFault>
-    ensures { Puts K.Sink (flat_map line_text (map travel_line instance.now.travel)) out.old out.new result }
+    ensures { Puts K.Sink (flat_map line_text (map travel_line instance.now.travel))
+        out.old out.new result }
 {
     for a in 0..instance.places() as u32 {
         put_travel(out, instance, a)?;
@@ -98,7 +102,8 @@ fn put_team<K: Sink>(out: &mut K, team: &Team) -> Result<(), WriteFault>
 }
 
 fn put_teams<K: Sink>(out: &mut K, instance: &Instance) -> Result<(), WriteFault>
-    ensures { Puts K.Sink (flat_map line_text (map team_line instance.now.teams)) out.old out.new result }
+    ensures { Puts K.Sink (flat_map line_text (map team_line instance.now.teams))
+        out.old out.new result }
 {
     for k in 0..instance.teams() as u32 {
         put_team(out, instance.team(k))?;
@@ -122,7 +127,8 @@ fn put_task<K: Sink>(out: &mut K, task: &Task) -> Result<(), WriteFault>
 }
 
 fn put_tasks<K: Sink>(out: &mut K, instance: &Instance) -> Result<(), WriteFault>
-    ensures { Puts K.Sink (flat_map line_text (map task_line instance.now.tasks)) out.old out.new result }
+    ensures { Puts K.Sink (flat_map line_text (map task_line instance.now.tasks))
+        out.old out.new result }
 {
     for j in 0..instance.tasks() as u32 {
         put_task(out, instance.task(j))?;

@@ -1,6 +1,6 @@
 -- what is written of a day, entry by entry
 use Rattle.std.proofs.Common.{◌≡◌, ◌≢◌, ◌≤◌, ◌<◌, ◌+◌, ◌++◌, ◌∷◌, [], ℕ, suc, List, Option, None, Some, Result, Ok, Err, length, take, drop, get_or, ap, subst, sym, refl, ◌∙◌, arith, append_assoc, append-nil, length-take}
-use Rattle.std.specs.Prelude.{IfSome, IfErr, IsTrue, codes}
+use Rattle.std.specs.Prelude.{IfSome, IfErr, IsErr, IsTrue, OnErr, codes}
 use Rattle.std.specs.Fmt.{decimal}
 use Rattle.std.proofs.lemmas.List.{take_more, take_all, take-append-le, take-append-drop}
 use Rattle.std.proofs.lemmas.List.Concat.{flat_map-append}
@@ -35,6 +35,17 @@ use Rattle.day_commands.specs.declared.apply.Applied.{Applied}
 use Rattle.day_commands.specs.declared.apply.Applied.TheVariants.{Taken, Refused as IsRefused, WriteFault}
 use Rattle.day_commands.specs.declared.refused.DayFault.TheVariants.{TooLong, InItself, Change}
 use Rattle.day_commands.proofs.Days.{goes_on, one_end, round_text, text_more, taken_more, state_more}
+
+pub on_err : {X E : Type 0} (r : Result X E) (P : Type 0) → P → OnErr r P
+on_err (Ok x) P p = tt
+on_err (Err e) P p = p
+
+pub err_is_not_ok : {T E : Type 0} (result : Result T E) (x : T) → IsErr result → result ≡ Ok x → ⊥
+err_is_not_ok (Ok y) x is e = absurd (cc)
+err_is_not_ok (Err f) x is e = absurd (cc)
+
+pub same_ok : {T E : Type 0} {x y : T} → ◌≡◌ {A = Result T E} (Ok x) (Ok y) → x ≡ y
+same_ok e = cc
 
 -- ---- one entry
 
@@ -280,6 +291,12 @@ whole_ended (Some input) later bytes read = subst HasEnded (sym read.1) refl
 
 pub refused_not_done : (answer : Ended) → IsTrue (is_refused_or_write_fault answer) → answer ≡ ended.Done → ⊥
 refused_not_done answer others done = absurd (let f = subst (λ s. IsTrue (is_refused_or_write_fault s)) done others in cc)
+
+pub refused_no_fault : (answer : Ended) → IsTrue (is_refused_or_write_fault answer) → answer ≡ ended.ReadFault → ⊥
+refused_no_fault answer others fault = absurd (let f = subst (λ s. IsTrue (is_refused_or_write_fault s)) fault others in cc)
+
+pub of_text_no_fault : (answer : Ended) → IsTrue (is_of_text answer) → answer ≡ ended.ReadFault → ⊥
+of_text_no_fault answer others fault = absurd (let f = subst (λ s. IsTrue (is_of_text s)) fault others in cc)
 
 -- nothing was written, and memory was wanting
 pub none_memory : (left got : Option (List ℕ)) → OfBytes left got got SaysFirstRounds

@@ -22,7 +22,8 @@ pub enum DayFault {
 
 /// Writes the line of a record with another number of fields than its kind has, or with a bad field.
 fn put_field<K: Sink>(out: &mut K, number: u64, fault: FieldFault) -> Result<(), WriteFault>
-    ensures { Puts K.Sink (refused_line number (DayFault.InItself (DayCause.Field fault))) out.old out.new result }
+    ensures { Puts K.Sink (refused_line number (DayFault.InItself (DayCause.Field fault)))
+        out.old out.new result }
 {
     let refused = Part::Word(b"refused");
     let at = Part::Number(number);

@@ -132,7 +132,8 @@ pub fn put_word<'a, K: Sink>(
     number: u64,
     word: &'a [u8],
 ) -> Result<(), WriteFault>
-    ensures { Puts K.Sink (line_text (first.now ∷ decimal number ∷ word.now ∷ [])) out.old out.new result }
+    ensures { Puts K.Sink (line_text (first.now ∷ decimal number ∷ word.now ∷ []))
+        out.old out.new result }
 {
     put_line(
         out,

@@ -93,7 +93,8 @@ fn put_turn<K: Sink>(
     requires limits { IsInstance instance.now }
     requires legal { IsLegal instance.now plan.now }
     requires turn { Does plan.now k turn.task turn.start }
-    ensures { Puts K.Sink (line_text (turn_line instance.now plan.now k turn.task)) out.old out.new result }
+    ensures { Puts K.Sink (line_text (turn_line instance.now plan.now k turn.task))
+        out.old out.new result }
 {
     let task = instance.task(turn.task);
     let begins = clock(turn.start);
@@ -118,7 +119,8 @@ fn put_turns<K: Sink>(
 ) -> Result<(), WriteFault>
     requires limits { IsInstance instance.now }
     requires legal { IsLegal instance.now plan.now }
-    ensures { Puts K.Sink (flat_map line_text (map (turn_line instance.now plan.now k) (tasks_in_turn plan.now k))) out.old out.new result }
+    ensures { Puts K.Sink (flat_map line_text (map (turn_line instance.now plan.now k) (tasks_in_turn plan.now k)))
+        out.old out.new result }
 {
     let mut turns = ArrayVec::new();
     fill_turns(plan, k, &mut turns);
@@ -137,7 +139,8 @@ fn put_team<K: Sink>(
     requires limits { IsInstance instance.now }
     requires legal { IsLegal instance.now plan.now }
     requires team { k < length instance.now.teams }
-    ensures { Puts K.Sink (flat_map line_text (team_lines instance.now plan.now k)) out.old out.new result }
+    ensures { Puts K.Sink (flat_map line_text (team_lines instance.now plan.now k))
+        out.old out.new result }
 {
     put_shift(out, instance, k)?;
     put_turns(out, instance, plan, k)
@@ -145,7 +148,8 @@ fn put_team<K: Sink>(
 
 fn put_teams<K: Sink>(out: &mut K, instance: &Instance, plan: &Plan) -> Result<(), WriteFault>
     requires { IsLegal instance.now plan.now }
-    ensures { Puts K.Sink (flat_map line_text (flat_map (team_lines instance.now plan.now) (range_with_len 0 (length instance.now.teams)))) out.old out.new result }
+    ensures { Puts K.Sink (flat_map line_text (flat_map (team_lines instance.now plan.now) (range_with_len 0 (length instance.now.teams))))
+        out.old out.new result }
 {
     for k in 0..instance.teams() as u32 {
         put_team(out, instance, plan, k)?;
@@ -162,7 +166,8 @@ fn put_if_open<K: Sink>(
 ) -> Result<(), WriteFault>
     requires task { j < length instance.now.tasks }
     requires plan { j < length plan.now }
-    ensures { Puts K.Sink (flat_map line_text (map (open_line instance.now) (filter (is_unassigned plan.now) (j ∷ [])))) out.old out.new result }
+    ensures { Puts K.Sink (flat_map line_text (map (open_line instance.now) (filter (is_unassigned plan.now) (j ∷ []))))
+        out.old out.new result }
 {
     if plan.start(j).is_some() {
         return Ok(());
@@ -173,7 +178,8 @@ fn put_if_open<K: Sink>(
 
 fn put_open<K: Sink>(out: &mut K, instance: &Instance, plan: &Plan) -> Result<(), WriteFault>
     requires { length plan.now ≡ length instance.now.tasks }
-    ensures { Puts K.Sink (flat_map line_text (map (open_line instance.now) (unassigned_tasks plan.now))) out.old out.new result }
+    ensures { Puts K.Sink (flat_map line_text (map (open_line instance.now) (unassigned_tasks plan.now)))
+        out.old out.new result }
 {
     for j in 0..plan.len() as u32 {
         put_if_open(out, instance, plan, j)?;

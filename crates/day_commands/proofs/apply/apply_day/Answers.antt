@@ -1,7 +1,7 @@
 use Rattle.std.proofs.Common.{◌<◌, length, subst, sym, ◌∙◌, arith}
+use Rattle.crew_io.specs.Chains.{writes_then}
 use Rattle.day_commands.specs.Applied.{IsApplied, IsDay}
-use Rattle.day_commands.proofs.Applies.{at_refused, at_front, at_memory, at_taken, at_end, at_stop, refused_is_no_want, taken_is_no_fault}
-use Rattle.day_commands.proofs.Said.{on_err}
+use Rattle.day_commands.proofs.Applies.{at_refused, at_front, at_memory, at_taken, at_end, at_stop, refused_is_no_want, taken_is_no_fault, on_err}
 use Rattle.day_commands.proofs.apply.apply_day.Goals as goal
 
 pub returns-in_err-apply_entry-clause-memory : goal.returns-in_err-apply_entry-clause-memory
@@ -42,9 +42,8 @@ loop-n-preserved g c =
       state = t.state;
       taken = t.taken;
       so_far = t.so_far;
-      later = (let a = i.later in let b = c.in_ok-apply_entry.ensures.later in omega (arith, a, b));
-      told = c.in_ok-apply_entry.ensures.told (λ e. taken_is_no_fault c.in_ok-apply_entry.field-0 c.in-Taken.is e) ∙ i.told;
-      steady = λ h. (c.in_ok-apply_entry.ensures.steady (i.steady h)).0;
+      tells = writes_then g.K.Sink _ _ _ (λ fault. fault) i.tells c.in_ok-apply_entry.ensures.tells (λ fault. absurd fault)
+          (λ e. taken_is_no_fault c.in_ok-apply_entry.field-0 c.in-Taken.is e);
     }
 
 pub returns-in_default-clause-says : goal.returns-in_default-clause-says

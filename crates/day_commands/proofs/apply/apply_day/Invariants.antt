@@ -1,5 +1,6 @@
-use Rattle.std.proofs.Common.{◌≡◌, ◌≤◌, take}
+use Rattle.std.proofs.Common.{◌≡◌, take}
 use Rattle.crew_io.specs.Io.{Appended}
+use Rattle.crew_io.specs.Puts.{TellsWrites}
 use Rattle.day_terms.specs.State.{start, state_after}
 use Rattle.day_terms.specs.Rounds.{rounds_of}
 use Rattle.day_commands.specs.Rounds.{rounds_text}
@@ -11,7 +12,5 @@ invariant-loop-n g l = record {
   state : l.desk ≡ state_after (take l.n l.entries);
   taken : AreTaken start (take l.n l.entries);
   so_far : Appended (g.K.Sink.got l.fn.out) (g.K.Sink.got l.out) (rounds_text (rounds_of (take l.n l.entries)));
-  later : g.K.Sink.faults l.fn.out ≤ g.K.Sink.faults l.out;
-  told : g.K.Sink.faults l.out ≡ g.K.Sink.faults l.fn.out;
-  steady : g.K.Sink.steady l.fn.out → g.K.Sink.steady l.out;
+  tells : TellsWrites g.K.Sink l.fn.out l.out ⊥;
 }

@@ -2,6 +2,7 @@ use Rattle.std.proofs.Common.{subst, sym, refl, ◌∙◌, arith}
 use Rattle.std.proofs.lemmas.Bool.{false≢true}
 use Rattle.crew_io.specs.Io.{Appended}
 use Rattle.crew_io.specs.Appends.{appended_none}
+use Rattle.crew_io.specs.Chains.{writes_none, writes_then}
 use Rattle.day_terms.specs.Refusal.{refusal_of}
 use Rattle.day_commands.specs.Rounds.{rounds_text}
 use Rattle.day_commands.proofs.Applies.{accepted_is_none, refusal_known, no_round, plan_applied}
@@ -20,10 +21,7 @@ returns-in_default-entry g c =
     record {
       applied = (none, c.in_default.ensures.ok, subst (λ rs. Appended got got (rounds_text rs)) (sym (no_round c.args.desk.now c.args.entry.now c.in_default-entry.not-Plan)) (appended_none got));
       nothing = tt;
-      write_fault = λ e. absurd (cc);
-      told = λ _. refl;
-      later = omega arith;
-      steady = λ h. (h, λ e. absurd (cc));
+      tells = writes_then g.K.Sink _ _ _ (λ fault. fault) (writes_none g.K.Sink c.args.out.now) (writes_none g.K.Sink c.args.out.now) (λ e. absurd (cc)) (λ fault. absurd fault);
     }
 
 pub returns-clause-applied : goal.returns-clause-applied
