@@ -245,6 +245,9 @@ at_taken entries n d s new a got mid later below state taken wrote applied is =
 pub taken_is_no_fault : {E : Type 0} (a : Applied) → a ≡ Taken → ◌≡◌ {A = Result Applied E} (Ok a) (Ok WriteFault) → ⊥
 taken_is_no_fault a is e = cc
 
+pub refused_entry_is_no_fault : {E : Type 0} (a : Applied) (fault : ChangeFault) → a ≡ IsRefused fault → ◌≡◌ {A = Result Applied E} (Ok a) (Ok WriteFault) → ⊥
+refused_entry_is_no_fault a fault is e = cc
+
 -- ---- behind its last entry
 
 pub at_end : (text : List ℕ) (entries : List Entry) (n : ℕ) (last : Option Refused) (got later : Option (List ℕ)) → IsDay text entries last → length entries ≤ n → AreTaken start (take n entries)

@@ -7,6 +7,6 @@ use Rattle.roster_print.proofs.Texts.{text}
 use Rattle.roster_print.proofs.put_open.Given as goal
 
 abbrev pub invariant-loop-j : goal.invariant-loop-j
-invariant-loop-j g l = 
+invariant-loop-j g l =
     Puts g.K.Sink (flat_map (λ j. text (map (open_line l.instance) (filter (is_unassigned l.plan) (j ∷ [])))) (take l.j (range_with_len 0 (length l.plan))))
     l.fn.out l.out fine

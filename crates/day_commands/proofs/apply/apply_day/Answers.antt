@@ -1,7 +1,8 @@
-use Rattle.std.proofs.Common.{◌<◌, length, subst, sym, ◌∙◌, arith}
+use Rattle.std.proofs.Common.{◌<◌, length, subst, sym, ◌∙◌, arith, ap, Ok}
+use Rattle.crew_io.specs.Puts.{TellsWrites}
 use Rattle.crew_io.specs.Chains.{writes_then}
 use Rattle.day_commands.specs.Applied.{IsApplied, IsDay}
-use Rattle.day_commands.proofs.Applies.{at_refused, at_front, at_memory, at_taken, at_end, at_stop, refused_is_no_want, taken_is_no_fault, on_err}
+use Rattle.day_commands.proofs.Applies.{at_refused, at_front, at_memory, at_taken, at_end, at_stop, refused_is_no_want, taken_is_no_fault, refused_entry_is_no_fault, same_ok, on_err}
 use Rattle.day_commands.proofs.apply.apply_day.Goals as goal
 
 pub returns-in_err-apply_entry-clause-memory : goal.returns-in_err-apply_entry-clause-memory
@@ -57,3 +58,13 @@ returns-clause-says g c = λ text whole.
     let day = subst (λ es. IsDay text es c.args.day.now.stop) (sym c.as_slice-entries.ensures) whole in
     at_stop text c.as_slice-entries.result.now c.loop-n.n c.args.day.now.stop c.in-Some.stop (g.K.Sink.got c.args.out.now) (g.K.Sink.got c.loop-n.out) (g.K.Sink.got c.refuse-2.new.out) c.refuse-2.result
     day (let t = c.loop-n-test.false in omega arith) c.loop-n.invariant.taken c.loop-n.invariant.so_far c.in-Some.is c.refuse-2.ensures.refused c.refuse-2.ensures.part c.refuse-2.ensures.others
+
+pub returns-in-Refused-clause-tells : goal.returns-in-Refused-clause-tells
+returns-in-Refused-clause-tells g c =
+    let none_yet : TellsWrites g.K.Sink c.args.out.now c.apply_entry.new.out ⊥ =
+    writes_then g.K.Sink _ _ _ (λ fault. fault) c.loop-n.invariant.tells c.in_ok-apply_entry.ensures.tells (λ fault. absurd fault)
+    (λ e. refused_entry_is_no_fault c.in_ok-apply_entry.field-0 c.in-Refused.fault c.in-Refused.is e) in
+    writes_then g.K.Sink _ _ _ (λ fault. fault) none_yet c.refuse.ensures.tells (λ e. same_ok e) (λ e. ap Ok e)
+
+pub returns-clause-tells : goal.returns-clause-tells
+returns-clause-tells g c = writes_then g.K.Sink _ _ _ (λ fault. fault) c.loop-n.invariant.tells c.refuse-2.ensures.tells (λ e. same_ok e) (λ e. ap Ok e)

@@ -135,5 +135,5 @@ returns-in-No g c =
       memory = tt;
       ended = λ e. absurd (cc);
       reads = reads_then g.S.Source _ _ _ (λ fault. fault) i.reads c.in_ok-verdict.ensures.tells (λ e. absurd (cc)) (λ e. absurd (not_fault _ _ c.in-No.is (λ f. cc) e));
-      writes = writes_then g.K.Sink _ _ _ (λ fault. fault) i.writes (puts_tell g.K.Sink _ _ _ _ c.in_default-put_no.ensures) (λ e. absurd (cc)) (λ e. cc);
+      writes = writes_then g.K.Sink _ _ _ (λ fault. fault) i.writes (puts_tell g.K.Sink _ _ _ _ c.in_default-put_no.ensures) (λ e. absurd (cc)) (λ e. absurd (cc));
     }
