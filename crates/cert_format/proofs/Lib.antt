@@ -2,7 +2,6 @@ pub mod Fields
 pub mod Names
 pub mod Rests
 pub mod Visits
-pub mod Heads
 pub mod Rows
 pub mod Accepted
 pub mod Wrong
@@ -11,5 +10,4 @@ pub mod NodeLines
 pub mod Pairs
 pub mod Runs
 pub mod OneAnswer
-pub mod ReadBack
 pub mod Faults

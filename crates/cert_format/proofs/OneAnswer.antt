@@ -26,7 +26,7 @@ use Rattle.cert_format.specs.declared.kinds.LineFault.{LineFault}
 use Rattle.cert_format.specs.declared.kinds.LineFault.TheVariants.{Shape, Number, Name}
 use Rattle.cert_format.specs.Lines.{IsFormLine, IsSizeLine, IsFrozenLine, IsKeepLine, IsWhyLine, IsStepsOf, IsPlaceLine, IsTimesLine, IsTeamOf, IsTaskOf, IsPoolLine, IsRouteOf, IsPlanLine, IsJobLine, IsTreeLine, IsNodeLine, IsPriceLine, IsExtraLine, IsWorthLine, IsPhiLine, IsEndLine, IsLineOf, WindowShape, PairShape, BareShape, OpenShape, ClosedShape, HasShape, HasNames, IsFaultOf, ReadsLine}
 use Rattle.cert_format.specs.Fields.{visit_numbers, run_numbers}
-use Rattle.cert_format.specs.ReadBack.{HasCounts}
+use Rattle.cert_format.specs.Counts.{HasCounts}
 use Rattle.cert_format.proofs.LeafLines.{price_fits, worth_fits}
 use Rattle.cert_format.proofs.Visits.{visits_map}
 use Rattle.cert_format.proofs.Runs.{runs_signed, runs_fit}

@@ -16,4 +16,6 @@ mod forms;
 #[cfg(test)]
 mod lines;
 #[cfg(test)]
+mod rosters;
+#[cfg(test)]
 mod trees;
