@@ -103,7 +103,12 @@ fn floors_of_scaled_ratios(rt: HostRuntime) {
             a: num,
             b: scale,
         };
-        same_at(&rt, &floor_scaled(num, den, scale), &floor.ok_or(fault), &(num, den, scale));
+        same_at(
+            &rt,
+            &floor_scaled(num, den, scale),
+            &floor.ok_or(fault),
+            &(num, den, scale),
+        );
     }
 }
 

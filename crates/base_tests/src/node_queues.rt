@@ -12,8 +12,18 @@ fn oldest_of_least_bound_comes_first(rt: HostRuntime) -> Result<(), Fail> {
     }
     for expected in [(i128::MIN, 11), (i128::MIN, 13), (5, 10), (i128::MAX, 12)] {
         let key = queue.least();
-        same_at(&rt, &key.and_then(|key| queue.item(key)), &Some(expected.1), &expected);
-        same_at(&rt, &key.and_then(|key| queue.take(key)), &Some(expected), &expected);
+        same_at(
+            &rt,
+            &key.and_then(|key| queue.item(key)),
+            &Some(expected.1),
+            &expected,
+        );
+        same_at(
+            &rt,
+            &key.and_then(|key| queue.take(key)),
+            &Some(expected),
+            &expected,
+        );
     }
     same(&rt, &queue.len(), &0);
     same(&rt, &queue.least(), &None);

@@ -30,7 +30,12 @@ fn assert_numbers(rt: &impl Abort, cuts: &mut Cuts, line: &[u8], wanted: &[Optio
 #[test]
 fn cuts_at_each_space(rt: HostRuntime) -> Result<(), Fail> {
     let mut cuts = Cuts::new(rt.alloc())?;
-    assert_words(&rt, &mut cuts, b"size 4  2 ", &[b"size", b"4", b"", b"2", b""]);
+    assert_words(
+        &rt,
+        &mut cuts,
+        b"size 4  2 ",
+        &[b"size", b"4", b"", b"2", b""],
+    );
     Ok(())
 }
 
@@ -265,7 +270,10 @@ fn reads_rows(rt: HostRuntime) -> Result<(), Fail> {
         (b"trip a 00:00 6", fault(3, Cause::Range)),
         (b"trip a 00:00 -6", fault(3, Cause::Range)),
         (b"trip a 00:00 06", fault(3, Cause::Spelling)),
-        (b"trip a 00:00 9223372036854775808", fault(3, Cause::Spelling)),
+        (
+            b"trip a 00:00 9223372036854775808",
+            fault(3, Cause::Spelling),
+        ),
         (b"trip  00:00 0", fault(1, Cause::Spelling)),
     ] {
         same(&rt, &reads(&mut cuts, line), &told);
