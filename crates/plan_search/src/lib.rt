@@ -12,5 +12,7 @@ mod picks;
 mod places;
 mod search;
 mod walks;
+mod weights;
 
 pub use bettered::{Effort, better};
+pub use weights::{WEIGHT_OF_PRICES, weights_of};
