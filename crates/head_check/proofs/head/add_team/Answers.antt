@@ -21,4 +21,4 @@ returns-in_ok-due_teams-in-Ok c =
     subst (λ (h : Head). HeadTells (after_team (opening_of h) c.args.more (instance_so_far h.builder h.size.places) c.args.team (IsTrue c.args.rises)) (More due)) e
     (team_more (opening_of b) c.args.more b.builder c.team.new.self b.size.places c.args.team (IsTrue c.args.rises) due
     c.if-rises.true (omega arith) head.places (subst (λ (h : Head). c.args.team.home < h.size.places) (sym e) c.requires.home)
-    (λ h. let e = (c.in-Ok.ensures.same_name).1 h in cc) (λ h. let e = (c.in-Ok.ensures.bad_shift).1 h in cc) c.in-Ok.ensures.ok c.in_ok-due_teams-in-Ok.ensures)
+    (λ h. let e = (c.in-Ok.ensures.same_name).1 h in cc) (λ h. let e = (c.in-Ok.ensures.bad_shift).1 (h.0, (h.1, h.2)) in cc) c.in-Ok.ensures.ok c.in_ok-due_teams-in-Ok.ensures)
