@@ -39,7 +39,7 @@ fn the_no_line_is_that_of_a_check(rt: HostRuntime) -> Result<(), Fail> {
     assert_told(&rt, &told, Status::No, b"no 20 Potential 0 1\n");
     let behind = joined(rt.alloc(), &[&text_of(rt.alloc(), TOGETHER)?, &low])?;
     let told = rosters(rt.alloc(), behind)?;
-    let lines = joined(rt.alloc(), &[BOTH, b"no 34 Potential 0 1\n"])?;
+    let lines = joined(rt.alloc(), &[BOTH, b"no 35 Potential 0 1\n"])?;
     assert_told(&rt, &told, Status::No, &lines);
     let told = rosters(rt.alloc(), Vec::new(rt.alloc()))?;
     assert_told(&rt, &told, Status::No, b"no 1 End\n");
@@ -50,6 +50,6 @@ fn the_no_line_is_that_of_a_check(rt: HostRuntime) -> Result<(), Fail> {
 fn a_write_that_fails_leaves_a_front(rt: HostRuntime) -> Result<(), Fail> {
     let input = text_of(rt.alloc(), ONE_TASK)?;
     let told = answer(rt.alloc(), &["rosters"], input, &[], &[3])?;
-    assert_told(&rt, &told, Status::WriteFault, b"roster 0 1\nte");
+    assert_told(&rt, &told, Status::WriteFault, b"roster 0 1\n");
     Ok(())
 }
