@@ -1,6 +1,7 @@
 // Each public call once, and lines at the edges of what a reader may hand out.
 use crew_io::lines::{Got, LineReader, Progress};
-use crew_io::sink::{MemSink, Sink, StdSink, SteadySink, WriteFault, put_all};
+use crew_io::put::put_all;
+use crew_io::sink::{MemSink, Sink, StdSink, SteadySink, WriteFault};
 use crew_io::source::{Failed, MemSource, Source, StdSource, SteadySource};
 use crew_io::text::{Text, read_text};
 use std::io;

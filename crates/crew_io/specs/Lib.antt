@@ -1,5 +1,10 @@
 pub mod Io
 pub mod Appends
+pub mod Fronts
+pub mod Puts
+pub mod Chains
+pub mod Draws
+pub mod Bytes
 pub mod Memory
 pub mod KeptSource
 pub mod KeptSteady

@@ -2,6 +2,7 @@
 #![tactic(auto)]
 
 pub mod lines;
+pub mod put;
 mod script;
 pub mod sink;
 pub mod source;

@@ -4,6 +4,7 @@ ghost use Rattle.std.specs.Borrow.{sem, follows_so};
 ghost use mathlib.Core.Option.{none};
 ghost use Rattle.crew_io.specs.contracts.lines.LineReader.{the_row};
 ghost use Rattle.crew_io.specs.Got.{GotNext};
+ghost use Rattle.crew_io.specs.Draws.{TellsReads};
 ghost use Rattle.crew_io.specs.Io.{MOST, Rose, HasEnded};
 ghost use Rattle.crew_io.specs.Lines.{fresh_reader, allowance, rest_of, with_left, took_line, IsLineLength, Advances, Steps};
 
@@ -248,10 +249,7 @@ impl LineReader {
     fn read_line<S: Source>(&mut self, src: &mut S) -> Progress
         requires { self.old.stopped ≡ None }
         ensures advances { Advances self.old (S.left src.old) result self.new (S.left src.new) }
-        ensures fault { result ≡ Progress.ReadFault → Rose (S.faults src.old) (S.faults src.new) }
-        ensures told { result ≢ Progress.ReadFault → S.faults src.new ≡ S.faults src.old }
-        ensures later { S.faults src.old ≤ S.faults src.new }
-        ensures steady { S.steady src.old → S.steady src.new × (result ≢ Progress.ReadFault) }
+        ensures tells { TellsReads S.Source src.old src.new (result ≡ Progress.ReadFault) }
     {
         let allowed = self.allowance();
         loop {
@@ -279,11 +277,8 @@ impl LineReader {
     /// no source and give that answer again.
     pub fn advance<S: Source>(&mut self, src: &mut S) -> Progress
         ensures steps { Steps self.old (S.left src.old) result self.new (S.left src.new) }
-        ensures fault { self.old.stopped ≡ None → result ≡ Progress.ReadFault → Rose (S.faults src.old) (S.faults src.new) }
-        ensures told { result ≢ Progress.ReadFault → S.faults src.new ≡ S.faults src.old }
-        ensures again { IsSome self.old.stopped → S.faults src.new ≡ S.faults src.old }
-        ensures later { S.faults src.old ≤ S.faults src.new }
-        ensures steady { self.old.stopped ≡ None → S.steady src.old → S.steady src.new × (result ≢ Progress.ReadFault) }
+        ensures tells { self.old.stopped ≡ None → TellsReads S.Source src.old src.new (result ≡ Progress.ReadFault) }
+        ensures again { IsSome self.old.stopped → src.new ≡ src.old }
     {
         match self.stopped {
             Some(answer) => answer,
@@ -296,11 +291,8 @@ impl LineReader {
     pub fn next<S: Source>(&mut self, src: &mut S) -> Got<'_>
         ensures* after { sem 𝓛 (follows_so the_row the_row self.entry.ghost_name none (λ _ _. ⊤)
             (λ new. GotNext self.old (S.left src.old) result new (S.left src.new))) }
-        ensures fault { self.old.stopped ≡ None → result ≡ Got.ReadFault → Rose (S.faults src.old) (S.faults src.new) }
-        ensures told { result ≢ Got.ReadFault → S.faults src.new ≡ S.faults src.old }
-        ensures again { IsSome self.old.stopped → S.faults src.new ≡ S.faults src.old }
-        ensures later { S.faults src.old ≤ S.faults src.new }
-        ensures steady { self.old.stopped ≡ None → S.steady src.old → S.steady src.new × (result ≢ Got.ReadFault) }
+        ensures tells { self.old.stopped ≡ None → TellsReads S.Source src.old src.new (result ≡ Got.ReadFault) }
+        ensures again { IsSome self.old.stopped → src.new ≡ src.old }
     {
         match self.advance(src) {
             Progress::Line => Got::Line(self.line()),

@@ -2,7 +2,7 @@
 ghost use Rattle.std.specs.Prelude.{◌≡◌, ◌≤◌, ◌<◌, ◌+◌, ◌-◌, ◌↔◌, ◌++◌, ⊤, [], List, ℕ, Option, Some, None, Ok, length, take, min, IfOk, OnOk, OnErr, IsOk, IsErr};
 ghost use Rattle.std.specs.Io.KnownBytes.{WriteAppends, Keeps};
 ghost use Rattle.std.specs.Io.Buffered.{writer_buffer, writer_contents};
-ghost use Rattle.crew_io.specs.Io.{Rose, Took, Appended, AppendedPart, one_more};
+ghost use Rattle.crew_io.specs.Io.{Rose, Took, one_more};
 ghost use Rattle.crew_io.specs.Memory.{FailsNext, IsRefused, store_failed, store_took};
 ghost use Rattle.crew_io.specs.Std.{writer_of, write_faults};
 
@@ -298,25 +298,4 @@ impl<W: Write + Drop> Sink for StdSink<W> {
             Err(_) => Err(self.fail()),
         }
     }
-}
-
-/// Writes all bytes. After a fault the sink has taken a front of them, which may be all of them. It takes no
-/// memory.
-pub fn put_all<K: Sink>(sink: &mut K, bytes: &[u8]) -> Result<(), WriteFault>
-    ensures all { OnOk result (Appended (K.got sink.old) (K.got sink.new) bytes.now) }
-    ensures part { OnErr result (AppendedPart (K.got sink.old) (K.got sink.new) bytes.now) }
-    ensures later { K.faults sink.old ≤ K.faults sink.new }
-    ensures cause { IsErr result → Rose (K.faults sink.old) (K.faults sink.new) }
-    ensures told { OnOk result (K.faults sink.new ≡ K.faults sink.old) }
-    ensures steady { K.steady sink.old → K.steady sink.new × (IsErr result → K.full sink.new) }
-    ensures full { K.full sink.old → K.full sink.new }
-{
-    let mut at = 0;
-    while at < bytes.len() {
-        match sink.write(&bytes[at..]) {
-            Ok(n) => at += n,
-            Err(Failed) => return Err(WriteFault),
-        }
-    }
-    Ok(())
 }

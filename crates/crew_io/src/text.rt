@@ -1,6 +1,6 @@
 // All the bytes of a source, up to a limit.
 ghost use Rattle.std.specs.Prelude.{◌≡◌, ◌≢◌, ◌≤◌, ◌<◌, Ok, length, slice_range, vec_len, IfOk, OnOk, OnErr, IsOk, IsErr};
-ghost use Rattle.crew_io.specs.Io.{Rose};
+ghost use Rattle.crew_io.specs.Draws.{TellsReads};
 ghost use Rattle.crew_io.specs.Lines.{with_left};
 ghost use Rattle.crew_io.specs.Text.{HasAtMost, TookAtMost, ReadsText};
 
@@ -73,10 +73,7 @@ fn make_room(room: &mut Vec<u8>, len: usize, most: usize) -> Result<(), AllocErr
 fn read_end<S: Source>(src: &mut S, read: Vec<u8>) -> Text
     ensures reads { ReadsText (length read.items) (with_left read.items (S.left src.old)) result (S.left src.new) }
     ensures within { HasAtMost (length read.items) result }
-    ensures later { S.faults src.old ≤ S.faults src.new }
-    ensures fault { result ≡ Text.ReadFault → Rose (S.faults src.old) (S.faults src.new) }
-    ensures told { result ≢ Text.ReadFault → S.faults src.new ≡ S.faults src.old }
-    ensures steady { S.steady src.old → S.steady src.new × (result ≢ Text.ReadFault) }
+    ensures tells { TellsReads S.Source src.old src.new (result ≡ Text.ReadFault) }
 {
     let mut next = [0u8; 1];
     match src.read(&mut next) {
@@ -93,10 +90,7 @@ pub fn read_text<S: Source>(alloc: Global, src: &mut S, most: usize) -> Result<T
     ensures reads { IfOk result (λ text. ReadsText most (S.left src.old) text (S.left src.new)) }
     ensures within { IfOk result (HasAtMost most) }
     ensures err { OnErr result (TookAtMost most (S.left src.old) (S.left src.new)) }
-    ensures later { S.faults src.old ≤ S.faults src.new }
-    ensures fault { result ≡ Ok Text.ReadFault → Rose (S.faults src.old) (S.faults src.new) }
-    ensures told { result ≢ Ok Text.ReadFault → S.faults src.new ≡ S.faults src.old }
-    ensures steady { S.steady src.old → S.steady src.new × (result ≢ Ok Text.ReadFault) }
+    ensures tells { TellsReads S.Source src.old src.new (result ≡ Ok Text.ReadFault) }
 {
     let mut room = Vec::new(alloc);
     let mut len = 0;

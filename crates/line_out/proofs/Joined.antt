@@ -3,7 +3,7 @@ use Rattle.std.proofs.Common.{◌≡◌, ◌<◌, ◌+◌, ◌++◌, ◌∷◌, 
 use Rattle.std.specs.List.{join_with_byte}
 use Rattle.std.proofs.lemmas.List.{take_more, map-append, take-append-drop}
 use Rattle.crew_terms.specs.Words.{Words, line_text}
-use Rattle.line_out.specs.Fronts.{IsFront, front_within}
+use Rattle.crew_io.specs.Fronts.{IsFront, front_within}
 
 -- what stands before the next word
 abbrev pub gap_after : Words → List ℕ

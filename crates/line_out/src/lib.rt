@@ -1,13 +1,15 @@
 // A line of words, written to a sink.
 #![tactic(auto)]
 
-ghost use Rattle.std.specs.Prelude.{◌≡◌, ◌≤◌, ◌++◌, [], ◌∷◌, map, OnOk, OnErr, IsErr};
-ghost use Rattle.crew_io.specs.Io.{Rose, Appended, AppendedPart};
+ghost use Rattle.std.specs.Prelude.{◌≡◌, ◌++◌, [], ◌∷◌, map, OnOk};
+ghost use Rattle.std.specs.Fmt.{decimal};
+ghost use Rattle.crew_io.specs.Puts.{Puts};
 ghost use Rattle.crew_terms.specs.Words.{line_text};
 ghost use Rattle.line_out.specs.Parts.{part_word};
 
 use arrayvec::ArrayVec;
-use crew_io::sink::{Sink, WriteFault, put_all};
+use crew_io::put::put_all;
+use crew_io::sink::{Sink, WriteFault};
 use itoa::Buffer;
 
 /// A line that is short enough to be put at once.
@@ -87,12 +89,7 @@ fn gather(line: &mut ShortLine, parts: &[Part<'_>]) -> Result<(), Longer>
 }
 
 fn put_part<K: Sink>(out: &mut K, part: &Part<'_>) -> Result<(), WriteFault>
-    ensures all { OnOk result (Appended (K.got out.old) (K.got out.new) (part_word part.now)) }
-    ensures part { OnErr result (AppendedPart (K.got out.old) (K.got out.new) (part_word part.now)) }
-    ensures later { K.faults out.old ≤ K.faults out.new }
-    ensures cause { IsErr result → Rose (K.faults out.old) (K.faults out.new) }
-    ensures told { OnOk result (K.faults out.new ≡ K.faults out.old) }
-    ensures steady { K.steady out.old → K.steady out.new × (IsErr result → K.full out.new) }
+    ensures { Puts K.Sink (part_word part.now) out.old out.new result }
 {
     match part {
         Part::Word(word) => put_all(out, word),
@@ -105,12 +102,7 @@ fn put_part<K: Sink>(out: &mut K, part: &Part<'_>) -> Result<(), WriteFault>
 
 /// Writes a line of any length, a word at a time.
 fn put_long<K: Sink>(out: &mut K, parts: &[Part<'_>]) -> Result<(), WriteFault>
-    ensures all { OnOk result (Appended (K.got out.old) (K.got out.new) (line_text (map part_word parts.now))) }
-    ensures part { OnErr result (AppendedPart (K.got out.old) (K.got out.new) (line_text (map part_word parts.now))) }
-    ensures later { K.faults out.old ≤ K.faults out.new }
-    ensures cause { IsErr result → Rose (K.faults out.old) (K.faults out.new) }
-    ensures told { OnOk result (K.faults out.new ≡ K.faults out.old) }
-    ensures steady { K.steady out.old → K.steady out.new × (IsErr result → K.full out.new) }
+    ensures { Puts K.Sink (line_text (map part_word parts.now)) out.old out.new result }
 {
     let mut before = b"".as_slice();
     for part in parts {
@@ -124,16 +116,27 @@ fn put_long<K: Sink>(out: &mut K, parts: &[Part<'_>]) -> Result<(), WriteFault>
 /// Writes a line of these parts with its LF; it takes no memory. After a fault, a front of the line was
 /// written.
 pub fn put_line<K: Sink>(out: &mut K, parts: &[Part<'_>]) -> Result<(), WriteFault>
-    ensures all { OnOk result (Appended (K.got out.old) (K.got out.new) (line_text (map part_word parts.now))) }
-    ensures part { OnErr result (AppendedPart (K.got out.old) (K.got out.new) (line_text (map part_word parts.now))) }
-    ensures later { K.faults out.old ≤ K.faults out.new }
-    ensures cause { IsErr result → Rose (K.faults out.old) (K.faults out.new) }
-    ensures told { OnOk result (K.faults out.new ≡ K.faults out.old) }
-    ensures steady { K.steady out.old → K.steady out.new × (IsErr result → K.full out.new) }
+    ensures { Puts K.Sink (line_text (map part_word parts.now)) out.old out.new result }
 {
     let mut line = ShortLine::new();
     match gather(&mut line, parts) {
         Ok(()) => put_all(out, &line),
         Err(Longer) => put_long(out, parts),
     }
+}
+
+/// Writes a line of a word, a number and one more word.
+pub fn put_word<'a, K: Sink>(
+    out: &mut K,
+    first: &'a [u8],
+    number: u64,
+    word: &'a [u8],
+) -> Result<(), WriteFault>
+    ensures { Puts K.Sink (line_text (first.now ∷ decimal number ∷ word.now ∷ []))
+        out.old out.new result }
+{
+    put_line(
+        out,
+        &[Part::Word(first), Part::Number(number), Part::Word(word)],
+    )
 }

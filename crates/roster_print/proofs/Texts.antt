@@ -6,16 +6,12 @@ use Rattle.std.proofs.lemmas.List.FromFn.{get_or-range_with_len}
 use Rattle.crew_terms.specs.Words.{Words, line_text}
 use Rattle.crew_terms.specs.Instance.{Instance}
 use Rattle.crew_terms.specs.Plan.{Plan}
-use Rattle.line_out.specs.Fronts.{IsFront}
+use Rattle.crew_io.specs.Fronts.{IsFront}
 use Rattle.roster_print.specs.Roster.{open_line, roster_text, shift_line, summary_line, team_lines, tasks_in_turn, turn_line, unassigned_tasks}
 
 -- the text of lines
 abbrev pub text : List Words → List ℕ
 text lines = flat_map line_text lines
-
-pub of_each : {A : Type 0} (line : A → Words) (xs : List A) → flat_map (λ x. line_text (line x)) xs ≡ text (map line xs)
-of_each line [] = refl
-of_each line (x ∷ xs) = ap (λ r. line_text (line x) ++ r) (of_each line xs)
 
 pub of_lists : {A : Type 0} (lines : A → List Words) (xs : List A) → flat_map (λ x. text (lines x)) xs ≡ text (flat_map lines xs)
 of_lists lines [] = refl
@@ -49,7 +45,7 @@ roster_parts i p =
     ∙ sym (append_assoc (line_text (summary_line i p)) (text teams) (text open_ones))
 
 -- the first part, and the first two, stand at the front
-pub summary_front : (i : Instance) (p : Plan) → IsFront ([] ++ line_text (summary_line i p)) (roster_text i p)
+pub summary_front : (i : Instance) (p : Plan) → IsFront (line_text (summary_line i p)) (roster_text i p)
 summary_front i p =
     let teams = text (flat_map (team_lines i p) (range_with_len 0 (length i.teams))) in
     let open_ones = text (map (open_line i) (unassigned_tasks p)) in
@@ -57,18 +53,6 @@ summary_front i p =
 
 pub teams_front : (i : Instance) (p : Plan) → IsFront (line_text (summary_line i p) ++ text (flat_map (team_lines i p) (range_with_len 0 (length i.teams)))) (roster_text i p)
 teams_front i p = record { rest = text (map (open_line i) (unassigned_tasks p)); is = roster_parts i p }
-
-pub team_whole : (i : Instance) (p : Plan) (k : ℕ) → IsFront (line_text (shift_line i k) ++ text (map (turn_line i p k) (tasks_in_turn p k))) (text (team_lines i p k))
-team_whole i p k = record { rest = []; is = team_parts i p k ∙ sym (append-nil (line_text (shift_line i k) ++ text (map (turn_line i p k) (tasks_in_turn p k)))) }
-
-pub roster_whole : (i : Instance) (p : Plan)
-    → IsFront ((line_text (summary_line i p) ++ text (flat_map (team_lines i p) (range_with_len 0 (length i.teams)))) ++ text (map (open_line i) (unassigned_tasks p))) (roster_text i p)
-roster_whole i p = record {
-  rest = [];
-  is =
-      roster_parts i p
-      ∙ sym (append-nil ((line_text (summary_line i p) ++ text (flat_map (team_lines i p) (range_with_len 0 (length i.teams)))) ++ text (map (open_line i) (unassigned_tasks p))));
-}
 
 pub of_mapped : {A : Type 0} (line : ℕ → Words) (f : A → ℕ) (xs : List A) → flat_map (λ x. line_text (line (f x))) xs ≡ text (map line (map f xs))
 of_mapped line f [] = refl

@@ -1,7 +1,7 @@
 // The roster of a plan, written.
 #![tactic(auto)]
 
-ghost use Rattle.std.specs.Prelude.{◌≡◌, ◌≤◌, ◌<◌, ◌+◌, ◌++◌, [], ◌∷◌, ℕ, length, map, OnOk, OnErr, IsErr, All};
+ghost use Rattle.std.specs.Prelude.{◌≡◌, ◌≤◌, ◌<◌, ◌+◌, ◌++◌, [], ◌∷◌, ℕ, length, map, All};
 ghost use Rattle.std.specs.List.{filter, flat_map, range_with_len};
 ghost use Rattle.arrayvec.specs.ArrayVec.{array_vec_len};
 ghost use Rattle.crew_terms.specs.Words.{line_text};
@@ -9,7 +9,7 @@ ghost use Rattle.crew_terms.specs.Plan.{Does};
 ghost use Rattle.crew_terms.specs.Legal.{IsLegal};
 ghost use Rattle.crew_terms.specs.Rules.{IsInstance};
 ghost use Rattle.crew_terms.specs.declared.TheConstants.{LAST_MINUTE, MOST_TEAMS_PER_TASK};
-ghost use Rattle.crew_io.specs.Io.{Rose, Appended, AppendedPart};
+ghost use Rattle.crew_io.specs.Puts.{Puts};
 ghost use Rattle.field_table.specs.Clocks.{clock_text};
 ghost use Rattle.line_out.specs.Parts.{part_word};
 ghost use Rattle.roster_print.specs.Roster.{is_unassigned, open_line, partner_words, roster_text, shift_line, summary_line, tasks_in_turn, team_lines, turn_line, unassigned_tasks};
@@ -38,12 +38,7 @@ fn clock(minute: u32) -> [u8; 5]
 }
 
 fn put_summary<K: Sink>(out: &mut K, instance: &Instance, plan: &Plan) -> Result<(), WriteFault>
-    ensures all { OnOk result (Appended (K.got out.old) (K.got out.new) (line_text (summary_line instance.now plan.now))) }
-    ensures part { OnErr result (AppendedPart (K.got out.old) (K.got out.new) (line_text (summary_line instance.now plan.now))) }
-    ensures later { K.faults out.old ≤ K.faults out.new }
-    ensures cause { IsErr result → Rose (K.faults out.old) (K.faults out.new) }
-    ensures told { OnOk result (K.faults out.new ≡ K.faults out.old) }
-    ensures steady { K.steady out.old → K.steady out.new × (IsErr result → K.full out.new) }
+    ensures { Puts K.Sink (line_text (summary_line instance.now plan.now)) out.old out.new result }
 {
     let open = Part::Number(unassigned(plan) as u64);
     let tasks = Part::Number(instance.tasks() as u64);
@@ -52,12 +47,7 @@ fn put_summary<K: Sink>(out: &mut K, instance: &Instance, plan: &Plan) -> Result
 
 fn put_shift<K: Sink>(out: &mut K, instance: &Instance, k: u32) -> Result<(), WriteFault>
     requires { k < length instance.now.teams }
-    ensures all { OnOk result (Appended (K.got out.old) (K.got out.new) (line_text (shift_line instance.now k))) }
-    ensures part { OnErr result (AppendedPart (K.got out.old) (K.got out.new) (line_text (shift_line instance.now k))) }
-    ensures later { K.faults out.old ≤ K.faults out.new }
-    ensures cause { IsErr result → Rose (K.faults out.old) (K.faults out.new) }
-    ensures told { OnOk result (K.faults out.new ≡ K.faults out.old) }
-    ensures steady { K.steady out.old → K.steady out.new × (IsErr result → K.full out.new) }
+    ensures { Puts K.Sink (line_text (shift_line instance.now k)) out.old out.new result }
 {
     let team = instance.team(k);
     let from = clock(team.from);
@@ -103,12 +93,8 @@ fn put_turn<K: Sink>(
     requires limits { IsInstance instance.now }
     requires legal { IsLegal instance.now plan.now }
     requires turn { Does plan.now k turn.task turn.start }
-    ensures all { OnOk result (Appended (K.got out.old) (K.got out.new) (line_text (turn_line instance.now plan.now k turn.task))) }
-    ensures part { OnErr result (AppendedPart (K.got out.old) (K.got out.new) (line_text (turn_line instance.now plan.now k turn.task))) }
-    ensures later { K.faults out.old ≤ K.faults out.new }
-    ensures cause { IsErr result → Rose (K.faults out.old) (K.faults out.new) }
-    ensures told { OnOk result (K.faults out.new ≡ K.faults out.old) }
-    ensures steady { K.steady out.old → K.steady out.new × (IsErr result → K.full out.new) }
+    ensures { Puts K.Sink (line_text (turn_line instance.now plan.now k turn.task))
+        out.old out.new result }
 {
     let task = instance.task(turn.task);
     let begins = clock(turn.start);
@@ -133,12 +119,8 @@ fn put_turns<K: Sink>(
 ) -> Result<(), WriteFault>
     requires limits { IsInstance instance.now }
     requires legal { IsLegal instance.now plan.now }
-    ensures all { OnOk result (Appended (K.got out.old) (K.got out.new) (flat_map line_text (map (turn_line instance.now plan.now k) (tasks_in_turn plan.now k)))) }
-    ensures part { OnErr result (AppendedPart (K.got out.old) (K.got out.new) (flat_map line_text (map (turn_line instance.now plan.now k) (tasks_in_turn plan.now k)))) }
-    ensures later { K.faults out.old ≤ K.faults out.new }
-    ensures cause { IsErr result → Rose (K.faults out.old) (K.faults out.new) }
-    ensures told { OnOk result (K.faults out.new ≡ K.faults out.old) }
-    ensures steady { K.steady out.old → K.steady out.new × (IsErr result → K.full out.new) }
+    ensures { Puts K.Sink (flat_map line_text (map (turn_line instance.now plan.now k) (tasks_in_turn plan.now k)))
+        out.old out.new result }
 {
     let mut turns = ArrayVec::new();
     fill_turns(plan, k, &mut turns);
@@ -157,12 +139,8 @@ fn put_team<K: Sink>(
     requires limits { IsInstance instance.now }
     requires legal { IsLegal instance.now plan.now }
     requires team { k < length instance.now.teams }
-    ensures all { OnOk result (Appended (K.got out.old) (K.got out.new) (flat_map line_text (team_lines instance.now plan.now k))) }
-    ensures part { OnErr result (AppendedPart (K.got out.old) (K.got out.new) (flat_map line_text (team_lines instance.now plan.now k))) }
-    ensures later { K.faults out.old ≤ K.faults out.new }
-    ensures cause { IsErr result → Rose (K.faults out.old) (K.faults out.new) }
-    ensures told { OnOk result (K.faults out.new ≡ K.faults out.old) }
-    ensures steady { K.steady out.old → K.steady out.new × (IsErr result → K.full out.new) }
+    ensures { Puts K.Sink (flat_map line_text (team_lines instance.now plan.now k))
+        out.old out.new result }
 {
     put_shift(out, instance, k)?;
     put_turns(out, instance, plan, k)
@@ -170,12 +148,8 @@ fn put_team<K: Sink>(
 
 fn put_teams<K: Sink>(out: &mut K, instance: &Instance, plan: &Plan) -> Result<(), WriteFault>
     requires { IsLegal instance.now plan.now }
-    ensures all { OnOk result (Appended (K.got out.old) (K.got out.new) (flat_map line_text (flat_map (team_lines instance.now plan.now) (range_with_len 0 (length instance.now.teams))))) }
-    ensures part { OnErr result (AppendedPart (K.got out.old) (K.got out.new) (flat_map line_text (flat_map (team_lines instance.now plan.now) (range_with_len 0 (length instance.now.teams))))) }
-    ensures later { K.faults out.old ≤ K.faults out.new }
-    ensures cause { IsErr result → Rose (K.faults out.old) (K.faults out.new) }
-    ensures told { OnOk result (K.faults out.new ≡ K.faults out.old) }
-    ensures steady { K.steady out.old → K.steady out.new × (IsErr result → K.full out.new) }
+    ensures { Puts K.Sink (flat_map line_text (flat_map (team_lines instance.now plan.now) (range_with_len 0 (length instance.now.teams))))
+        out.old out.new result }
 {
     for k in 0..instance.teams() as u32 {
         put_team(out, instance, plan, k)?;
@@ -192,12 +166,8 @@ fn put_if_open<K: Sink>(
 ) -> Result<(), WriteFault>
     requires task { j < length instance.now.tasks }
     requires plan { j < length plan.now }
-    ensures all { OnOk result (Appended (K.got out.old) (K.got out.new) (flat_map line_text (map (open_line instance.now) (filter (is_unassigned plan.now) (j ∷ []))))) }
-    ensures part { OnErr result (AppendedPart (K.got out.old) (K.got out.new) (flat_map line_text (map (open_line instance.now) (filter (is_unassigned plan.now) (j ∷ []))))) }
-    ensures later { K.faults out.old ≤ K.faults out.new }
-    ensures cause { IsErr result → Rose (K.faults out.old) (K.faults out.new) }
-    ensures told { OnOk result (K.faults out.new ≡ K.faults out.old) }
-    ensures steady { K.steady out.old → K.steady out.new × (IsErr result → K.full out.new) }
+    ensures { Puts K.Sink (flat_map line_text (map (open_line instance.now) (filter (is_unassigned plan.now) (j ∷ []))))
+        out.old out.new result }
 {
     if plan.start(j).is_some() {
         return Ok(());
@@ -208,12 +178,8 @@ fn put_if_open<K: Sink>(
 
 fn put_open<K: Sink>(out: &mut K, instance: &Instance, plan: &Plan) -> Result<(), WriteFault>
     requires { length plan.now ≡ length instance.now.tasks }
-    ensures all { OnOk result (Appended (K.got out.old) (K.got out.new) (flat_map line_text (map (open_line instance.now) (unassigned_tasks plan.now)))) }
-    ensures part { OnErr result (AppendedPart (K.got out.old) (K.got out.new) (flat_map line_text (map (open_line instance.now) (unassigned_tasks plan.now)))) }
-    ensures later { K.faults out.old ≤ K.faults out.new }
-    ensures cause { IsErr result → Rose (K.faults out.old) (K.faults out.new) }
-    ensures told { OnOk result (K.faults out.new ≡ K.faults out.old) }
-    ensures steady { K.steady out.old → K.steady out.new × (IsErr result → K.full out.new) }
+    ensures { Puts K.Sink (flat_map line_text (map (open_line instance.now) (unassigned_tasks plan.now)))
+        out.old out.new result }
 {
     for j in 0..plan.len() as u32 {
         put_if_open(out, instance, plan, j)?;
@@ -226,12 +192,7 @@ fn put_open<K: Sink>(out: &mut K, instance: &Instance, plan: &Plan) -> Result<()
 /// nobody does. It takes no memory. After a fault, a front of the roster was written.
 pub fn rosters<K: Sink>(out: &mut K, instance: &Instance, plan: &Plan) -> Result<(), WriteFault>
     requires { IsLegal instance.now plan.now }
-    ensures all { OnOk result (Appended (K.got out.old) (K.got out.new) (roster_text instance.now plan.now)) }
-    ensures part { OnErr result (AppendedPart (K.got out.old) (K.got out.new) (roster_text instance.now plan.now)) }
-    ensures later { K.faults out.old ≤ K.faults out.new }
-    ensures cause { IsErr result → Rose (K.faults out.old) (K.faults out.new) }
-    ensures told { OnOk result (K.faults out.new ≡ K.faults out.old) }
-    ensures steady { K.steady out.old → K.steady out.new × (IsErr result → K.full out.new) }
+    ensures { Puts K.Sink (roster_text instance.now plan.now) out.old out.new result }
 {
     put_summary(out, instance, plan)?;
     put_teams(out, instance, plan)?;

@@ -1,69 +1,64 @@
-use Rattle.std.proofs.Common.{◌++◌, ◌∷◌, [], List, ℕ, take, map, sym, ◌∙◌, subst}
+use Rattle.std.proofs.Common.{◌≡◌, ◌<◌, ◌+◌, ◌++◌, ◌∷◌, [], ◌∙◌, List, ℕ, length, take, map, get_or, ap, sym, subst}
 use Rattle.std.specs.List.{join_with_byte}
 use Rattle.std.proofs.lemmas.List.{take_all}
-use Rattle.crew_io.specs.Io.{Appended, AppendedPart}
 use Rattle.crew_terms.specs.Words.{line_text}
-use Rattle.std.proofs.lemmas.Result.{on_err_weaker}
+use Rattle.crew_io.specs.Fronts.{IsFront}
+use Rattle.crew_io.specs.Chains.{puts_nothing, puts_then, puts_done, puts_same, puts_front}
 use Rattle.line_out.specs.Parts.{part_word}
 use Rattle.line_out.specs.declared.Part.{Part}
 use Rattle.line_out.specs.declared.Part.TheVariants.{Number}
-use Rattle.crew_io.specs.Appends.{appended_both}
-use Rattle.line_out.specs.Fronts.{part_after, on_err}
-use Rattle.line_out.proofs.Joined.{gap_after, gap_front, part_front, joined, feed_front, gap_later}
+use Rattle.line_out.proofs.Joined.{gap_after, gap_front, part_front, joined, gap_later}
 use Rattle.line_out.proofs.put_long.Goals as goal
 
-pub returns-in_err-put_all-clause-part : goal.returns-in_err-put_all-clause-part
-returns-in_err-put_all-clause-part g c =
-    let parts = c.args.parts.now in
-    let words = map part_word (take c.loop-part.part-index parts) in
-    let old = g.K.Sink.got c.args.out.now in
-    let mid = g.K.Sink.got c.loop-part.out in
-    let new = g.K.Sink.got c.put_all.new.sink in
-    let gap : AppendedPart mid new (gap_after words) = subst (λ ys. AppendedPart mid new ys) c.loop-part.invariant.gap c.in_err-put_all.ensures.part in
-    on_err c.from_residual.result (AppendedPart old new (line_text (map part_word parts)))
-    (part_after old mid new (join_with_byte 32 words) (gap_after words) (line_text (map part_word parts)) c.loop-part.invariant.so_far gap
-    (gap_front part_word parts c.loop-part.part-index (Number 0) c.loop-part-test.true))
+-- what is written of the parts before this one, and what stands before it
+module _ (parts : List Part) (i : ℕ) (d : Part) (gap : List ℕ) (below : i < length parts) (is : gap ≡ gap_after (map part_word (take i parts))) where
+  gap_is_front : IsFront (join_with_byte 32 (map part_word (take i parts)) ++ gap) (line_text (map part_word parts))
+  gap_is_front = subst (λ (g : List ℕ). IsFront (join_with_byte 32 (map part_word (take i parts)) ++ g) (line_text (map part_word parts))) (sym is) (gap_front part_word parts i d below)
 
-pub returns-in_err-put_part-clause-part : goal.returns-in_err-put_part-clause-part
-returns-in_err-put_part-clause-part g c =
+  part_is_front : IsFront ((join_with_byte 32 (map part_word (take i parts)) ++ gap) ++ part_word (get_or parts i d)) (line_text (map part_word parts))
+  part_is_front =
+      subst (λ (g : List ℕ). IsFront ((join_with_byte 32 (map part_word (take i parts)) ++ g) ++ part_word (get_or parts i d)) (line_text (map part_word parts))) (sym is)
+      (part_front part_word parts i d below)
+
+  one_more : (join_with_byte 32 (map part_word (take i parts)) ++ gap) ++ part_word (get_or parts i d) ≡ join_with_byte 32 (map part_word (take (i + 1) parts))
+  one_more = ap (λ (g : List ℕ). (join_with_byte 32 (map part_word (take i parts)) ++ g) ++ part_word (get_or parts i d)) is ∙ sym (joined part_word parts i d below)
+
+pub loop-part-init : goal.loop-part-init
+loop-part-init g c = record { so_far = puts_nothing g.K.Sink c.args.out.now; gap = c.as_slice-before.ensures }
+
+pub returns-in_err-put_all : goal.returns-in_err-put_all
+returns-in_err-put_all g c =
     let parts = c.args.parts.now in
-    let words = map part_word (take c.loop-part.part-index parts) in
-    let old = g.K.Sink.got c.args.out.now in
-    let mid = g.K.Sink.got c.loop-part.out in
-    let put = g.K.Sink.got c.put_all.new.sink in
-    let new = g.K.Sink.got c.put_part.new.out in
-    let gap : Appended mid put (gap_after words) = subst (λ ys. Appended mid put ys) c.loop-part.invariant.gap c.in_ok-put_all.ensures.all in
-    on_err c.from_residual-in_err-put_part.result (AppendedPart old new (line_text (map part_word parts)))
-    (part_after old put new (join_with_byte 32 words ++ gap_after words) _ (line_text (map part_word parts))
-    (appended_both old mid put (join_with_byte 32 words) (gap_after words) c.loop-part.invariant.so_far gap) c.in_err-put_part.ensures.part
-    (part_front part_word parts c.loop-part.part-index _ c.loop-part-test.true))
+    let so_far = join_with_byte 32 (map part_word (take c.loop-part.part-index parts)) in
+    puts_front g.K.Sink _ _ _ _ _ c.from_residual.result c.from_residual.ensures.0
+    (puts_then g.K.Sink so_far c.loop-part.before.now _ _ _ _ _ c.loop-part.invariant.so_far c.in_err-put_all.ensures.puts)
+    (gap_is_front parts c.loop-part.part-index (Number 0) c.loop-part.before.now c.loop-part-test.true c.loop-part.invariant.gap)
+
+pub returns-in_err-put_part : goal.returns-in_err-put_part
+returns-in_err-put_part g c =
+    let parts = c.args.parts.now in
+    let so_far = join_with_byte 32 (map part_word (take c.loop-part.part-index parts)) in
+    puts_front g.K.Sink _ _ _ _ _ c.from_residual-in_err-put_part.result c.from_residual-in_err-put_part.ensures.0
+    (puts_then g.K.Sink (so_far ++ c.loop-part.before.now) _ _ _ _ _ _
+    (puts_then g.K.Sink so_far c.loop-part.before.now _ _ _ _ _ c.loop-part.invariant.so_far c.in_ok-put_all.ensures.puts) c.in_err-put_part.ensures)
+    (part_is_front parts c.loop-part.part-index _ c.loop-part.before.now c.loop-part-test.true c.loop-part.invariant.gap)
 
 pub loop-part-preserved : goal.loop-part-preserved
 loop-part-preserved g c =
     let parts = c.args.parts.now in
-    let words = map part_word (take c.loop-part.part-index parts) in
-    let old = g.K.Sink.got c.args.out.now in
-    let mid = g.K.Sink.got c.loop-part.out in
-    let put = g.K.Sink.got c.put_all.new.sink in
-    let new = g.K.Sink.got c.put_part.new.out in
-    let gap : Appended mid put (gap_after words) = subst (λ ys. Appended mid put ys) c.loop-part.invariant.gap c.in_ok-put_all.ensures.all in
+    let so_far = join_with_byte 32 (map part_word (take c.loop-part.part-index parts)) in
     record {
-      so_far = subst (λ (xs : List ℕ). Appended old new xs) (sym (joined part_word parts c.loop-part.part-index _ c.loop-part-test.true))
-          (appended_both old put new (join_with_byte 32 words ++ gap_after words) _
-          (appended_both old mid put (join_with_byte 32 words) (gap_after words) c.loop-part.invariant.so_far gap) c.in_ok-put_part.ensures.all);
+      so_far =
+          puts_done g.K.Sink _ _ _ _ _
+          (puts_same g.K.Sink _ _ _ _ _
+          (one_more parts c.loop-part.part-index _ c.loop-part.before.now c.loop-part-test.true c.loop-part.invariant.gap)
+          (puts_then g.K.Sink (so_far ++ c.loop-part.before.now) _ _ _ _ _ _
+          (puts_then g.K.Sink so_far c.loop-part.before.now _ _ _ _ _ c.loop-part.invariant.so_far c.in_ok-put_all.ensures.puts) c.in_ok-put_part.ensures));
       gap = c.as_slice-before-in-loop-part.ensures ∙ gap_later part_word parts c.loop-part.part-index c.loop-part-test.true;
-      faults = c.in_ok-put_part.ensures.told ∙ c.in_ok-put_all.ensures.told ∙ c.loop-part.invariant.faults;
-      steady = λ h. (c.in_ok-put_part.ensures.steady (c.in_ok-put_all.ensures.steady (c.loop-part.invariant.steady h)).0).0;
     }
 
-pub returns-clause-part : goal.returns-clause-part
-returns-clause-part g c =
+pub returns : goal.returns
+returns g c =
     let parts = c.args.parts.now in
-    let old = g.K.Sink.got c.args.out.now in
-    let mid = g.K.Sink.got c.loop-part.out in
-    let new = g.K.Sink.got c.put_all-2.new.sink in
-    let all : Appended old mid (join_with_byte 32 (map part_word parts)) =
-    subst (λ (ps : List Part). Appended old mid (join_with_byte 32 (map part_word ps))) (take_all c.loop-part.part-index parts c.loop-part-test.false) c.loop-part.invariant.so_far in
-    on_err_weaker c.put_all-2.result
-    (λ (b : AppendedPart mid new (10 ∷ [])). part_after old mid new (join_with_byte 32 (map part_word parts)) (10 ∷ []) (line_text (map part_word parts)) all b (feed_front (map part_word parts)))
-    c.put_all-2.ensures.part
+    puts_same g.K.Sink _ _ _ _ _ (ap (λ (ps : List Part). line_text (map part_word ps)) (take_all c.loop-part.part-index parts c.loop-part-test.false))
+    (puts_then g.K.Sink (join_with_byte 32 (map part_word (take c.loop-part.part-index parts))) (10 ∷ []) _ _ _ _ _ c.loop-part.invariant.so_far c.put_all-2.ensures.puts)

@@ -1,48 +1,38 @@
-use Rattle.std.proofs.Common.{◌≡◌, ◌≤◌, ◌<◌, List, ℕ, length, take, ap, sym, subst, ◌∙◌, arith}
-use Rattle.std.specs.List.{flat_map, range_with_len}
-use Rattle.std.proofs.lemmas.List.{take_all}
+use Rattle.std.proofs.Common.{◌≡◌, ◌≤◌, ◌<◌, ◌∷◌, [], List, ℕ, length, map, ap, sym, subst, arith}
+use Rattle.std.specs.List.{filter, flat_map, range_with_len}
 use Rattle.std.proofs.lemmas.List.FromFn.{length-range_with_len}
-use Rattle.crew_io.specs.Io.{Appended, AppendedPart}
-use Rattle.line_out.specs.Fronts.{on_err, text_written, text_part}
+use Rattle.crew_io.specs.Chains.{puts_nothing, puts_same, puts_more, puts_more_front, puts_all}
 use Rattle.roster_print.specs.Roster.{team_lines}
 use Rattle.roster_print.proofs.Texts.{text, numbered, of_lists}
 use Rattle.roster_print.proofs.put_teams.Goals as goal
 
-below : (k n : ℕ) → k < n → k < length (range_with_len 0 n)
-below k n h = subst (λ l. k < l) (sym (length-range_with_len 0 n)) h
+below : (j n : ℕ) → j < n → j < length (range_with_len 0 n)
+below j n h = subst (λ l. j < l) (sym (length-range_with_len 0 n)) h
 
-pub returns-in_err-put_team-clause-part : goal.returns-in_err-put_team-clause-part
-returns-in_err-put_team-clause-part g c =
-    let n = length c.args.instance.now.teams in
-    let one : ℕ → List ℕ = λ k. text (team_lines c.args.instance.now c.args.plan.now k) in
-    let all = range_with_len 0 n in
-    let within : c.loop-k.k < n = (let t = c.loop-k-test.true in let e = c.teams-k-end.ensures.count in omega (arith, t, e)) in
-    on_err c.from_residual.result _
-    (subst (λ (xs : List ℕ). AppendedPart (g.K.Sink.got c.args.out.now) (g.K.Sink.got c.put_team.new.out) xs) (of_lists (team_lines c.args.instance.now c.args.plan.now) all)
-    (text_part one all c.loop-k.k 0 (below c.loop-k.k n within) _ _ _ c.loop-k.invariant.so_far
-    (subst (λ (k : ℕ). AppendedPart (g.K.Sink.got c.loop-k.out) (g.K.Sink.got c.put_team.new.out) (one k)) (sym (numbered n c.loop-k.k within)) c.in_err-put_team.ensures.part)))
+pub loop-k-init : goal.loop-k-init
+loop-k-init g c = puts_nothing g.K.Sink c.args.out.now
 
 pub loop-k-preserved : goal.loop-k-preserved
 loop-k-preserved g c =
     let n = length c.args.instance.now.teams in
     let one : ℕ → List ℕ = λ k. text (team_lines c.args.instance.now c.args.plan.now k) in
-    let all = range_with_len 0 n in
     let within : c.loop-k.k < n = (let t = c.loop-k-test.true in let e = c.teams-k-end.ensures.count in omega (arith, t, e)) in
-    record {
-      so_far =
-          text_written one all c.loop-k.k 0 (below c.loop-k.k n within) _ _ _ c.loop-k.invariant.so_far
-          (subst (λ (k : ℕ). Appended (g.K.Sink.got c.loop-k.out) (g.K.Sink.got c.put_team.new.out) (one k)) (sym (numbered n c.loop-k.k within)) c.in_ok-put_team.ensures.all);
-      faults = c.in_ok-put_team.ensures.told ∙ c.loop-k.invariant.faults;
-      steady = λ h. (c.in_ok-put_team.ensures.steady (c.loop-k.invariant.steady h)).0;
-    }
+    puts_more g.K.Sink one (range_with_len 0 n) c.loop-k.k 0 (below c.loop-k.k n within) _ _ _ _ _ c.loop-k.invariant
+    (puts_same g.K.Sink _ _ _ _ _ (ap one (sym (numbered n c.loop-k.k within))) c.in_ok-put_team.ensures)
 
-pub returns-clause-all : goal.returns-clause-all
-returns-clause-all g c =
+pub returns-in_err-put_team : goal.returns-in_err-put_team
+returns-in_err-put_team g c =
     let n = length c.args.instance.now.teams in
     let one : ℕ → List ℕ = λ k. text (team_lines c.args.instance.now c.args.plan.now k) in
-    let all = range_with_len 0 n in
-    let past : length all ≤ c.loop-k.k =
+    let within : c.loop-k.k < n = (let t = c.loop-k-test.true in let e = c.teams-k-end.ensures.count in omega (arith, t, e)) in
+    puts_same g.K.Sink _ _ _ _ _ (of_lists (team_lines c.args.instance.now c.args.plan.now) (range_with_len 0 n))
+    (puts_more_front g.K.Sink one (range_with_len 0 n) c.loop-k.k 0 (below c.loop-k.k n within) _ _ _ _ _ c.from_residual.result c.from_residual.ensures.0 c.loop-k.invariant
+    (puts_same g.K.Sink _ _ _ _ _ (ap one (sym (numbered n c.loop-k.k within))) c.in_err-put_team.ensures))
+
+pub returns : goal.returns
+returns g c =
+    let n = length c.args.instance.now.teams in
+    let one : ℕ → List ℕ = λ k. text (team_lines c.args.instance.now c.args.plan.now k) in
+    let past : length (range_with_len 0 n) ≤ c.loop-k.k =
     (let t = c.loop-k-test.false in let e = c.teams-k-end.ensures.count in let l = length-range_with_len 0 n in omega (arith, t, e, l)) in
-    let whole : take c.loop-k.k all ≡ all = take_all c.loop-k.k all past in
-    subst (λ (xs : List ℕ). Appended (g.K.Sink.got c.args.out.now) (g.K.Sink.got c.loop-k.out) xs)
-    (ap (flat_map one) whole ∙ of_lists (team_lines c.args.instance.now c.args.plan.now) all) c.loop-k.invariant.so_far
+    puts_same g.K.Sink _ _ _ _ _ (of_lists (team_lines c.args.instance.now c.args.plan.now) (range_with_len 0 n)) (puts_all g.K.Sink one (range_with_len 0 n) c.loop-k.k _ _ _ _ past c.loop-k.invariant)

@@ -1,7 +1,7 @@
 use Rattle.std.proofs.Common.{◌≡◌, ◌≤◌, ◌<◌, ◌+◌, ◌++◌, ℕ, List, length, map, ap, sym, subst, ◌∙◌}
-use Rattle.std.specs.Prelude.{All, OnOk, OnErr}
-use Rattle.crew_io.specs.Io.{Appended, AppendedPart}
-use Rattle.crew_terms.specs.Words.{Words, line_text}
+use Rattle.std.specs.Prelude.{All}
+use Rattle.crew_io.specs.Chains.{puts_same}
+use Rattle.crew_terms.specs.Words.{line_text}
 use Rattle.crew_terms.specs.declared.Task.{Task}
 use Rattle.crew_terms.specs.declared.TheConstants.{LAST_MINUTE}
 use Rattle.crew_instance.specs.Teams.{job_teams}
@@ -38,10 +38,5 @@ words g c =
     (c.clock-begins.ensures ∙ ap clock_text (sym does.2)) (c.clock-ends.ensures ∙ ap (λ s. clock_text (s + t.minutes)) (sym does.2))
     c.bytes.ensures.bytes (c.bytes-2.ensures.bytes ∙ c.place.ensures.name) (ap (partner_words c.args.instance.now c.args.k) are)
 
-pub returns-clause-all : goal.returns-clause-all
-returns-clause-all g c =
-    subst (λ (ws : Words). OnOk c.put_line.result (Appended (g.K.Sink.got c.args.out.now) (g.K.Sink.got c.put_line.new.out) (line_text ws))) (words g c) c.put_line.ensures.all
-
-pub returns-clause-part : goal.returns-clause-part
-returns-clause-part g c =
-    subst (λ (ws : Words). OnErr c.put_line.result (AppendedPart (g.K.Sink.got c.args.out.now) (g.K.Sink.got c.put_line.new.out) (line_text ws))) (words g c) c.put_line.ensures.part
+pub returns : goal.returns
+returns g c = puts_same g.K.Sink _ _ _ _ _ (ap line_text (words g c)) c.put_line.ensures
