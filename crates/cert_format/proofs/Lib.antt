@@ -2,12 +2,10 @@ pub mod Fields
 pub mod Names
 pub mod Rests
 pub mod Visits
-pub mod Heads
 pub mod Rows
 pub mod Accepted
 pub mod Wrong
 pub mod LeafLines
 pub mod NodeLines
 pub mod OneAnswer
-pub mod ReadBack
 pub mod Faults

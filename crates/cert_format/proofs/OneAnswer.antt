@@ -23,7 +23,7 @@ use Rattle.cert_format.specs.declared.kinds.LineFault.{LineFault}
 use Rattle.cert_format.specs.declared.kinds.LineFault.TheVariants.{Shape, Number, Name}
 use Rattle.cert_format.specs.Lines.{IsFormLine, IsSizeLine, IsPlaceLine, IsTimesLine, IsTeamOf, IsTaskOf, IsPoolLine, IsRouteOf, IsPlanLine, IsJobLine, IsTreeLine, IsNodeLine, IsPriceLine, IsExtraLine, IsWorthLine, IsPhiLine, IsEndLine, IsLineOf, WindowShape, PairShape, BareShape, OpenShape, ClosedShape, HasShape, HasNames, IsFaultOf, ReadsLine}
 use Rattle.cert_format.specs.Fields.{visit_numbers}
-use Rattle.cert_format.specs.ReadBack.{HasCounts}
+use Rattle.cert_format.specs.Counts.{HasCounts}
 use Rattle.cert_format.proofs.LeafLines.{price_fits, worth_fits}
 use Rattle.cert_format.proofs.Visits.{visits_map}
 

@@ -1,5 +1,5 @@
 pub mod Fields
 pub mod Numbers
 pub mod Lines
-pub mod ReadBack
+pub mod Counts
 pub mod Expected

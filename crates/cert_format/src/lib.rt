@@ -1,11 +1,10 @@
-// The lines of a dossier: reading one of an expected kind, and writing one.
+// The lines of a dossier: reading one of an expected kind.
 #![tactic(auto)]
 
 ghost use Rattle.cert_format.specs.Lines.{ReadsLine};
 
 mod body;
 mod head;
-pub mod instance_out;
 pub mod kinds;
 mod laws;
 mod leaves;
@@ -15,9 +14,8 @@ mod ranges;
 mod shape;
 
 use field_table::LineWords;
-pub use instance_out::write_instance;
 pub use kinds::{Expect, LineFault, LineKind};
-pub use laws::{fault_is_refused, instance_is_read_back, line_has_one_answer};
+pub use laws::{fault_is_refused, line_has_one_answer};
 pub use numbers::LineNumbers;
 
 /// Reads a line of the expected kind from its words; it takes no memory. The fault is the first that the

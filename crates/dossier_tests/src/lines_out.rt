@@ -1,6 +1,6 @@
 // Lines that are written, and an instance as lines.
 use crate::asserts::{holds_at, same, same_at};
-use cert_format::write_instance;
+use cert_write::write_instance;
 use crew_fixtures::{gate_builder, task, team, text_of};
 use crew_instance::Instance;
 use crew_io::sink::{MemSink, WriteFault};
