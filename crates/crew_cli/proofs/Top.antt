@@ -1,64 +1,179 @@
 -- what the statuses of a call say
-use Rattle.std.proofs.Common.{◌≡◌, ◌≢◌, ◌⊎◌, inl, inr, List, ℕ, Option, None, Some, refl}
-use Rattle.std.specs.Prelude.{IfSome}
-use Rattle.day_terms.specs.declared.Entry.{Entry}
-use Rattle.day_terms.specs.declared.Refused.{Refused}
-use Rattle.day_terms.specs.Days.{IsDayOf}
-use Rattle.crew_cli.specs.Run.{OfBytes, StatusSays, IsFine, SaysYes, SaysNo, SaysFront, SaysReadFault}
+use Rattle.std.proofs.Common.{◌≡◌, ◌≢◌, ◌⊎◌, inl, inr, List, ℕ, Option, None, Some, Result, Ok, Err, refl, arith}
+use Rattle.std.specs.Prelude.{IfSome, IsTrue}
+use Rattle.crew_io.specs.Bytes.{OfBytes, of_bytes_weaker}
+use Rattle.crew_io.specs.Puts.{TellsWrites}
+use Rattle.crew_io.specs.Draws.{TellsReads, reads_none, reads_then}
+use Rattle.crew_io.specs.Chains.{writes_none, writes_then}
+use Rattle.crew_io.specs.declared.sink.Sink.{Ghosts as SinkTells}
+use Rattle.crew_io.specs.declared.source.Source.{Ghosts as SourceTells}
+use Rattle.dossier_terms.specs.Dossier.{Dossier}
+use Rattle.day_terms.specs.Rounds.{Round}
+use Rattle.dossier_commands.specs.Says.{SaysNo, ReadsDossiers}
+use Rattle.dossier_commands.specs.declared.read.Ended.{Ended as DossiersEnded}
+use Rattle.dossier_commands.specs.declared.read.Ended.TheVariants as dossiers
+use Rattle.day_commands.specs.Rounds.{DayStop, ComesTo, IsRefusedOutput, IsTooLong, IsStopped, SaysFirstRounds, SaysOutputPart}
+use Rattle.day_commands.specs.Fronts.{part_of, first_are_part}
+use Rattle.day_commands.specs.Says.{SaysAt, IsFineDay, ReadsDay}
+use Rattle.day_commands.specs.declared.apply.Ended.{Ended as DayEnded}
+use Rattle.day_commands.specs.declared.apply.Ended.TheVariants as day
+use Rattle.crew_cli.specs.Run.{Answers, AreDossiers, DaySays, DossiersSay, StatusSays, IsFine, day_ends_with, dossiers_end_with}
+use Rattle.crew_cli.specs.Status.{dossiers_status, day_status}
 use Rattle.crew_cli.specs.declared.run.Command.{Command}
-use Rattle.crew_cli.specs.declared.run.Command.TheVariants.{Check, Apply}
+use Rattle.crew_cli.specs.declared.run.Command.TheVariants.{Check, Rosters, Apply}
 use Rattle.crew_cli.specs.declared.status.Status.{Status}
 use Rattle.crew_cli.specs.declared.status.Status.TheVariants as status
-use Rattle.crew_cli.proofs.Applies.{of_bytes_weaker, part_of, refused_not_fine}
 
--- a check that has its memory
-pub check_says : (answer : Status) (left unseen got later : Option (List ℕ)) → (answer ≡ status.Done → OfBytes left got later SaysYes) → (answer ≡ status.No → OfBytes left got later SaysNo)
-    → (answer ≡ status.ReadFault → OfBytes left got later (SaysReadFault unseen)) → OfBytes left got later SaysFront
-    → (answer ≢ status.Words) × (answer ≢ status.Refused) × (answer ≢ status.Memory) → OfBytes left got later (StatusSays Check answer unseen)
-check_says status.Done left unseen got later done denied fault front others = done refl
-check_says status.No left unseen got later done denied fault front others = denied refl
-check_says status.Words left unseen got later done denied fault front others = absurd (others.0 refl)
-check_says status.Refused left unseen got later done denied fault front others = absurd (others.1 refl)
-check_says status.ReadFault left unseen got later done denied fault front others = fault refl
-check_says status.WriteFault left unseen got later done denied fault front others = front
-check_says status.Memory left unseen got later done denied fault front others = absurd (others.2 refl)
+if_some : {X : Type 0} (o : Option X) (P : X → Type 0) → ((x : X) → P x) → IfSome o P
+if_some None P h = tt
+if_some (Some x) P h = h x
 
-pub check_complete : (answer : Status) (left got later : Option (List ℕ)) (Read Write : Type 0) → (answer ≡ status.No → OfBytes left got later SaysNo) → (answer ≡ status.ReadFault → Read) → (answer ≡ status.WriteFault → Write)
-    → (answer ≢ status.Words) × (answer ≢ status.Refused) × (answer ≢ status.Memory)
-    → IfSome left (λ input. IsFine Check input → (Read → ⊥) → (Write → ⊥) → (answer ≡ status.Done) ⊎ (answer ≡ status.Memory))
-check_complete answer None got later Read Write denied read write others = tt
-check_complete answer (Some input) got later Read Write denied read write others = by answer denied read write others
-  where
-    by : (answer : Status) → (answer ≡ status.No → OfBytes (Some input) got later SaysNo) → (answer ≡ status.ReadFault → Read) → (answer ≡ status.WriteFault → Write)
-        → (answer ≢ status.Words) × (answer ≢ status.Refused) × (answer ≢ status.Memory)
-        → IsFine Check input → (Read → ⊥) → (Write → ⊥) → (answer ≡ status.Done) ⊎ (answer ≡ status.Memory)
-    by status.Done denied read write others fine nr nw = inl refl
-    by status.No denied read write others fine nr nw = absurd ((denied refl).2.not_accepted fine.0 fine.1)
-    by status.Words denied read write others fine nr nw = absurd (others.0 refl)
-    by status.Refused denied read write others fine nr nw = absurd (others.1 refl)
-    by status.ReadFault denied read write others fine nr nw = absurd (nr (read refl))
-    by status.WriteFault denied read write others fine nr nw = absurd (nw (write refl))
-    by status.Memory denied read write others fine nr nw = inr refl
+-- input with a line that is refused is not fine
+no_is_not_fine : (text : Dossier → List ℕ) (left got later : Option (List ℕ)) (A B C : Type 0) → OfBytes left got later (SaysNo text) → IfSome left (λ input. AreDossiers input → A → B → C)
+no_is_not_fine text None got later A B C says = tt
+no_is_not_fine text (Some input) got later A B C says = λ fine a b. absurd (says.2.not_accepted fine.0 fine.1)
 
-pub apply_part : (answer : Status) (left unseen got later : Option (List ℕ)) → OfBytes left got later (StatusSays Apply answer unseen) → OfBytes left got later (StatusSays Apply status.WriteFault unseen)
-apply_part answer left unseen got later says = of_bytes_weaker left got later (StatusSays Apply answer unseen) (StatusSays Apply status.WriteFault unseen) (part_of answer unseen) says
+refused_is_not_fine : (left : Option (List ℕ)) (A B C : Type 0) → IfSome left (λ input. IsFineDay input → ⊥) → IfSome left (λ input. IsFineDay input → A → B → C)
+refused_is_not_fine None A B C says = tt
+refused_is_not_fine (Some input) A B C says = λ fine a b. absurd (says fine)
+
+module _ {S K : Type 0} (source : SourceTells S) (sink : SinkTells K) (src later : S) (out new : K) where
+  -- the same fault by another name
+  tells_read : {A B : Type 0} → TellsReads source src later A → (B → A) → (A → B) → TellsReads source src later B
+  tells_read t to from = reads_then source src src later (λ fault. fault) (reads_none source src) t to from
+
+  tells_write : {A B : Type 0} → TellsWrites sink out new A → (B → A) → (A → B) → TellsWrites sink out new B
+  tells_write t to from = writes_then sink out out new (λ fault. fault) (writes_none sink out) t to from
+
+  -- a command over dossiers answers by the status of its end
+  pub dossiers_answer : {E : Type 0} (text : Dossier → List ℕ) (ended : Result DossiersEnded E) → ReadsDossiers source sink text src later out new ended
+      → Answers source sink (DossiersSay text) dossiers_end_with AreDossiers src later out new (dossiers_status ended)
+  dossiers_answer text (Ok dossiers.Done) r = record {
+    says = r.says;
+    part = r.front;
+    ends = refl;
+    ended = λ _. r.ended refl;
+    reads = tells_read r.reads (λ e. absurd (cc)) (λ e. absurd (cc));
+    writes = tells_write r.writes (λ e. absurd (cc)) (λ e. absurd (cc));
+    complete = if_some (source.left src) _ (λ input fine nr nw. inl refl);
+  }
+  dossiers_answer text (Ok dossiers.No) r = record {
+    says = r.says;
+    part = r.front;
+    ends = refl;
+    ended = λ e. absurd (cc);
+    reads = tells_read r.reads (λ e. absurd (cc)) (λ e. absurd (cc));
+    writes = tells_write r.writes (λ e. absurd (cc)) (λ e. absurd (cc));
+    complete = no_is_not_fine text (source.left src) (sink.got out) (sink.got new) _ _ _ r.says;
+  }
+  dossiers_answer text (Ok dossiers.ReadFault) r = record {
+    says = r.says;
+    part = r.front;
+    ends = refl;
+    ended = λ e. absurd (cc);
+    reads = tells_read r.reads (λ _. refl) (λ _. refl);
+    writes = tells_write r.writes (λ e. absurd (cc)) (λ e. absurd (cc));
+    complete = if_some (source.left src) _ (λ input fine nr nw. absurd (nr (r.reads.cause refl)));
+  }
+  dossiers_answer text (Ok dossiers.WriteFault) r = record {
+    says = r.says;
+    part = r.front;
+    ends = refl;
+    ended = λ e. absurd (cc);
+    reads = tells_read r.reads (λ e. absurd (cc)) (λ e. absurd (cc));
+    writes = tells_write r.writes (λ _. refl) (λ _. refl);
+    complete = if_some (source.left src) _ (λ input fine nr nw. absurd (nw (r.writes.cause refl)));
+  }
+  dossiers_answer text (Err fault) r = record {
+    says = r.memory;
+    part = r.front;
+    ends = refl;
+    ended = λ e. absurd (cc);
+    reads = tells_read r.reads (λ e. absurd (cc)) (λ e. absurd (cc));
+    writes = tells_write r.writes (λ e. absurd (cc)) (λ e. absurd (cc));
+    complete = if_some (source.left src) _ (λ input fine nr nw. inr refl);
+  }
+
+  day_part : (ended : DayEnded) → OfBytes (source.left src) (sink.got out) (sink.got new) (SaysAt ended (source.left later)) → OfBytes (source.left src) (sink.got out) (sink.got new) SaysOutputPart
+  day_part ended = of_bytes_weaker (source.left src) (sink.got out) (sink.got new) (SaysAt ended (source.left later)) SaysOutputPart (part_of ended (source.left later))
+
+  -- a command over days answers by the status of its end
+  pub day_answers : {E : Type 0} (ended : Result DayEnded E) → ReadsDay source sink src later out new ended
+      → Answers source sink DaySays day_ends_with IsFineDay src later out new (day_status ended)
+  day_answers (Ok day.Done) r = record {
+    says = r.says;
+    part = day_part day.Done r.says;
+    ends = refl;
+    ended = λ _. r.ended refl;
+    reads = tells_read r.reads (λ e. absurd (cc)) (λ e. absurd (cc));
+    writes = tells_write r.writes (λ e. absurd (cc)) (λ e. absurd (cc));
+    complete = if_some (source.left src) _ (λ input fine nr nw. inl refl);
+  }
+  day_answers (Ok day.Refused) r = record {
+    says = r.says;
+    part = day_part day.Refused r.says;
+    ends = refl;
+    ended = λ e. absurd (cc);
+    reads = tells_read r.reads (λ e. absurd (cc)) (λ e. absurd (cc));
+    writes = tells_write r.writes (λ e. absurd (cc)) (λ e. absurd (cc));
+    complete = refused_is_not_fine (source.left src) _ _ _ (r.refused refl);
+  }
+  day_answers (Ok day.ReadFault) r = record {
+    says = r.says;
+    part = day_part day.ReadFault r.says;
+    ends = refl;
+    ended = λ e. absurd (cc);
+    reads = tells_read r.reads (λ _. refl) (λ _. refl);
+    writes = tells_write r.writes (λ e. absurd (cc)) (λ e. absurd (cc));
+    complete = if_some (source.left src) _ (λ input fine nr nw. absurd (nr (r.reads.cause refl)));
+  }
+  day_answers (Ok day.WriteFault) r = record {
+    says = r.says;
+    part = r.says;
+    ends = refl;
+    ended = λ e. absurd (cc);
+    reads = tells_read r.reads (λ e. absurd (cc)) (λ e. absurd (cc));
+    writes = tells_write r.writes (λ _. refl) (λ _. refl);
+    complete = if_some (source.left src) _ (λ input fine nr nw. absurd (nw (r.writes.cause refl)));
+  }
+  day_answers (Err fault) r = record {
+    says = r.memory;
+    part = of_bytes_weaker (source.left src) (sink.got out) (sink.got new) SaysFirstRounds SaysOutputPart first_are_part r.memory;
+    ends = refl;
+    ended = λ e. absurd (cc);
+    reads = tells_read r.reads (λ e. absurd (cc)) (λ e. absurd (cc));
+    writes = tells_write r.writes (λ e. absurd (cc)) (λ e. absurd (cc));
+    complete = if_some (source.left src) _ (λ input fine nr nw. inr refl);
+  }
+
+-- a day comes to one thing
+abbrev pub ComesToOne : Type 0
+ComesToOne = (text : List ℕ) (rounds others : List Round) (stop other : Option DayStop) → ComesTo text rounds stop → ComesTo text others other → (rounds ≡ others) × (stop ≡ other)
+
+refused_not_fine : ComesToOne → (text output : List ℕ) → IsRefusedOutput text output → IsFineDay text → ⊥
+refused_not_fine law text output (IsTooLong more is) fine = let b = fine.0 in absurd (omega (arith, more, b))
+refused_not_fine law text output (IsStopped within rounds stop c is) fine = absurd (let e = (law text fine.1.0 rounds None (Some stop) fine.1.1 c).1 in cc)
 
 -- an input that is fine is not refused
-pub fine_is_done : (command : Command) (answer : Status) (unseen : Option (List ℕ)) (input written : List ℕ) (Full : Type 0)
-    → ((text : List ℕ) (entries others : List Entry) (stop last : Option Refused) → IsDayOf text entries stop → IsDayOf text others last → (entries ≡ others) × (stop ≡ last))
+dossiers_done : (text : Dossier → List ℕ) (answer : Status) (unseen : Option (List ℕ)) (input written : List ℕ) (Full : Type 0) → DossiersSay text answer unseen input written → AreDossiers input
+    → answer ≢ status.ReadFault → (answer ≡ status.WriteFault → Full) → (answer ≡ status.Done) ⊎ (answer ≡ status.Memory) ⊎ ((answer ≡ status.WriteFault) × Full)
+dossiers_done text status.Done unseen input written Full says fine read write = inl refl
+dossiers_done text status.No unseen input written Full says fine read write = absurd (says.not_accepted fine.0 fine.1)
+dossiers_done text status.Words unseen input written Full says fine read write = absurd says
+dossiers_done text status.Refused unseen input written Full says fine read write = absurd says
+dossiers_done text status.ReadFault unseen input written Full says fine read write = absurd (read refl)
+dossiers_done text status.WriteFault unseen input written Full says fine read write = inr (inr (refl, write refl))
+dossiers_done text status.Memory unseen input written Full says fine read write = inr (inl refl)
+
+pub fine_is_done : (command : Command) (answer : Status) (unseen : Option (List ℕ)) (input written : List ℕ) (Full : Type 0) → ComesToOne
     → StatusSays command answer unseen input written → IsFine command input → answer ≢ status.ReadFault → (answer ≡ status.WriteFault → Full)
     → (answer ≡ status.Done) ⊎ (answer ≡ status.Memory) ⊎ ((answer ≡ status.WriteFault) × Full)
-fine_is_done Check status.Done unseen input written Full law says fine read write = inl refl
-fine_is_done Check status.No unseen input written Full law says fine read write = absurd (says.not_accepted fine.0 fine.1)
-fine_is_done Check status.Words unseen input written Full law says fine read write = absurd says
-fine_is_done Check status.Refused unseen input written Full law says fine read write = absurd says
-fine_is_done Check status.ReadFault unseen input written Full law says fine read write = absurd (read refl)
-fine_is_done Check status.WriteFault unseen input written Full law says fine read write = inr (inr (refl, write refl))
-fine_is_done Check status.Memory unseen input written Full law says fine read write = inr (inl refl)
+fine_is_done Check answer unseen input written Full law says fine read write = dossiers_done _ answer unseen input written Full says fine read write
+fine_is_done Rosters answer unseen input written Full law says fine read write = dossiers_done _ answer unseen input written Full says fine read write
 fine_is_done Apply status.Done unseen input written Full law says fine read write = inl refl
 fine_is_done Apply status.No unseen input written Full law says fine read write = absurd says
 fine_is_done Apply status.Words unseen input written Full law says fine read write = absurd says
-fine_is_done Apply status.Refused unseen input written Full law says fine read write = absurd (refused_not_fine input written law says fine)
+fine_is_done Apply status.Refused unseen input written Full law says fine read write = absurd (refused_not_fine law input written says fine)
 fine_is_done Apply status.ReadFault unseen input written Full law says fine read write = absurd (read refl)
 fine_is_done Apply status.WriteFault unseen input written Full law says fine read write = inr (inr (refl, write refl))
 fine_is_done Apply status.Memory unseen input written Full law says fine read write = inr (inl refl)

@@ -1,5 +1,9 @@
 -- how a call ended
-use Rattle.std.specs.Prelude.{ℕ}
+use Rattle.std.specs.Prelude.{ℕ, Result, Ok, Err}
+use Rattle.dossier_commands.specs.declared.read.Ended.{Ended as DossiersEnded}
+use Rattle.dossier_commands.specs.declared.read.Ended.TheVariants as dossiers
+use Rattle.day_commands.specs.declared.apply.Ended.{Ended as DayEnded}
+use Rattle.day_commands.specs.declared.apply.Ended.TheVariants as day
 use Rattle.crew_cli.specs.declared.status.Status.{Status}
 use Rattle.crew_cli.specs.declared.status.Status.TheVariants.{Done, No, Words, Refused, ReadFault, WriteFault, Memory}
 
@@ -12,3 +16,19 @@ number_of Refused = 3
 number_of ReadFault = 4
 number_of WriteFault = 5
 number_of Memory = 6
+
+-- the status of a command over dossiers that ended so, or for which memory was wanting
+abbrev pub dossiers_status : {E : Type 0} → Result DossiersEnded E → Status
+dossiers_status (Ok dossiers.Done) = Done
+dossiers_status (Ok dossiers.No) = No
+dossiers_status (Ok dossiers.ReadFault) = ReadFault
+dossiers_status (Ok dossiers.WriteFault) = WriteFault
+dossiers_status (Err fault) = Memory
+
+-- the status of a command over days that ended so, or for which memory was wanting
+abbrev pub day_status : {E : Type 0} → Result DayEnded E → Status
+day_status (Ok day.Done) = Done
+day_status (Ok day.Refused) = Refused
+day_status (Ok day.ReadFault) = ReadFault
+day_status (Ok day.WriteFault) = WriteFault
+day_status (Err fault) = Memory

@@ -1,13 +1,17 @@
 // The top call.
 ghost use Rattle.std.specs.Prelude.{◌≡◌, ◌≢◌, ◌≤◌, ◌↔◌, ◌⊎◌, [], ◌∷◌, map, string_bytes, IfSome, IsTrue, MatchOption};
 ghost use Rattle.crew_io.specs.Io.{HasEnded, Rose};
-ghost use Rattle.crew_cli.specs.Run.{OfBytes, AskFor, StatusSays, IsFine, ends_with};
+ghost use Rattle.crew_io.specs.Bytes.{OfBytes};
+ghost use Rattle.dossier_commands.specs.Outputs.{output_of};
+ghost use Rattle.day_commands.specs.Says.{IsFineDay};
+ghost use Rattle.crew_cli.specs.Status.{dossiers_status, day_status};
+ghost use Rattle.crew_cli.specs.Run.{Answers, AskFor, AreDossiers, DaySays, DossiersSay, StatusSays, IsFine, day_ends_with, dossiers_end_with, ends_with};
 
-use crate::apply::apply;
-use crate::check::check;
 pub use crate::status::Status;
 use crew_io::sink::Sink;
 use crew_io::source::Source;
+use day_commands::apply_rounds;
+use dossier_commands::{Output, read_dossiers};
 use std::alloc::{AllocError, Global};
 
 /// What the words ask for.
@@ -15,6 +19,8 @@ use std::alloc::{AllocError, Global};
 pub enum Command {
     /// `check`: read dossiers, and write a yes line for each good one.
     Check,
+    /// `rosters`: read dossiers, and write the roster of each good one.
+    Rosters,
     /// `apply`: read a day, and write the instance of each round.
     Apply,
 }
@@ -34,6 +40,9 @@ impl Command {
         if asks_for(words, "check") {
             return Some(Command::Check);
         }
+        if asks_for(words, "rosters") {
+            return Some(Command::Rosters);
+        }
         if asks_for(words, "apply") {
             return Some(Command::Apply);
         }
@@ -41,40 +50,69 @@ impl Command {
     }
 }
 
+/// The status of a command over dossiers.
+fn of_dossiers(ended: Result<dossier_commands::Ended, AllocError>) -> Status
+    ensures { result ≡ dossiers_status ended }
+{
+    match ended {
+        Ok(dossier_commands::Ended::Done) => Status::Done,
+        Ok(dossier_commands::Ended::No) => Status::No,
+        Ok(dossier_commands::Ended::ReadFault) => Status::ReadFault,
+        Ok(dossier_commands::Ended::WriteFault) => Status::WriteFault,
+        Err(AllocError) => Status::Memory,
+    }
+}
+
+/// The status of a command over days.
+fn of_day(ended: Result<day_commands::Ended, AllocError>) -> Status
+    ensures { result ≡ day_status ended }
+{
+    match ended {
+        Ok(day_commands::Ended::Done) => Status::Done,
+        Ok(day_commands::Ended::Refused) => Status::Refused,
+        Ok(day_commands::Ended::ReadFault) => Status::ReadFault,
+        Ok(day_commands::Ended::WriteFault) => Status::WriteFault,
+        Err(AllocError) => Status::Memory,
+    }
+}
+
+/// Reads dossiers, and writes what is asked for of each good one.
+fn over_dossiers<S: Source, K: Sink>(
+    alloc: Global,
+    output: Output,
+    src: &mut S,
+    out: &mut K,
+) -> Status
+    ensures { Answers S.Source K.Sink (DossiersSay (output_of output)) dossiers_end_with AreDossiers
+        src.old src.new out.old out.new result }
+{
+    of_dossiers(read_dossiers(alloc, output, src, out))
+}
+
+/// Reads a day, and writes the instance of each round.
+fn over_day<S: Source, K: Sink>(alloc: Global, src: &mut S, out: &mut K) -> Status
+    ensures { Answers S.Source K.Sink DaySays day_ends_with IsFineDay src.old src.new out.old out.new result }
+{
+    of_day(apply_rounds(alloc, src, out))
+}
+
 /// Does what a command asks for, but for the flush.
 fn answer<S: Source, K: Sink>(alloc: Global, command: Command, src: &mut S, out: &mut K) -> Status
-    ensures says { OfBytes (S.left src.old) (K.got out.old) (K.got out.new) (StatusSays command result (S.left src.new)) }
-    ensures part { OfBytes (S.left src.old) (K.got out.old) (K.got out.new) (StatusSays command Status.WriteFault (S.left src.new)) }
-    ensures ends { IsTrue (ends_with command result) }
-    ensures ended { result ≡ Status.Done → HasEnded (S.left src.new) }
-    ensures read_fault { result ≡ Status.ReadFault → Rose (S.faults src.old) (S.faults src.new) }
-    ensures write_fault { result ≡ Status.WriteFault → Rose (K.faults out.old) (K.faults out.new) }
-    ensures read_told { result ≢ Status.ReadFault → S.faults src.new ≡ S.faults src.old }
-    ensures write_told { result ≢ Status.WriteFault → K.faults out.new ≡ K.faults out.old }
-    ensures source_later { S.faults src.old ≤ S.faults src.new }
-    ensures sink_later { K.faults out.old ≤ K.faults out.new }
-    ensures steady_source { S.steady src.old → result ≢ Status.ReadFault }
-    ensures steady_sink { K.steady out.old → K.steady out.new × (result ≡ Status.WriteFault → K.full out.new) }
-    ensures complete { IfSome (S.left src.old) (λ input. IsFine command input
-        → (Rose (S.faults src.old) (S.faults src.new) → ⊥) → (Rose (K.faults out.old) (K.faults out.new) → ⊥)
-        → (result ≡ Status.Done) ⊎ (result ≡ Status.Memory)) }
+    ensures { Answers S.Source K.Sink (StatusSays command) (ends_with command) (IsFine command)
+        src.old src.new out.old out.new result }
 {
     match command {
-        Command::Check => match check(alloc, src, out) {
-            Ok(status) => status,
-            Err(AllocError) => Status::Memory,
-        },
-        Command::Apply => match apply(alloc, src, out) {
-            Ok(status) => status,
-            Err(AllocError) => Status::Memory,
-        },
+        Command::Check => over_dossiers(alloc, Output::YesLines, src, out),
+        Command::Rosters => over_dossiers(alloc, Output::Rosters, src, out),
+        Command::Apply => over_day(alloc, src, out),
     }
 }
 
 /// Does what the words ask for. With `check` it reads one dossier after another, and writes a line `yes` with its
 /// counts for each good one; at the first line that is refused it writes a line `no` with its number and the reason,
-/// and ends. With `apply` it reads a day, and writes the instance of each round, up to the first record that is
-/// refused, and a line `refused` for that one. Other words have no form: nothing is read or written.
+/// and ends. With `rosters` it does the same, and writes the roster of each good dossier in place of its line. With
+/// `apply` it reads a day, and writes the instance of each round, up to the first record that is refused, and a line
+/// `refused` for that one. Other words have no form: nothing is read or written.
 pub fn run<S: Source, K: Sink>(alloc: Global, words: &[String], src: &mut S, out: &mut K) -> Status
     // Each status tells what the input is and what was written, also at a fault.
     ensures says { (command : Command) → AskFor command (map (λ w. string_bytes w) words.now)

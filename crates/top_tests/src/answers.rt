@@ -31,6 +31,11 @@ pub fn check(alloc: Global, input: Vec<u8>) -> Result<(Status, Vec<u8>), Fail> {
     answer(alloc, &["check"], input, &[], &[])
 }
 
+/// What `crew rosters` answers to this input, and what it writes.
+pub fn rosters(alloc: Global, input: Vec<u8>) -> Result<(Status, Vec<u8>), Fail> {
+    answer(alloc, &["rosters"], input, &[], &[])
+}
+
 /// What `crew apply` answers to this day, and what it writes.
 pub fn apply(alloc: Global, input: &[u8]) -> Result<(Status, Vec<u8>), Fail> {
     answer(alloc, &["apply"], input.to_vec(alloc)?, &[], &[])

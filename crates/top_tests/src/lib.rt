@@ -14,4 +14,6 @@ mod faults;
 #[cfg(test)]
 mod lines;
 #[cfg(test)]
+mod rosters;
+#[cfg(test)]
 mod trees;

@@ -1,0 +1,20 @@
+use Rattle.std.proofs.Common.{None, subst}
+use Rattle.day_commands.specs.Applied.{IsDay}
+use Rattle.day_commands.specs.Says.{SaysAt}
+use Rattle.day_commands.proofs.Applies.{on_err, same_ok, refused_not_fine}
+use Rattle.day_commands.proofs.apply.apply_text.Goals as goal
+
+pub returns-in_err-ended-clause-memory : goal.returns-in_err-ended-clause-memory
+returns-in_err-ended-clause-memory g c =
+    let day : IsDay c.args.text.now c.in_ok-day.day.entries c.in_ok-day.day.stop = record { within = c.requires; day = c.in_ok-day.ensures.says } in
+    on_err c.from_residual-in_err-ended.result _ (c.in_err-ended.ensures.memory c.args.text.now day)
+
+pub returns-clause-says : goal.returns-clause-says
+returns-clause-says g c =
+    let day : IsDay c.args.text.now c.in_ok-day.day.entries c.in_ok-day.day.stop = record { within = c.requires; day = c.in_ok-day.ensures.says } in
+    c.in_ok-ended.ensures.says c.args.text.now day
+
+pub returns-clause-refused : goal.returns-clause-refused
+returns-clause-refused g c = λ is fine.
+    let w = returns-clause-says g c in
+    refused_not_fine c.args.text.now w.0 c.one_reading.ensures.of_day (subst (λ s. SaysAt s None c.args.text.now w.0) (same_ok is) w.2) fine

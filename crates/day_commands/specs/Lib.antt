@@ -1,0 +1,5 @@
+pub mod Refused
+pub mod Rounds
+pub mod Fronts
+pub mod Says
+pub mod Applied

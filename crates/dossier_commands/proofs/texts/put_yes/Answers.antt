@@ -1,0 +1,15 @@
+use Rattle.std.proofs.Common.{List, ℕ, [], ◌∷◌, subst}
+use Rattle.std.specs.Prelude.{codes}
+use Rattle.std.specs.Fmt.{decimal}
+use Rattle.crew_terms.specs.Words.{line_text}
+use Rattle.crew_io.specs.Puts.{Puts}
+use Rattle.cert_checker.specs.declared.checker.Verdict.{Verdict}
+use Rattle.dossier_commands.proofs.texts.put_yes.Goals as goal
+
+-- the line that is written
+abbrev written : Verdict → List ℕ
+written v = line_text (codes "yes" ∷ codes "unassigned" ∷ decimal v.unassigned ∷ codes "bound" ∷ decimal v.bound
+    ∷ codes "splits" ∷ decimal v.splits ∷ codes "closed" ∷ decimal v.closed ∷ codes "open" ∷ decimal v.left_open ∷ [])
+
+pub returns : goal.returns
+returns g c = λ d is. subst (λ (v : Verdict). Puts g.K.Sink (written v) c.args.out.now c.put_line.new.out c.put_line.result) is c.put_line.ensures

@@ -1,0 +1,150 @@
+-- an input as a reading finds it: dossiers that are whole, and the first line that is refused
+use Rattle.std.specs.Prelude.{◌≡◌, ◌≢◌, ◌≤◌, ◌<◌, ◌+◌, ◌-◌, ◌^◌, ◌++◌, ℕ, suc, List, [], ◌∷◌, Option, None, Some, length, map, All}
+use Rattle.std.specs.List.{flat_map}
+use Rattle.crew_terms.specs.Words.{IsLine, words_of, with_feed}
+use Rattle.crew_terms.specs.declared.TheConstants.{LONGEST_INPUT}
+use Rattle.crew_io.specs.Lines.{Reader, IsPartial, BeginsTooLong, IsTooMuch, rest_of}
+use Rattle.crew_io.specs.declared.lines.Progress.{Progress}
+use Rattle.crew_io.specs.declared.lines.Progress.TheVariants as progress
+use Rattle.dossier_terms.specs.declared.Reason.{Reason}
+use Rattle.dossier_terms.specs.declared.Reason.TheVariants.{End as EndReason, TooLong, TooMuch}
+use Rattle.dossier_terms.specs.Dossier.{Dossier, IsGood}
+use Rattle.dossier_terms.specs.Lines.{lines_of, text_of}
+use Rattle.dossier_terms.specs.Reading.{Reading, No as Refuses, Form}
+use Rattle.dossier_terms.specs.Table.{Says, Reaches}
+use Rattle.dossier_terms.specs.Accepted.{IsAccepted}
+use Rattle.cert_checker.specs.Checked.{Checked, IsEnded, IsOpen as IsDue, IsTrueYes, IsWholeAt, fresh_checker, refused_at, stop_reason_of, verdict_of}
+use Rattle.cert_checker.specs.declared.checker.State.TheVariants.{Refused}
+use Rattle.cert_checker.specs.declared.checker.Verdict.{Verdict}
+use Rattle.cert_checker.specs.declared.checker.Stop.{Stop}
+use Rattle.cert_checker.specs.declared.checker.Stop.TheVariants as stops
+use Rattle.dossier_commands.specs.declared.input.Outcome.{Outcome}
+use Rattle.dossier_commands.specs.declared.input.Outcome.TheVariants.{Yes, End, No, ReadFault}
+
+-- the bytes of whole lines
+abbrev pub text_of_lines : List (List ℕ) → List ℕ
+text_of_lines lines = flat_map with_feed lines
+
+-- the bytes of whole dossiers and of the lines behind them
+abbrev pub text_before : List Dossier → List (List ℕ) → List ℕ
+text_before done lines = flat_map text_of done ++ text_of_lines lines
+
+-- how many lines these are
+abbrev pub lines_before : List Dossier → List (List ℕ) → ℕ
+lines_before done lines = length (flat_map lines_of done) + length lines
+
+-- the input begins with these good dossiers and these lines of the next one, which lead to what is due, within the bytes
+-- that an input may have; the rest is left
+pub record HasRead (input : List ℕ) (done : List Dossier) (lines : List (List ℕ)) (rest : List ℕ) (due : Reading) : Type 0 where
+  pub text : input ≡ text_before done lines ++ rest
+  pub within : length (text_before done lines) ≤ LONGEST_INPUT
+  pub good : All IsGood done
+  pub each : All IsLine lines
+  pub leads : Reaches Form (map words_of lines) due
+
+-- how many bytes may come after these lines
+abbrev pub room_after : List Dossier → List (List ℕ) → ℕ
+room_after done lines = LONGEST_INPUT - length (text_before done lines)
+
+-- no line comes whole: the input stops, or the line or the input is too long
+pub data IsStop (room : ℕ) (rest : List ℕ) (reason : Reason) : Type 0 where
+  Stops : (partial : ℕ) (part : IsPartial room rest partial) (is : reason ≡ EndReason) → IsStop room rest reason
+  LineTooLong : (long : BeginsTooLong room rest) (is : reason ≡ TooLong) → IsStop room rest reason
+  InputTooLong : (long : IsTooMuch room rest) (is : reason ≡ TooMuch) → IsStop room rest reason
+
+-- nothing comes behind a whole dossier
+pub record IsEnd (done : List Dossier) (lines : List (List ℕ)) (rest : List ℕ) : Type 0 where
+  pub some : done ≢ []
+  pub between : lines ≡ []
+  pub none : rest ≡ []
+
+-- the first line of the input that is refused, behind these dossiers, numbered from 1, and why
+pub data IsRefusal (input : List ℕ) (done : List Dossier) (number : ℕ) (reason : Reason) : Type 0 where
+  -- a line breaks a rule
+  BadLine : (lines : List (List ℕ)) (line after : List ℕ) (due : Reading) (read : HasRead input done lines (with_feed line ++ after) due)
+      (plain : IsLine line) (fits : length line < room_after done lines) (answer : Says due (words_of line) (Refuses reason))
+      (is : number ≡ suc (lines_before done lines)) → IsRefusal input done number reason
+  -- no line comes whole where one is due
+  NoLine : (lines : List (List ℕ)) (rest : List ℕ) (due : Reading) (read : HasRead input done lines rest due)
+      (stop : IsStop (room_after done lines) rest reason) (more : IsEnd done lines rest → ⊥)
+      (is : number ≡ suc (lines_before done lines)) → IsRefusal input done number reason
+
+-- what holds of a reader that has handed out so many lines
+pub record IsGoing (reader : Reader) (count : ℕ) : Type 0 where
+  pub going : reader.stopped ≡ None
+  pub limit : reader.limit ≡ LONGEST_INPUT
+  pub within : reader.handed ≤ LONGEST_INPUT
+  pub few : count ≤ reader.handed
+
+-- a checker has read nothing yet, or its last line ended a dossier
+pub data IsAtFirst (checker : Checked) : Type 0 where
+  Fresh : (is : checker ≡ fresh_checker) → IsAtFirst checker
+  Behind : (some : 0 < checker.lines) (ended : IsEnded checker.at) → IsAtFirst checker
+
+-- the reader can go on, and the checker has judged the lines that it handed out, to the end of a dossier
+pub record CanGoOn (reader : Reader) (checker : Checked) : Type 0 where
+  pub going : IsGoing reader checker.lines
+  pub first : IsAtFirst checker
+
+-- the reader has handed out these dossiers, and is to hand out the next one
+pub record IsBetween (input : List ℕ) (done : List Dossier) (reader : Reader) (left : Option (List ℕ)) (count : ℕ) : Type 0 where
+  pub rest : List ℕ
+  pub is : rest_of reader left ≡ Some rest
+  pub read : HasRead input done [] rest Form
+  pub handed : reader.handed ≡ length (flat_map text_of done)
+  pub number : count ≡ length (flat_map lines_of done)
+
+-- a read failed: no line that was read before is refused, and what is held is the front of one more
+pub record IsInterrupted (input : List ℕ) (done : List Dossier) (reader : Reader) (left : Option (List ℕ)) : Type 0 where
+  pub lines : List (List ℕ)
+  pub rest : List ℕ
+  pub due : Reading
+  pub is : rest_of reader left ≡ Some rest
+  pub read : HasRead input done lines rest due
+  pub front : IsPartial (room_after done lines) reader.held (length reader.held)
+
+-- why no line comes, as the checker is told it
+abbrev pub told_of : Progress → Option Stop
+told_of progress.Line = None
+told_of progress.TooLong = Some stops.TooLong
+told_of progress.TooMuch = Some stops.TooMuch
+told_of (progress.End partial) = Some (stops.End partial)
+told_of progress.ReadFault = None
+
+-- the outcome where no line comes whole, and the checker before and after
+pub data IsOutcomeAtStop (old : Checked) (answer : Progress) (new : Checked) (outcome : Outcome) : Type 0 where
+  Over : (end : answer ≡ progress.End 0) (ended : IsEnded old.at) (same : new ≡ old) (is : outcome ≡ End) → IsOutcomeAtStop old answer new outcome
+  Short : (why : Stop) (told : told_of answer ≡ Some why) (more : IsEnded old.at → why ≡ stops.End 0 → ⊥)
+      (refused : new ≡ refused_at old (stop_reason_of why)) (is : outcome ≡ No (old.lines + 1) (stop_reason_of why)) → IsOutcomeAtStop old answer new outcome
+  Fault : (told : told_of answer ≡ None) (same : new ≡ old) (is : outcome ≡ ReadFault) → IsOutcomeAtStop old answer new outcome
+
+-- the checker has a dossier that is whole, of which this is said: it is good, its plan is legal, and every legal plan
+-- leaves at least its bound unassigned
+pub record IsYes (verdict : Verdict) (checker : Checked) : Type 0 where
+  pub dossier : Dossier
+  pub whole : IsWholeAt checker.at dossier
+  pub says : verdict ≡ verdict_of dossier
+  pub true_yes : IsTrueYes dossier
+
+-- the next dossier is whole, of which this is said, and it is so
+pub record IsNextDossier (input : List ℕ) (done : List Dossier) (verdict : Verdict) (reader : Reader) (left : Option (List ℕ)) (checker : Checked) : Type 0 where
+  pub dossier : Dossier
+  pub whole : IsWholeAt checker.at dossier
+  pub says : verdict ≡ verdict_of dossier
+  pub true_yes : IsTrueYes dossier
+  pub between : IsBetween input (done ++ dossier ∷ []) reader left checker.lines
+
+-- what a reading behind these dossiers found
+abbrev pub IsOutcome : List ℕ → List Dossier → Reader → Option (List ℕ) → Checked → Outcome → Type 0
+IsOutcome input done reader left checker (Yes verdict) = IsNextDossier input done verdict reader left checker
+IsOutcome input done reader left checker End = IsAccepted input done
+IsOutcome input done reader left checker (No line reason) = IsRefusal input done line reason
+IsOutcome input done reader left checker ReadFault = IsInterrupted input done reader left
+
+-- after a dossier the reader and the checker can go on, more was handed out, and the yes is true; at the end the checker's last dossier
+-- is still whole, a line that is refused stays so, and behind a read that failed a line is due still
+abbrev pub OpensNext : Reader → Reader → Checked → Outcome → Type 0
+OpensNext old new checker (Yes verdict) = CanGoOn new checker × (old.handed < new.handed) × IsYes verdict checker
+OpensNext old new checker End = IsEnded checker.at
+OpensNext old new checker (No line reason) = checker.at ≡ Refused line reason
+OpensNext old new checker ReadFault = IsDue checker.at

@@ -1,0 +1,64 @@
+// Laws of inputs: what is refused is accepted as no dossiers, and what ends a dossier is its text.
+ghost use Rattle.std.specs.Prelude.{◌≡◌, ℕ, List, [], map};
+ghost use Rattle.crew_terms.specs.Words.{Words, words_of};
+ghost use Rattle.dossier_terms.specs.declared.Reason.{Reason};
+ghost use Rattle.dossier_terms.specs.Dossier.{Dossier};
+ghost use Rattle.dossier_terms.specs.Lines.{lines_of, text_of};
+ghost use Rattle.dossier_terms.specs.Reading.{Form};
+ghost use Rattle.dossier_terms.specs.Accepted.{IsAccepted};
+ghost use Rattle.dossier_terms.specs.Table.{Ended, Reaches};
+ghost use Rattle.cert_checker.specs.Checked.{IsTrueYes};
+ghost use Rattle.dossier_commands.specs.Input.{IsRefusal, text_of_lines};
+
+use dossier_laws::{
+    good_bounds, good_is_read, one_dossier, read_is_good, says_one_thing, sheet_is_good,
+};
+use text_laws::{good_lines, lines_in_text, read_front, words_of_line};
+
+/// An input with a line that is refused is accepted as no list of dossiers.
+pub fn refused_is_not_accepted()
+    ensures { (input : List ℕ) (done : List Dossier) (number : ℕ) (reason : Reason) (dossiers : List Dossier)
+        → IsRefusal input done number reason → IsAccepted input dossiers → ⊥ }
+{
+    read_front();
+    good_lines();
+    words_of_line();
+    text_laws::text_of_lines();
+    one_dossier();
+    good_is_read();
+    says_one_thing();
+}
+
+/// An input is refused at one line, behind one list of dossiers, for one reason.
+pub fn one_refusal()
+    ensures { (input : List ℕ) (done others : List Dossier) (number other : ℕ) (reason cause : Reason)
+        → IsRefusal input done number reason → IsRefusal input others other cause → (done ≡ others) × (number ≡ other) × (reason ≡ cause) }
+{
+    lines_in_text();
+    read_front();
+    good_lines();
+    words_of_line();
+    text_laws::text_of_lines();
+    one_dossier();
+    good_is_read();
+    says_one_thing();
+}
+
+/// Lines of which the last ends a dossier are its text, and the dossier is what it says.
+pub fn whole_is_true()
+    ensures { (lines : List (List ℕ)) (d : Dossier) → Ended Form (map words_of lines) d
+        → IsTrueYes d × (text_of d ≡ text_of_lines lines) × (lines_of d ≡ map words_of lines) }
+{
+    read_is_good();
+    good_bounds();
+    text_laws::text_of_lines();
+}
+
+/// Lines that are taken do not lead back to the first line of a dossier.
+pub fn first_line_is_first()
+    ensures { (lines : List Words) → Reaches Form lines Form → lines ≡ [] }
+{
+    sheet_is_good();
+    good_is_read();
+    read_is_good();
+}
