@@ -75,9 +75,9 @@ module _ (tree : TreeDraft) (t : Trail) (rest : Rest) (woke : t ≡ trail_over t
       (subst (λ x. IsAt (root_limits tree.draft.value.base.instance) x tree.walk fs) (sym woke) node.at)
 
   -- the goal is that of the place
-  pub goal_at : (is_closed : Bool) (goal : Goal) (fs : List Above) → IsAtNode tree fs → goal.bound ≡ tree.draft.value.bound → goal.unassigned ≡ unassigned_count tree.draft.value.plan → goal.is_closed ≡ is_closed
+  pub goal_at : (is_closed : Bool) (goal : Goal) (fs : List Above) → IsAtNode tree fs → goal.form ≡ tree.draft.value.base.form → goal.bound ≡ tree.draft.value.bound → goal.unassigned ≡ unassigned_count tree.draft.value.plan → goal.is_closed ≡ is_closed
       → IsGoalAt (site_of tree fs is_closed) t.limits goal
-  goal_at is_closed goal fs node bound count kind = record { limits = sym (limits_at tree t fs woke node); bound = bound; unassigned = count; is_closed = kind }
+  goal_at is_closed goal fs node form bound count kind = record { limits = sym (limits_at tree t fs woke node); form = form; bound = bound; unassigned = count; is_closed = kind }
 
   -- one more line of the leaf is due
   pub in_leaf : (new : TreeDraft) → new ≡ rested tree rest → (is_closed : Bool) (reader : LeafReader) (fs : List Above) (next : Reading) → IsAtNode tree fs → HasLeafRoom tree is_closed

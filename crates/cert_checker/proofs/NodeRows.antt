@@ -8,12 +8,13 @@ use Rattle.crew_terms.specs.Words.{Words}
 use Rattle.crew_terms.specs.Instance.{Instance}
 use Rattle.crew_terms.specs.Limits.{Limits, root_limits}
 use Rattle.dossier_terms.specs.declared.Reason.TheVariants as reasons
-use Rattle.dossier_terms.specs.Dossier.{Leaf}
+use Rattle.dossier_terms.specs.declared.DossierForm.TheVariants.{One, Two}
+use Rattle.dossier_terms.specs.Dossier.{Leaf, Cause, NoCause}
 use Rattle.crew_terms.specs.Branches.{LeafNode, Claim, Bare, InFirst, closed, left_open, split_of, side_of, frame_sum}
-use Rattle.dossier_terms.specs.Lines.{window_line, pair_line, bare_line, open_line, closed_line}
-use Rattle.dossier_terms.specs.Reading.{Reading, Answer, More as Goes, No as Refuses, Nodes, Ends, Prices, node_done, Begun, Above}
+use Rattle.dossier_terms.specs.Lines.{window_line, pair_line, why_none_line, bare_line, open_line, closed_line}
+use Rattle.dossier_terms.specs.Reading.{Reading, Answer, More as Goes, No as Refuses, Nodes, Whys, Ends, Prices, node_done, split_done, choice_done, limits_below, Begun, Above}
 use Rattle.crew_terms.specs.declared.TreeCounts.{TreeCounts}
-use Rattle.crew_terms.specs.Tree.{limits_below, child, CanSplit}
+use Rattle.crew_terms.specs.Tree.{child, CanSplit}
 use Rattle.crew_terms.specs.declared.Choice.{Choice}
 use Rattle.crew_terms.specs.declared.Choice.TheVariants as choices
 use Rattle.crew_terms.specs.declared.Side.{Side}
@@ -22,12 +23,14 @@ use Rattle.crew_terms.specs.declared.TheConstants.{LAST_MINUTE}
 use Rattle.dossier_terms.specs.Rules.{Holds, Fails, Spelled, Then, Else, On, Begins}
 use Rattle.dossier_terms.specs.Ranges.{IsCounts}
 use Rattle.dossier_terms.specs.Table.{Says}
-use Rattle.dossier_terms.specs.NodeTable.{node_row, after_bare, after_leaf, HasSplitRoom, after_split, split_fault}
+use Rattle.dossier_terms.specs.NodeTable.{node_row, why_row, after_bare, after_leaf, HasSplitRoom, after_split, split_fault}
 use Rattle.node_limits.specs.Trail.{Trail}
 use Rattle.node_limits.specs.Rest.{Rest, IsRestOver, trail_over}
 use Rattle.tree_walk.specs.Way.{Walked, IsAt, IsLeaf, LeavesLeaf, Enters, branch_of}
 use Rattle.cert_format.specs.Expected.{expect_of}
-use Rattle.cert_format.specs.Lines.{IsFaultOf}
+use Rattle.cert_format.specs.Lines.{IsFaultOf, IsWhyLine}
+use Rattle.cert_format.specs.declared.kinds.LineKind.{LineKind}
+use Rattle.cert_format.specs.declared.kinds.LineKind.TheVariants as kinds
 use Rattle.cert_format.specs.declared.kinds.Expect.TheVariants as expected
 use Rattle.cert_format.specs.declared.kinds.LineFault.{LineFault}
 use Rattle.leaf_check.specs.declared.reader.LeafReader.{LeafReader}
@@ -92,11 +95,12 @@ module _ (tree : TreeDraft) (old new : Trail) (to : Walked) (rest : Rest)
 
   -- below a split the walk stands in its first child
   pub entered_at : (box : Box TreeDraft) → box.value ≡ moved tree rest to → (reader : Option (Box LeafReader)) (choice : Choice) → Enters choice old tree.walk new to
-      → IsReaderFor tree.draft.value.base.instance reader → (fs : List Above) → IsAtNode tree fs
-      → Awaits (NodeDue box reader) (Nodes (draft_of tree.draft.value) tree.claimed (InFirst choice ∷ fs))
-  entered_at box is reader choice enters for_tree fs node =
-      subst (λ t. IsDueAt t reader (Nodes (draft_of tree.draft.value) tree.claimed (InFirst choice ∷ fs))) (sym is)
-      (InFirst choice ∷ fs, at_node (InFirst choice ∷ fs) node.claimed (enters (root_limits tree.draft.value.base.instance) fs (woken fs node)), for_tree, refl)
+      → IsReaderFor tree.draft.value.base.instance reader → (fs : List Above) (cause : Cause) → IsAtNode tree fs
+      → Awaits (NodeDue box reader) (split_done (draft_of tree.draft.value) tree.claimed fs (record { choice = choice; cause = cause }))
+  entered_at box is reader choice enters for_tree fs cause node =
+      let gs = InFirst (record { choice = choice; cause = cause }) ∷ fs in
+      subst (λ t. IsDueAt t reader (Nodes (draft_of tree.draft.value) tree.claimed gs)) (sym is)
+      (gs, at_node gs node.claimed (enters (root_limits tree.draft.value.base.instance) fs cause (woken fs node)), for_tree, refl)
 
 -- past the last leaf the whole tree is seen
 pub ended_at : (tree : TreeDraft) (old new : Trail) (to : Walked) (rest : Rest) (box : Box TreeDraft) (seen : TreeCounts) (is_closed : Bool)
@@ -153,9 +157,12 @@ module _ (b : Begun) (c : TreeCounts) (fs : List Above) where
       → after_split b c fs choice (Refuses (split_fault choice))
   split_refused choice n same room broken = Holds room (Fails (subst (λ m. CanSplit m choice → ⊥) same broken) refl)
 
-  pub split_more : (choice : Choice) (n : Limits) → n ≡ limits_below (root_limits b.instance) fs → HasSplitRoom c fs → CanSplit n choice
-      → after_split b c fs choice (Goes (Nodes b c (InFirst choice ∷ fs)))
-  split_more choice n same room can = Holds room (Holds (subst (λ m. CanSplit m choice) same can) (On refl))
+  pub split_more : (choice : Choice) (n : Limits) (next : Reading) → n ≡ limits_below (root_limits b.instance) fs → HasSplitRoom c fs → CanSplit n choice → choice_done b.form b c fs choice ≡ next
+      → after_split b c fs choice (Goes next)
+  split_more choice n next same room can is = Holds room (Holds (subst (λ m. CanSplit m choice) same can) (On (ap Goes (sym is))))
+
+  pub why_more : (choice : Choice) (ws : Words) → ws ≡ why_none_line → why_row b c fs choice ws (Goes (split_done b c fs (record { choice = choice; cause = NoCause })))
+  why_more choice ws is = Holds is (On refl)
 
   pub bare_no_room : (HasLeafRoomIn c fs false → ⊥) → after_bare b c fs (Refuses reasons.Count)
   bare_no_room broken = Fails broken refl
@@ -172,6 +179,11 @@ module _ (b : Begun) (c : TreeCounts) (fs : List Above) where
   pub leaf_more : (is_closed : Bool) → HasLeafRoomIn c fs is_closed
       → after_leaf b c fs is_closed (Goes (Prices (record { begun = b; counts = c; above = fs; is_closed = is_closed })))
   leaf_more is_closed room = Holds room (On refl)
+
+-- the line of a cause that is none
+pub why_is : (ws : Words) (kind : LineKind) → IsWhyLine ws kind → ws ≡ why_none_line
+why_is ws kinds.WhyNone h = h
+why_is ws _ h = absurd h
 
 -- ---- the rows of the table
 

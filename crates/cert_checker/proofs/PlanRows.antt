@@ -13,7 +13,7 @@ use Rattle.crew_terms.specs.Verdict.{IsVerdict, IsPlanOf}
 use Rattle.crew_terms.specs.declared.PlanVerdict.{PlanVerdict}
 use Rattle.dossier_terms.specs.declared.Reason.TheVariants as reasons
 use Rattle.dossier_terms.specs.Lines.{plan_line, do_line}
-use Rattle.dossier_terms.specs.Reading.{Answer, More as Goes, Jobs, Trees, jobs_due, Begun}
+use Rattle.dossier_terms.specs.Reading.{Answer, More as Goes, Jobs, Trees, Begun}
 use Rattle.dossier_terms.specs.Rules.{Must, Holds, HoldsBy, FailsBy, Spelled, On}
 use Rattle.dossier_terms.specs.Ranges.{IsDoLine}
 use Rattle.dossier_terms.specs.BodyTable.{plan_row, job_row, after_job}
@@ -25,9 +25,9 @@ use Rattle.cert_checker.specs.declared.due.Step.TheVariants.{More, No}
 
 -- ---- the line `plan`
 
-pub plan_more : (b : Begun) (u l : ℕ) (ws : Words) → u ≤ length b.instance.tasks → l ≤ length b.instance.tasks → ws ≡ plan_line u l
-    → plan_row b ws (Goes (jobs_due (record b { bound = l }) (length b.instance.tasks - u) 0))
-plan_more b u l ws p q is = Holds (_, is, refl) (Spelled (u, l) (p, q) is (On refl))
+pub plan_says : (b : Begun) (u l : ℕ) (ws : Words) (said : Answer) → u ≤ length b.instance.tasks → l ≤ length b.instance.tasks → ws ≡ plan_line u l
+    → after_job (record b { bound = l }) (length b.instance.tasks - u) 0 said → plan_row b ws said
+plan_says b u l ws said p q is rest = Holds (_, is, refl) (Spelled (u, l) (p, q) is rest)
 
 -- ---- the numbers at the end of a line
 

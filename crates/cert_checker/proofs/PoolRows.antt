@@ -12,6 +12,7 @@ use Rattle.crew_terms.specs.Plan.{Plan, empty_plan, job_of}
 use Rattle.crew_terms.specs.Verdict.{IsPlanOf}
 use Rattle.crew_terms.specs.declared.TheConstants.{LAST_MINUTE, MOST_TASKS}
 use Rattle.crew_terms.specs.declared.Visit.{Visit}
+use Rattle.dossier_terms.specs.declared.DossierForm.{DossierForm}
 use Rattle.dossier_terms.specs.declared.Reason.TheVariants as reasons
 use Rattle.dossier_terms.specs.Lines.{pool_line, route_line, visit_words}
 use Rattle.dossier_terms.specs.Reading.{More as Goes, No as Refuses, routes_due, Begun}
@@ -65,13 +66,13 @@ empty_is_plan i = record {
 }
 
 -- what is read behind the line `pool`
-pub begun : (i : Instance) (budget kept : ℕ) (pool : List Route) (plan : Plan) → pool ≡ [] → plan ≡ empty_plan (length i.tasks)
-    → ◌≡◌ {A = Begun} (record { instance = i; budget = budget; kept = kept; pool = pool; plan = plan; bound = 0 }) (begin i budget kept)
-begun i budget kept pool plan e f =
+pub begun : (form : DossierForm) (i : Instance) (budget kept : ℕ) (pool : List Route) (plan : Plan) → pool ≡ [] → plan ≡ empty_plan (length i.tasks)
+    → ◌≡◌ {A = Begun} (record { form = form; instance = i; budget = budget; kept = kept; pool = pool; plan = plan; bound = 0 }) (begin form i budget kept)
+begun form i budget kept pool plan e f =
     ap (λ x. with_parts x plan) e ∙ ap (λ x. with_parts [] x) f
   where
     with_parts : List Route → Plan → Begun
-    with_parts x y = record { instance = i; budget = budget; kept = kept; pool = x; plan = y; bound = 0 }
+    with_parts x y = record { form = form; instance = i; budget = budget; kept = kept; pool = x; plan = y; bound = 0 }
 
 -- ---- the line `pool`
 
@@ -80,13 +81,13 @@ pub natural_is : (n : ℤ) (k r : ℕ) → n ≡ pos k → k ≤ 922337203685477
 natural_is n k r e le f =
     let g : pos r ≡ pos k = sym f ∙ ap (λ z. to_z w64 (of_z w64 z)) e ∙ to_z_pos w64 k (omega arith) in cc
 
-pub pool_many : (i : Instance) (budget k c : ℕ) (ws : Words) → k ≤ 9223372036854775807 → c ≤ 9223372036854775807 → ws ≡ pool_line k c
-    → c < k → pool_row i budget ws (Refuses reasons.Pool)
-pool_many i budget k c ws a b is more = Holds (_, is, refl) (Spelled (k, c) (a, b) is (Fails (λ le. absurd (omega arith)) refl))
+pub pool_many : (form : DossierForm) (i : Instance) (budget k c : ℕ) (ws : Words) → k ≤ 9223372036854775807 → c ≤ 9223372036854775807 → ws ≡ pool_line k c
+    → c < k → pool_row form i budget ws (Refuses reasons.Pool)
+pool_many form i budget k c ws a b is more = Holds (_, is, refl) (Spelled (k, c) (a, b) is (Fails (λ le. absurd (omega arith)) refl))
 
-pub pool_more : (i : Instance) (budget k c : ℕ) (ws : Words) → k ≤ 9223372036854775807 → c ≤ 9223372036854775807 → ws ≡ pool_line k c
-    → k ≤ c → pool_row i budget ws (Goes (routes_due (begin i budget k) c))
-pool_more i budget k c ws a b is le = Holds (_, is, refl) (Spelled (k, c) (a, b) is (Holds le (On refl)))
+pub pool_more : (form : DossierForm) (i : Instance) (budget k c : ℕ) (ws : Words) → k ≤ 9223372036854775807 → c ≤ 9223372036854775807 → ws ≡ pool_line k c
+    → k ≤ c → pool_row form i budget ws (Goes (routes_due (begin form i budget k) c))
+pool_more form i budget k c ws a b is le = Holds (_, is, refl) (Spelled (k, c) (a, b) is (Holds le (On refl)))
 
 -- ---- a line `route`
 

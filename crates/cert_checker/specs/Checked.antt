@@ -5,7 +5,7 @@ use Rattle.crew_terms.specs.Plan.{Plan, unassigned_count}
 use Rattle.crew_terms.specs.Legal.{IsLegal}
 use Rattle.dossier_terms.specs.declared.Reason.{Reason}
 use Rattle.dossier_terms.specs.declared.Reason.TheVariants as reasons
-use Rattle.dossier_terms.specs.Dossier.{Dossier, IsGood}
+use Rattle.dossier_terms.specs.Dossier.{Dossier, IsGood, unshown}
 use Rattle.crew_terms.specs.Branches.{splits, closed, left_open}
 use Rattle.dossier_terms.specs.Reading.{Reading, Form, Answer, More as Goes, Whole as Ends, No as Refuses}
 use Rattle.dossier_terms.specs.Table.{Says, Reaches}
@@ -62,7 +62,7 @@ IsReached reading = (lines : List Words) × Reaches Form lines reading
 
 -- what a dossier says
 abbrev pub verdict_of : Dossier → Verdict
-verdict_of d = record { unassigned = unassigned_count d.plan; bound = d.bound; splits = splits d.tree; closed = closed d.tree; left_open = left_open d.tree }
+verdict_of d = record { unassigned = unassigned_count d.plan; bound = d.bound; splits = splits d.tree; closed = closed d.tree; left_open = left_open d.tree; unshown = unshown d.tree }
 
 -- the answer to the line of this number, as the checker says it
 abbrev pub said_of : ℕ → Answer → Said

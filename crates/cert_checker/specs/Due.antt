@@ -6,13 +6,14 @@ use Rattle.crew_terms.specs.Instance.{Instance}
 use Rattle.crew_terms.specs.Limits.{Limits as NodeLimits, root_limits}
 use Rattle.crew_terms.specs.Verdict.{IsPlanOf}
 use Rattle.dossier_terms.specs.Dossier.{Dossier, Written}
-use Rattle.dossier_terms.specs.Reading.{Reading, Answer, More as Goes, Whole as Ends, No as Refuses, whole, limits_of, Pools, Routes, Plans, Jobs, Trees, Nodes, Ends as EndDue, Begun as Read, Above, LeafSite}
+use Rattle.dossier_terms.specs.Reading.{Reading, Answer, More as Goes, Whole as Ends, No as Refuses, whole, limits_of, limits_below, Pools, Routes, Plans, Jobs, Trees, Nodes, Whys, Ends as EndDue, Begun as Read, Above, LeafSite}
 use Rattle.dossier_terms.specs.Ranges.{IsCounts}
 use Rattle.dossier_terms.specs.Table.{Says}
 use Rattle.node_limits.specs.Rest.{Rest, IsRestOver, limits_over, trail_over}
 use Rattle.head_check.specs.Head.{Holds as HoldsHead, IsLineDue, reading_of}
 use Rattle.leaf_check.specs.Reader.{IsReady, StandsFor}
 use Rattle.leaf_check.specs.declared.reader.LeafReader.{LeafReader}
+use Rattle.crew_terms.specs.Tree.{CanSplit}
 use Rattle.crew_terms.specs.declared.Choice.{Choice}
 use Rattle.crew_terms.specs.declared.Choice.TheVariants as choices
 use Rattle.dossier_terms.specs.Lines.{counts_of}
@@ -21,12 +22,12 @@ use Rattle.cert_checker.specs.declared.due.BegunDossier.{BegunDossier}
 use Rattle.cert_checker.specs.declared.due.TreeDraft.{TreeDraft}
 use Rattle.cert_checker.specs.declared.due.EndedDossier.{EndedDossier}
 use Rattle.cert_checker.specs.declared.due.Due.{Due}
-use Rattle.cert_checker.specs.declared.due.Due.TheVariants.{Head, Pool, Route, Plan, Job, Tree, Node, Leaf, End}
+use Rattle.cert_checker.specs.declared.due.Due.TheVariants.{Head, Pool, Route, Plan, Job, Tree, Node, Why, Leaf, End}
 use Rattle.cert_checker.specs.declared.due.Step.{Step}
 use Rattle.cert_checker.specs.declared.due.Step.TheVariants.{More, Whole, No}
 
 abbrev pub draft_of : BegunDossier → Read
-draft_of b = record { instance = b.base.instance; budget = b.base.nodes; kept = b.kept; pool = b.pool; plan = b.plan; bound = b.bound }
+draft_of b = record { form = b.base.form; instance = b.base.instance; budget = b.base.nodes; kept = b.kept; pool = b.pool; plan = b.plan; bound = b.bound }
 
 -- these are the limits of the root
 pub record IsRoot (i : Instance) (limits : Rest) : Type 0 where
@@ -63,6 +64,12 @@ pub record HasSplitLeft (tree : TreeDraft) : Type 0 where
   pub splits : tree.walk.seen.splits < tree.claimed.splits
   pub depth : length tree.walk.above < tree.claimed.depth
 
+-- the walk stands at the node below these splits, which can be split so, with room for one more split
+pub record MaySplit (tree : TreeDraft) (choice : Choice) (above : List Above) : Type 0 where
+  pub node : IsAtNode tree above
+  pub room : HasSplitLeft tree
+  pub split : CanSplit (limits_below (root_limits tree.draft.value.base.instance) above) choice
+
 abbrev pub HasLeafRoom : TreeDraft → Bool → Type 0
 HasLeafRoom tree is_closed = leaves_like is_closed tree.walk.seen < leaves_like is_closed tree.claimed
 
@@ -81,12 +88,14 @@ pub record IsInLeaf (tree : TreeDraft) (reader : LeafReader) (is_closed : Bool) 
 -- which no more is kept than the next lines need.
 abbrev pub Awaits : Due → Reading → Type 0
 Awaits (Head due) r = IsLineDue due × HoldsHead due × (r ≡ reading_of due)
-Awaits (Pool base) r = r ≡ Pools base.value.instance base.value.nodes
+Awaits (Pool base) r = r ≡ Pools base.value.form base.value.instance base.value.nodes
 Awaits (Route b more) r = IsBegun b.value × (r ≡ Routes (draft_of b.value) more)
 Awaits (Plan b) r = IsBegun b.value × (r ≡ Plans (draft_of b.value))
 Awaits (Job b more from) r = IsBegun b.value × (r ≡ Jobs (draft_of b.value) more from)
 Awaits (Tree b) r = IsRoot b.value.base.instance b.value.limits × (r ≡ Trees (draft_of b.value))
 Awaits (Node tree reader) r = (above : List Above) × IsAtNode tree.value above × IsReaderFor tree.value.draft.value.base.instance reader × (r ≡ Nodes (draft_of tree.value.draft.value) tree.value.claimed above)
+Awaits (Why tree reader choice) r = (above : List Above) × MaySplit tree.value choice above × IsReaderFor tree.value.draft.value.base.instance reader
+    × (r ≡ Whys (draft_of tree.value.draft.value) tree.value.claimed above choice)
 Awaits (Leaf tree reader is_closed) r = (above : List Above) × IsInLeaf tree.value reader.value is_closed above r
 Awaits (End tree seen) r = (t : Written) × (seen ≡ counts_of t) × (r ≡ EndDue (draft_of tree.value.draft.value) tree.value.claimed t)
 

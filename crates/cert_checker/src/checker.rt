@@ -21,8 +21,8 @@ use std::alloc::{AllocError, Global};
 use std::marker::Model;
 use std::mem;
 
-/// What a whole dossier says: how many tasks its plan leaves unassigned, its bound, and the numbers of splits, of
-/// closed leaves and of other leaves in its tree.
+/// What a whole dossier says: how many tasks its plan leaves unassigned, its bound, the numbers of splits, of closed
+/// leaves and of other leaves in its tree, and of how many splits no cause is shown.
 #[derive(Clone, Copy, Debug, PartialEq, Eq)]
 pub struct Verdict {
     pub unassigned: u32,
@@ -30,6 +30,7 @@ pub struct Verdict {
     pub splits: u32,
     pub closed: u32,
     pub left_open: u32,
+    pub unshown: u32,
 }
 
 /// What the checker says of a line.
@@ -96,6 +97,8 @@ fn whole_verdict(ended: &EndedDossier) -> Verdict
         splits: ended.counts.splits,
         closed: ended.counts.closed,
         left_open: ended.counts.left_open,
+        // So far no split's cause is shown.
+        unshown: ended.counts.splits,
     }
 }
 

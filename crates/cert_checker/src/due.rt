@@ -1,7 +1,7 @@
 // How far a dossier has been read: the line that is due, and what is kept of the lines before it.
 
 use crew_instance::Plan;
-use crew_terms::TreeCounts;
+use crew_terms::{Choice, TreeCounts};
 use dossier_terms::Reason;
 use head_check::{Base, HeadDue};
 use leaf_check::LeafReader;
@@ -12,7 +12,7 @@ use tree_walk::Walk;
 /// A dossier without its tree. The routes of the pool and the jobs of the plan may not all be read yet.
 #[derive(Drop)]
 pub struct BegunDossier {
-    /// The instance and the node budget.
+    /// The form, the instance and the node budget.
     pub base: Base,
     /// How many routes of the pool come from the round before.
     pub kept: u64,
@@ -81,7 +81,13 @@ pub enum Due {
         /// What read the leaves with prices so far; none before the first one.
         reader: Option<Box<LeafReader>>,
     },
-    /// A line of a leaf that has prices: `price`, `extra`, `worth` or `phi`.
+    /// The line `why` of a node that is split so.
+    Why {
+        tree: Box<TreeDraft>,
+        reader: Option<Box<LeafReader>>,
+        choice: Choice,
+    },
+    /// A line of a leaf that has prices: `price`, `extra`, `worth`, and `phi` or `steps`.
     Leaf {
         tree: Box<TreeDraft>,
         reader: Box<LeafReader>,

@@ -6,7 +6,7 @@ ghost use Rattle.cert_checker.specs.Due.{Awaits, IsAwaited, IsStep};
 
 use crate::due::{Due, Step};
 use crate::leaf::{end_line, number_line};
-use crate::node::node_line;
+use crate::node::{node_line, why_line};
 use crate::plan::{job_line, plan_line};
 use crate::pool::{pool_line, route_line};
 use crate::tree::tree_line;
@@ -54,6 +54,11 @@ pub fn judge(alloc: Global, due: Due, words: LineWords<'_>) -> Result<Step, Allo
         Due::Job { draft, more, from } => job_line(alloc, draft, more, from, words),
         Due::Tree { draft } => tree_line(alloc, draft, words),
         Due::Node { tree, reader } => node_line(alloc, tree, reader, words),
+        Due::Why {
+            tree,
+            reader,
+            choice,
+        } => why_line(alloc, tree, reader, choice, words),
         Due::Leaf {
             tree,
             reader,

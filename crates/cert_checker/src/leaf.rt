@@ -25,6 +25,7 @@ pub fn number_line(
 {
     let draft = &mut *tree.draft;
     let goal = Goal {
+        form: draft.base.form,
         bound: draft.bound,
         unassigned: unassigned(&draft.plan),
         is_closed,

@@ -1,19 +1,19 @@
-// The lines of nodes: `window`, `pair` and `leaf`.
+// The lines of nodes: `window`, `pair` and `leaf`, and the line `why` of a split.
 ghost use Rattle.std.specs.Prelude.{◌≡◌, ◌<◌, ◌↔◌, List, IfOk, IsTrue};
 ghost use Rattle.crew_terms.specs.Limits.{tasks_in, teams_in};
 ghost use Rattle.crew_terms.specs.Branches.{LeafNode, Claim};
-ghost use Rattle.dossier_terms.specs.Dossier.{Leaf};
-ghost use Rattle.dossier_terms.specs.Reading.{Prices, node_done, Above, LeafSite};
+ghost use Rattle.dossier_terms.specs.Dossier.{Cause, Leaf};
+ghost use Rattle.dossier_terms.specs.Reading.{Prices, node_done, split_done, Above, LeafSite};
 ghost use Rattle.leaf_check.specs.Reader.{IsReady, StandsFor};
 ghost use Rattle.crew_terms.specs.Tree.{CanSplit, IsFreePair};
 ghost use Rattle.tree_walk.specs.Way.{IsLeaf};
-ghost use Rattle.cert_checker.specs.Due.{Awaits, HasLeafRoom, HasSplitLeft, IsAwaited, IsInTree, IsKnown, IsAtNode, IsReaderFor, IsStep, Tells, draft_of};
+ghost use Rattle.cert_checker.specs.Due.{Awaits, HasLeafRoom, HasSplitLeft, IsAwaited, IsInTree, IsKnown, IsAtNode, IsReaderFor, IsStep, MaySplit, Tells, draft_of};
 ghost use Rattle.dossier_terms.specs.NodeTable.{after_bare, after_leaf, after_split, split_fault};
 
 use crate::due::{Due, Step, TreeDraft};
 use cert_format::{Expect, LineKind, fault_is_refused, read_line};
 use crew_terms::{Choice, Pair};
-use dossier_terms::Reason;
+use dossier_terms::{DossierForm, Reason};
 use field_table::LineWords;
 use leaf_check::LeafReader;
 use node_limits::Limits;
@@ -96,7 +96,27 @@ fn split_fault(choice: Choice) -> Reason
     }
 }
 
-/// A line `window` or `pair`.
+/// What is due behind a split of the node that is due: its first child.
+fn first_child(
+    alloc: Global,
+    mut tree: Box<TreeDraft>,
+    reader: Option<Box<LeafReader>>,
+    choice: Choice,
+) -> Result<Due, AllocError>
+    requires split { (fs : List Above) × MaySplit tree.value choice fs }
+    requires reader { IsReaderFor tree.value.draft.value.base.instance reader }
+    ensures { IfOk result (λ due. (fs : List Above) (cause : Cause) → IsAtNode tree.value fs
+        → Awaits due (split_done (draft_of tree.value.draft.value) tree.value.claimed fs (record { choice = choice; cause = cause }))) }
+{
+    let held = &mut *tree;
+    let draft = &mut *held.draft;
+    let mut limits = Limits::wake(&draft.base.instance, draft.limits.take(alloc));
+    held.walk.enter(&mut limits, choice)?;
+    draft.limits = limits.rest();
+    Ok(Due::Node { tree, reader })
+}
+
+/// A line `window` or `pair`. In form 2 the line `why` of the node comes next.
 fn split_line(
     alloc: Global,
     mut tree: Box<TreeDraft>,
@@ -111,15 +131,43 @@ fn split_line(
     if !has_split_room(&tree) {
         return Ok(Step::No(Reason::Count));
     }
-    let held = &mut *tree;
-    let draft = &mut *held.draft;
-    let mut limits = Limits::wake(&draft.base.instance, draft.limits.take(alloc));
+    let draft = &mut *tree.draft;
+    let form = draft.base.form;
+    let limits = Limits::wake(&draft.base.instance, draft.limits.take(alloc));
     if !can_split(&limits, choice) {
         return Ok(Step::No(split_fault(choice)));
     }
-    held.walk.enter(&mut limits, choice)?;
     draft.limits = limits.rest();
-    Ok(Step::More(Due::Node { tree, reader }))
+    match form {
+        DossierForm::One => {
+            let due = first_child(alloc, tree, reader, choice)?;
+            Ok(Step::More(due))
+        }
+        DossierForm::Two => Ok(Step::More(Due::Why {
+            tree,
+            reader,
+            choice,
+        })),
+    }
+}
+
+/// The line `why` of a node that is split so.
+pub fn why_line(
+    alloc: Global,
+    tree: Box<TreeDraft>,
+    reader: Option<Box<LeafReader>>,
+    choice: Choice,
+    words: LineWords<'_>,
+) -> Result<Step, AllocError>
+    requires { IsAwaited (Due.Why tree reader choice) }
+    ensures { IfOk result (IsStep (Due.Why tree reader choice) words.entry) }
+{
+    fault_is_refused();
+    if let Err(fault) = read_line(Expect::Why, words) {
+        return Ok(Step::No(fault.reason()));
+    }
+    let due = first_child(alloc, tree, reader, choice)?;
+    Ok(Step::More(due))
 }
 
 /// The line `leaf bare`.

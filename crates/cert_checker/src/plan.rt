@@ -1,8 +1,7 @@
 // The lines of a plan: `plan`, and each `do`.
 ghost use Rattle.std.specs.Prelude.{IfOk};
-ghost use Rattle.dossier_terms.specs.Reading.{jobs_due};
 ghost use Rattle.dossier_terms.specs.BodyTable.{after_job};
-ghost use Rattle.cert_checker.specs.Due.{Awaits, IsAwaited, IsBegun, IsStep, Tells, draft_of};
+ghost use Rattle.cert_checker.specs.Due.{IsAwaited, IsBegun, IsStep, Tells, draft_of};
 
 use crate::due::{BegunDossier, Due, Step};
 use cert_format::{Expect, LineKind, fault_is_refused, read_line};
@@ -13,19 +12,22 @@ use head_check::numbers::team_list;
 use plan_check::check_plan;
 use std::alloc::{AllocError, Global};
 
-/// What is due where so many jobs are to come, of tasks from `from` on.
-fn due_jobs(draft: Box<BegunDossier>, more: u32, from: u32) -> Due
+/// What is said where so many jobs are to come, of tasks from `from` on: where there is none, of the plan.
+fn judge_job(draft: Box<BegunDossier>, more: u32, from: u32) -> Step
     requires { IsBegun draft.value }
-    ensures { Awaits result (jobs_due (draft_of draft.value) more from) }
+    ensures { Tells (after_job (draft_of draft.value) more from) result }
 {
     if more > 0 {
-        Due::Job {
+        return Step::More(Due::Job {
             draft,
             more: more - 1,
             from,
-        }
-    } else {
-        Due::Tree { draft }
+        });
+    }
+    let held = &*draft;
+    match check_plan(&held.base.instance, &held.plan) {
+        PlanVerdict::Legal => Step::More(Due::Tree { draft }),
+        verdict => Step::No(Reason::Plan(verdict)),
     }
 }
 
@@ -45,26 +47,7 @@ pub fn plan_line(mut draft: Box<BegunDossier>, words: LineWords<'_>) -> Step
         unreachable!()
     };
     held.bound = bound;
-    Step::More(due_jobs(draft, tasks - unassigned, 0))
-}
-
-/// What is said after a job, where so many more are to come.
-fn judge_job(draft: Box<BegunDossier>, more: u32, from: u32) -> Step
-    requires { IsBegun draft.value }
-    ensures { Tells (after_job (draft_of draft.value) more from) result }
-{
-    if more > 0 {
-        return Step::More(Due::Job {
-            draft,
-            more: more - 1,
-            from,
-        });
-    }
-    let held = &*draft;
-    match check_plan(&held.base.instance, &held.plan) {
-        PlanVerdict::Legal => Step::More(Due::Tree { draft }),
-        verdict => Step::No(Reason::Plan(verdict)),
-    }
+    judge_job(draft, tasks - unassigned, 0)
 }
 
 /// A line `do`.

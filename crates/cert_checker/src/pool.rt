@@ -40,7 +40,7 @@ fn due_routes(draft: Box<BegunDossier>, more: u64) -> Due
 
 /// What is due behind the line `pool`, where it has these numbers. No memory is taken by them.
 fn begin_pool(alloc: Global, base: Base, kept: u64, routes: u64) -> Result<Due, AllocError>
-    ensures { IfOk result (λ due. Awaits due (routes_due (begin base.instance base.nodes kept) routes)) }
+    ensures { IfOk result (λ due. Awaits due (routes_due (begin base.form base.instance base.nodes kept) routes)) }
 {
     let limits = Limits::root(alloc, &base.instance)?;
     let limits = limits.rest();

@@ -37,10 +37,10 @@ told c reading fs step is leaf =
     let draft = c.deref_mut-draft.result.now in
     let read : draft ≡ tree.draft.value = c.deref_mut-draft.ensures.value ∙ ap (λ (x : TreeDraft). x.draft.value) c.deref_mut.ensures.value in
     let a : LeafSite = site_of tree fs c.args.is_closed in
-    let g : Goal = record { bound = draft.bound; unassigned = c.unassigned.result; is_closed = c.args.is_closed } in
+    let g : Goal = record { form = draft.base.form; bound = draft.bound; unassigned = c.unassigned.result; is_closed = c.args.is_closed } in
     subst (λ s. LeafTells a (Says reading c.args.words) s c.line-step.new.self) is
     (c.line-step.ensures.judged a reading (goal_at tree c.wake-limits.result c.rest.result (woke c) c.rest.ensures.same c.rest.ensures.over c.args.is_closed g fs leaf.node
-    (ap (λ (d : BegunDossier). d.bound) read) (c.unassigned.ensures ∙ ap (λ (d : BegunDossier). unassigned_count d.plan) read) refl)
+    (ap (λ (d : BegunDossier). d.base.form) read) (ap (λ (d : BegunDossier). d.bound) read) (c.unassigned.ensures ∙ ap (λ (d : BegunDossier). unassigned_count d.plan) read) refl)
     (subst (λ r. StandsFor a r reading) (sym c.deref_mut-2.ensures.value) leaf.stands))
 
 pub returns-in-More : goal.returns-in-More

@@ -21,5 +21,5 @@ due_routes-requires c =
 pub returns : goal.returns
 returns c =
     subst (λ d. Awaits c.due_routes.result (routes_due d c.args.routes))
-    (ap draft_of c.in_ok-draft.ensures.ok ∙ begun c.args.base.instance c.args.base.nodes c.args.kept c.new.result c.in_ok-plan.plan c.new.ensures (c.in_ok-plan.ensures ∙ ap empty_plan c.tasks.ensures.count))
+    (ap draft_of c.in_ok-draft.ensures.ok ∙ begun c.args.base.form c.args.base.instance c.args.base.nodes c.args.kept c.new.result c.in_ok-plan.plan c.new.ensures (c.in_ok-plan.ensures ∙ ap empty_plan c.tasks.ensures.count))
     c.due_routes.ensures

@@ -16,21 +16,22 @@ returns-then-kept-routes c = λ reading e.
     let h = subst (IsPoolLine c.args.words) c.in-Pool.is c.in-Ok.ensures in
     let k = h.2 in let n = h.3 in let more = c.if-kept-routes.true in
     let less : h.1 < h.0 = omega (arith, ints) in
-    subst (λ r. Says r c.args.words (Refuses reasons.Pool)) (sym e) (pool_many c.args.base.value.instance c.args.base.value.nodes h.0 h.1 c.args.words h.4 h.5 h.6 less)
+    subst (λ r. Says r c.args.words (Refuses reasons.Pool)) (sym e) (pool_many c.args.base.value.form c.args.base.value.instance c.args.base.value.nodes h.0 h.1 c.args.words h.4 h.5 h.6 less)
 
 pub returns : goal.returns
 returns c = λ reading e.
     let h = subst (IsPoolLine c.args.words) c.in-Pool.is c.in-Ok.ensures in
     let k = h.2 in let n = h.3 in let more = c.if-kept-routes.false in
+    let form = c.args.base.value.form in
     let i = c.args.base.value.instance in
     let budget = c.args.base.value.nodes in
     let due = c.in_ok-due.due in
     let le : h.0 ≤ h.1 = omega (arith, ints) in
     let kept : c.natural.result ≡ h.0 = natural_is c.in-Pool.kept h.0 c.natural.result k h.4 c.natural.ensures in
     let routes : c.natural-2.result ≡ h.1 = natural_is c.in-Pool.routes h.1 c.natural-2.result n h.5 c.natural-2.ensures in
-    let begun = subst (λ (b : Base). Awaits due (routes_due (begin b.instance b.nodes c.natural.result) c.natural-2.result)) c.into_inner.ensures c.in_ok-due.ensures in
-    let next : Awaits due (routes_due (begin i budget h.0) h.1) =
-    subst (λ m. Awaits due (routes_due (begin i budget h.0) m)) routes
-    (subst (λ m. Awaits due (routes_due (begin i budget m) c.natural-2.result)) kept begun) in
+    let begun = subst (λ (b : Base). Awaits due (routes_due (begin b.form b.instance b.nodes c.natural.result) c.natural-2.result)) c.into_inner.ensures c.in_ok-due.ensures in
+    let next : Awaits due (routes_due (begin form i budget h.0) h.1) =
+    subst (λ m. Awaits due (routes_due (begin form i budget h.0) m)) routes
+    (subst (λ m. Awaits due (routes_due (begin form i budget m) c.natural-2.result)) kept begun) in
     subst (λ r. Tells (Says r c.args.words) (More due)) (sym e)
-    (routes_due (begin i budget h.0) h.1, pool_more i budget h.0 h.1 c.args.words h.4 h.5 h.6 le, next)
+    (routes_due (begin form i budget h.0) h.1, pool_more form i budget h.0 h.1 c.args.words h.4 h.5 h.6 le, next)

@@ -1,0 +1,35 @@
+use Rattle.std.proofs.Common.{◌≡◌, ◌<◌, ◌+◌, ◌^◌, subst, sym, arith}
+use Rattle.std.specs.Box.{with_value}
+use Rattle.crew_terms.specs.Tree.{CanSplit}
+use Rattle.tree_walk.specs.Way.{Enters}
+use Rattle.cert_checker.specs.declared.due.TreeDraft.{TreeDraft}
+use Rattle.cert_checker.proofs.NodeRows.{entered_at, limits_at, taken_woke, written_back}
+use Rattle.cert_checker.proofs.node.first_child.Goals as goal
+
+pub enter-requires : goal.enter-requires
+enter-requires c =
+    let tree = c.args.tree.value in
+    let fs = c.requires.split.0 in
+    let may = c.requires.split.1 in
+    let woke = taken_woke tree c.deref_mut-held.result.now c.deref_mut-draft.result.now c.take.result c.wake-limits.result c.deref_mut-held.ensures.value c.deref_mut-draft.ensures.value c.take.ensures.taken c.wake-limits.ensures in
+    let few = may.node.claimed.splits in
+    let room = may.room.splits in
+    let small : tree.walk.seen.splits + 1 < 2 ^ 32 = omega arith in
+    record {
+      split = subst (λ n. CanSplit n c.args.choice) (sym (limits_at tree c.wake-limits.result fs woke may.node)) may.split;
+      room = subst (λ (t : TreeDraft). t.walk.seen.splits + 1 < 2 ^ 32) (sym c.deref_mut-held.ensures.value) small;
+    }
+
+pub returns : goal.returns
+returns c = λ fs cause node.
+    let tree = c.args.tree.value in
+    let woke = taken_woke tree c.deref_mut-held.result.now c.deref_mut-draft.result.now c.take.result c.wake-limits.result c.deref_mut-held.ensures.value c.deref_mut-draft.ensures.value c.take.ensures.taken c.wake-limits.ensures in
+    let held = c.deref_mut-held.result.now in
+    let draft = c.deref_mut-draft.result.now in
+    let n = c.wake-limits.result in
+    entered_at tree n c.enter.new.limits c.enter.new.self c.rest.result woke
+    c.enter.ensures.instance c.rest.ensures.same c.rest.ensures.over
+    (with_value c.args.tree (record held { draft = with_value held.draft (record draft { limits = c.rest.result }); walk = c.enter.new.self }))
+    (written_back tree held draft c.rest.result c.enter.new.self c.deref_mut-held.ensures.value c.deref_mut-draft.ensures.value)
+    c.args.reader c.args.choice
+    (subst (λ (x : TreeDraft). Enters c.args.choice n x.walk c.enter.new.limits c.enter.new.self) c.deref_mut-held.ensures.value c.in_ok-enter.ensures.ok) c.requires.reader fs cause node
