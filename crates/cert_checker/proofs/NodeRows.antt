@@ -1,24 +1,20 @@
 -- where a walk stands behind a line of a node, and the rows of the table for these lines
-use Rattle.std.proofs.Common.{◌≡◌, ◌≤◌, ◌<◌, ℕ, List, [], ◌∷◌, length, Bool, true, false, ap, subst, sym, refl, ◌∙◌, arith}
+use Rattle.std.proofs.Common.{◌≡◌, ◌≤◌, ◌<◌, ℕ, List, ◌∷◌, length, Bool, true, false, ap, subst, sym, refl, ◌∙◌, arith}
 use Rattle.std.specs.Prelude.{if◌then◌else◌, codes, Option}
 use Rattle.std.specs.Global.{Box}
 use Rattle.std.specs.Box.{with_value}
 use Rattle.std.proofs.lemmas.List.{length-map}
 use Rattle.crew_terms.specs.Words.{Words}
-use Rattle.crew_terms.specs.Instance.{Instance}
 use Rattle.crew_terms.specs.Limits.{Limits, root_limits}
 use Rattle.dossier_terms.specs.declared.Reason.TheVariants as reasons
-use Rattle.dossier_terms.specs.declared.DossierForm.TheVariants.{One, Two}
 use Rattle.dossier_terms.specs.Dossier.{Leaf, Cause, NoCause}
-use Rattle.crew_terms.specs.Branches.{LeafNode, Claim, Bare, InFirst, closed, left_open, split_of, side_of, frame_sum}
+use Rattle.crew_terms.specs.Branches.{LeafNode, Claim, Bare, InFirst, closed, left_open, frame_sum}
 use Rattle.dossier_terms.specs.Lines.{window_line, pair_line, why_none_line, bare_line, open_line, closed_line}
-use Rattle.dossier_terms.specs.Reading.{Reading, Answer, More as Goes, No as Refuses, Nodes, Whys, Ends, Prices, node_done, split_done, choice_done, limits_below, Begun, Above}
+use Rattle.dossier_terms.specs.Reading.{Reading, Answer, More as Goes, No as Refuses, Nodes, Ends, Prices, node_done, split_done, choice_done, limits_below, Begun, Above}
 use Rattle.crew_terms.specs.declared.TreeCounts.{TreeCounts}
-use Rattle.crew_terms.specs.Tree.{child, CanSplit}
+use Rattle.crew_terms.specs.Tree.{CanSplit}
 use Rattle.crew_terms.specs.declared.Choice.{Choice}
 use Rattle.crew_terms.specs.declared.Choice.TheVariants as choices
-use Rattle.crew_terms.specs.declared.Side.{Side}
-use Rattle.crew_terms.specs.declared.Side.TheVariants.{First, Second}
 use Rattle.crew_terms.specs.declared.TheConstants.{LAST_MINUTE}
 use Rattle.dossier_terms.specs.Rules.{Holds, Fails, Spelled, Then, Else, On, Begins}
 use Rattle.dossier_terms.specs.Ranges.{IsCounts}
@@ -34,7 +30,7 @@ use Rattle.cert_format.specs.declared.kinds.LineKind.TheVariants as kinds
 use Rattle.cert_format.specs.declared.kinds.Expect.TheVariants as expected
 use Rattle.cert_format.specs.declared.kinds.LineFault.{LineFault}
 use Rattle.leaf_check.specs.declared.reader.LeafReader.{LeafReader}
-use Rattle.cert_checker.specs.Due.{Awaits, HasLeafRoom, HasSplitLeft, IsInTree, IsAtNode, IsReaderFor, IsStep, Tells, draft_of}
+use Rattle.cert_checker.specs.Due.{Awaits, HasLeafRoom, HasSplitLeft, IsAtNode, IsReaderFor, IsStep, Tells, draft_of}
 use Rattle.cert_checker.specs.declared.due.BegunDossier.{BegunDossier as Held}
 use Rattle.cert_checker.specs.declared.due.TreeDraft.{TreeDraft}
 use Rattle.cert_checker.specs.declared.due.Due.TheVariants.{Node as NodeDue, End as EndDue}

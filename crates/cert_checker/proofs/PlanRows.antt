@@ -13,7 +13,7 @@ use Rattle.crew_terms.specs.Verdict.{IsVerdict, IsPlanOf}
 use Rattle.crew_terms.specs.declared.PlanVerdict.{PlanVerdict}
 use Rattle.dossier_terms.specs.declared.Reason.TheVariants as reasons
 use Rattle.dossier_terms.specs.Lines.{plan_line, do_line}
-use Rattle.dossier_terms.specs.Reading.{Answer, More as Goes, Jobs, Trees, Begun}
+use Rattle.dossier_terms.specs.Reading.{Answer, Jobs, Trees, Begun}
 use Rattle.dossier_terms.specs.Rules.{Must, Holds, HoldsBy, FailsBy, Spelled, On}
 use Rattle.dossier_terms.specs.Ranges.{IsDoLine}
 use Rattle.dossier_terms.specs.BodyTable.{plan_row, job_row, after_job}

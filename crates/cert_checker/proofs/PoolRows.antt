@@ -1,8 +1,8 @@
 -- the rows of the table for the lines of a pool
-use Rattle.std.proofs.Common.{◌≡◌, ◌≢◌, ◌≤◌, ◌<◌, ◌*◌, ◌-◌, ◌++◌, ◌^◌, ℕ, zero, suc, List, [], ◌∷◌, length, map, ap, subst, sym, refl, ◌∙◌, arith, w64, to_z, of_z, None, Some}
+use Rattle.std.proofs.Common.{◌≡◌, ◌≢◌, ◌≤◌, ◌<◌, ◌++◌, ◌^◌, ℕ, zero, suc, List, [], ◌∷◌, length, map, ap, subst, sym, refl, ◌∙◌, arith, w64, to_z, of_z, None, Some}
 use Rattle.std.specs.Prelude.{ℤ, pos, codes, All}
 use Rattle.std.specs.List.{AllByRecursion, flat_map}
-use Rattle.std.proofs.lemmas.List.{length-append, length-replicate}
+use Rattle.std.proofs.lemmas.List.{length-replicate}
 use Rattle.std.proofs.lemmas.List.Elements.{All-contains}
 use Rattle.std.proofs.lemmas.Int.{to_z_pos}
 use Rattle.crew_terms.specs.Words.{Words}
@@ -14,7 +14,7 @@ use Rattle.crew_terms.specs.declared.TheConstants.{LAST_MINUTE, MOST_TASKS}
 use Rattle.crew_terms.specs.declared.Visit.{Visit}
 use Rattle.dossier_terms.specs.declared.DossierForm.{DossierForm}
 use Rattle.dossier_terms.specs.declared.Reason.TheVariants as reasons
-use Rattle.dossier_terms.specs.Lines.{pool_line, route_line, visit_words}
+use Rattle.dossier_terms.specs.Lines.{pool_line, route_line}
 use Rattle.dossier_terms.specs.Reading.{More as Goes, No as Refuses, routes_due, Begun}
 use Rattle.dossier_terms.specs.Rules.{Holds, Fails, Spelled, On, Begins}
 use Rattle.dossier_terms.specs.Ranges.{IsRouteLine, IsPairs}

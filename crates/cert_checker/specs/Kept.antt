@@ -1,5 +1,5 @@
 -- what the fields of a checker stand for
-use Rattle.std.specs.Prelude.{◌≤◌, ◌^◌, ℕ}
+use Rattle.std.specs.Prelude.{◌≤◌, ℕ}
 use Rattle.crew_terms.specs.declared.TheConstants.{LONGEST_INPUT}
 use Rattle.dossier_terms.specs.Dossier.{Dossier}
 use Rattle.dossier_terms.specs.Reading.{Reading}

@@ -1,5 +1,5 @@
 -- runs of potentials and the words that spell them
-use Rattle.std.proofs.Common.{◌≡◌, ◌≤◌, ◌<◌, ◌+◌, ◌*◌, [], ◌∷◌, ℕ, zero, suc, ℤ, pos, List, length, map, drop, length-drop, get_or, ap, sym, refl, ◌∙◌, arith}
+use Rattle.std.proofs.Common.{◌≡◌, ◌≤◌, ◌<◌, ◌+◌, ◌*◌, [], ◌∷◌, ℕ, zero, suc, List, length, map, drop, length-drop, get_or, ap, sym, refl, ◌∙◌, arith}
 use Rattle.std.proofs.lemmas.Int.{ints}
 use Rattle.std.proofs.lemmas.List.{get_or-drop}
 use Rattle.std.specs.Prelude.{FitsSigned, codes}

@@ -1,15 +1,13 @@
 -- what a line says where a kind of line is expected
-use Rattle.std.specs.Prelude.{◌≡◌, ◌≤◌, ◌<◌, ℕ, pos, List, length, Result, Ok, Err, map, codes}
-use Rattle.std.specs.List.{AllByRecursion, flat_map}
+use Rattle.std.specs.Prelude.{◌≡◌, ◌≤◌, ◌<◌, ℕ, pos, List, Result, Ok, Err, map, codes}
+use Rattle.std.specs.List.{flat_map}
 use Rattle.crew_terms.specs.Words.{Words}
 use Rattle.crew_terms.specs.Name.{IsName}
 use Rattle.crew_terms.specs.Leaf.{IsPrice}
-use Rattle.crew_terms.specs.Plan.{Job}
 use Rattle.crew_terms.specs.declared.Team.{Team}
 use Rattle.crew_terms.specs.declared.Task.{Task}
 use Rattle.crew_terms.specs.declared.Visit.{Visit}
 use Rattle.dossier_terms.specs.Dossier.{IsWorthNumber, IsSigned}
-use Rattle.crew_terms.specs.Limits.{Route}
 use Rattle.dossier_terms.specs.declared.DossierForm.{DossierForm}
 use Rattle.dossier_terms.specs.Runs.{Run}
 use Rattle.crew_terms.specs.declared.TheConstants.{LAST_MINUTE}

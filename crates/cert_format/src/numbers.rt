@@ -157,10 +157,7 @@ pub(crate) fn read_visits<'a>(
 }
 
 /// The runs of the words from a place on, each a minute and a potential.
-pub(crate) fn read_runs<'a>(
-    words: LineWords<'a>,
-    from: usize,
-) -> Result<LineNumbers<'a>, LineFault>
+pub(crate) fn read_runs<'a>(words: LineWords<'a>, from: usize) -> Result<LineNumbers<'a>, LineFault>
     requires pairs { (k : ℕ) × (length words ≡ from + 2 * k) }
     ensures { MatchResult result (λ rest. (runs : List Run) × (rest ≡ flat_map run_numbers runs) × SpellRuns runs (drop from words.entry))
         (λ fault. (fault ≡ LineFault.Number) × ((runs : List Run) → SpellRuns runs (drop from words.entry) → ⊥)) }

@@ -1,5 +1,5 @@
 -- the rows of the lines of a leaf, behind what is read of a line
-use Rattle.std.proofs.Common.{◌≡◌, ◌+◌, ℕ, List, [], ◌∷◌, ◌++◌, length, map, refl, ◌∙◌, sym, subst}
+use Rattle.std.proofs.Common.{◌≡◌, ℕ, List, [], ◌∷◌, ◌++◌, length, map, refl, ◌∙◌, sym, subst}
 use Rattle.std.specs.Prelude.{ℤ}
 use Rattle.std.specs.List.{flat_map}
 use Rattle.std.specs.Fmt.{signed_decimal}
@@ -7,11 +7,11 @@ use Rattle.std.proofs.lemmas.List.{length-map}
 use Rattle.crew_terms.specs.Words.{Words}
 use Rattle.crew_terms.specs.Limits.{tasks_in}
 use Rattle.crew_terms.specs.Leaf.{IsPrice}
-use Rattle.dossier_terms.specs.declared.DossierForm.TheVariants.{One, Two}
+use Rattle.dossier_terms.specs.declared.DossierForm.TheVariants.{One}
 use Rattle.dossier_terms.specs.declared.Reason.TheVariants.{Steps}
 use Rattle.dossier_terms.specs.Counted.{steps_pairs}
 use Rattle.dossier_terms.specs.Dossier.{Leaf, Potentials, IsWorthNumber, IsSigned}
-use Rattle.crew_terms.specs.Minutes.{first_minute, minute_count, open_tasks, priced, required_teams}
+use Rattle.crew_terms.specs.Minutes.{minute_count, open_tasks, priced, required_teams}
 use Rattle.dossier_terms.specs.Lines.{price_line, extra_line, worth_line, phi_line, steps_line, run_words}
 use Rattle.dossier_terms.specs.Reading.{Answer, No as Refuses, limits_of, LeafSite}
 use Rattle.dossier_terms.specs.Rules.{Holds, Fails, Spelled}

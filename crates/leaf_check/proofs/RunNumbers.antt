@@ -1,5 +1,5 @@
 -- runs by their numbers in a line, and the numbers that they stand for
-use Rattle.std.proofs.Common.{◌≡◌, ◌<◌, ◌≤◌, ◌+◌, ◌*◌, ◌-◌, ℕ, zero, suc, ℤ, pos, List, [], ◌∷◌, ◌++◌, length, drop, get_or, replicate, ap, sym, refl, ◌∙◌, arith, append-nil, length-append, w64, to_z, of_z}
+use Rattle.std.proofs.Common.{◌≡◌, ◌<◌, ◌≤◌, ◌+◌, ◌*◌, ◌-◌, ℕ, zero, suc, ℤ, pos, List, [], ◌∷◌, length, get_or, replicate, ap, sym, refl, ◌∙◌, arith, append-nil, length-append, w64, to_z, of_z}
 use Rattle.std.specs.Prelude.{FitsSigned}
 use Rattle.std.proofs.lemmas.Int.{to_z-of_z}
 use Rattle.std.proofs.lemmas.List.{drop_all, get_or-append_right, get_or_append_left, get_or-replicate, length-replicate}

@@ -1,4 +1,4 @@
-use Rattle.std.proofs.Common.{◌≡◌, ◌<◌, ◌+◌, ◌^◌, subst, sym, arith}
+use Rattle.std.proofs.Common.{◌<◌, ◌+◌, ◌^◌, subst, sym, arith}
 use Rattle.std.specs.Box.{with_value}
 use Rattle.crew_terms.specs.Tree.{CanSplit}
 use Rattle.tree_walk.specs.Way.{Enters}

@@ -1,4 +1,4 @@
-use Rattle.std.proofs.Common.{◌≡◌, ◌≤◌, ◌-◌, length, ap, sym, subst, ◌∙◌}
+use Rattle.std.proofs.Common.{◌≤◌, ◌-◌, ap, sym, subst, ◌∙◌}
 use Rattle.cert_format.specs.Lines.{IsPlanLine}
 use Rattle.dossier_terms.specs.Reading.{Plans}
 use Rattle.dossier_terms.specs.Table.{Says}

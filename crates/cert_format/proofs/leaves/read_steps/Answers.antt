@@ -1,6 +1,6 @@
 use Rattle.std.proofs.Common.{refl}
 use Rattle.cert_format.proofs.LeafLines.{pairs_after_team}
-use Rattle.cert_format.proofs.Runs.{steps_line_of, no_steps}
+use Rattle.cert_format.proofs.Runs.{steps_line_of}
 use Rattle.cert_format.proofs.leaves.read_steps.Goals as goal
 
 pub read_runs-requires : goal.read_runs-requires

@@ -1,4 +1,4 @@
-use Rattle.std.proofs.Common.{◌≡◌, ◌<◌, ◌+◌, ◌*◌, [], ℕ, length, get_or, subst, sym, arith, inl, inr}
+use Rattle.std.proofs.Common.{◌+◌, ◌*◌, [], ℕ, get_or, subst, sym, arith, inl, inr}
 use Rattle.std.proofs.lemmas.Bool.{cases_eq}
 use Rattle.cert_format.specs.Fields.{SpellsOne}
 use Rattle.cert_format.proofs.numbers.are_pairs.Goals as goal
@@ -25,7 +25,7 @@ loop-n-preserved c = λ k less.
     let from = c.args.from in
     elim (cases_eq k c.loop-n.n) [
       | inl same ↦ subst (λ (m : ℕ). SpellsOne c.args.first.now (get_or ws (from + 2 * m) []) × SpellsOne c.args.second.now (get_or ws (from + 2 * m + 1) [])) (sym same)
-      (c.if-not-is_in.ensures, c.if-not-is_in-2.ensures)
+          (c.if-not-is_in.ensures, c.if-not-is_in-2.ensures)
       | inr other ↦ c.loop-n.invariant k (omega arith)
     ]
 

@@ -1,6 +1,6 @@
 use Rattle.std.proofs.Common.{◌≡◌, ◌<◌, ◌+◌, ◌*◌, suc, length, get_or, ap, sym, ◌∙◌, arith, rules, pos, w64, of_z, add-one}
 use Rattle.std.specs.Prelude.{FitsSigned}
-use Rattle.leaf_check.specs.Runs.{begin_of_run, number_of_run}
+use Rattle.leaf_check.specs.Runs.{begin_of_run}
 use Rattle.leaf_check.proofs.RunNumbers.{numbers_length, value_number, next_value, same_word}
 use Rattle.leaf_check.proofs.runs.goes_on.Goals as goal
 

@@ -1,4 +1,4 @@
-use Rattle.std.proofs.Common.{◌≡◌, ◌++◌, suc, [], ◌∷◌, length, ap, sym, subst, refl, ◌∙◌, arith, add-one}
+use Rattle.std.proofs.Common.{◌≡◌, suc, length, ap, sym, subst, refl, ◌∙◌, arith, add-one}
 use Rattle.crew_terms.specs.Limits.{tasks_in}
 use Rattle.cert_format.specs.Lines.{IsFaultOf, IsPhiLine}
 use Rattle.cert_format.specs.Expected.{potentials_expect}

@@ -1,8 +1,7 @@
-use Rattle.std.proofs.Common.{◌≡◌, ◌<◌, ◌≤◌, ◌+◌, ◌-◌, ◌++◌, ℕ, suc, [], ◌∷◌, length, get_or, ap, sym, subst, refl, ◌∙◌, arith, add-one, ℤ, List, pos}
+use Rattle.std.proofs.Common.{◌≡◌, ◌<◌, ◌+◌, ◌-◌, ℕ, suc, length, get_or, ap, sym, subst, refl, ◌∙◌, arith, add-one, ℤ, List, pos}
 use Rattle.crew_terms.specs.Limits.{tasks_in}
 use Rattle.cert_format.specs.Lines.{IsFaultOf, IsStepsOf}
 use Rattle.cert_format.specs.Expected.{potentials_expect}
-use Rattle.cert_format.specs.declared.kinds.Expect.TheVariants as expected
 use Rattle.dossier_terms.specs.Dossier.{Potentials}
 use Rattle.crew_terms.specs.Minutes.{first_minute, minute_count}
 use Rattle.dossier_terms.specs.Reading.{No as Refuses, limits_of, Phis}
