@@ -114,8 +114,8 @@ impl Desk {
         skills: u64,
     ) -> Result<(), AllocError>
         requires range { IsInRange (Entry.Team name home.now shift.0 shift.1 skills) }
-        requires accepted {
-            refusal_of self.old (Entry.Team name home.now shift.0 shift.1 skills) ≡ None }
+        requires accepted { refusal_of self.old
+            (Entry.Team name home.now shift.0 shift.1 skills) ≡ None }
         ensures ok { OnOk result
             (self.new ≡ after_entry self.old (Entry.Team name home.now shift.0 shift.1 skills)) }
         ensures err { OnErr result (self.new ≡ self.old) }
@@ -141,14 +141,12 @@ impl Desk {
         teams: u32,
         skills: u64,
     ) -> Result<(), AllocError>
-        requires range {
-            IsInRange (Entry.Task name place.now window.0 window.1 minutes teams skills) }
-        requires accepted {
-            let task = Entry.Task name place.now window.0 window.1 minutes teams skills in
-            refusal_of self.old task ≡ None }
-        ensures ok {
-            let task = Entry.Task name place.now window.0 window.1 minutes teams skills in
-            OnOk result (self.new ≡ after_entry self.old task) }
+        requires range { IsInRange
+            (Entry.Task name place.now window.0 window.1 minutes teams skills) }
+        requires accepted { refusal_of self.old
+            (Entry.Task name place.now window.0 window.1 minutes teams skills) ≡ None }
+        ensures ok { OnOk result (self.new ≡ after_entry self.old
+            (Entry.Task name place.now window.0 window.1 minutes teams skills)) }
         ensures err { OnErr result (self.new ≡ self.old) }
     {
         let (earliest, latest) = window;
