@@ -2,4 +2,8 @@
 #![tactic(auto)]
 
 #[cfg(test)]
+mod closed;
+#[cfg(test)]
+mod days;
+#[cfg(test)]
 mod roots;
