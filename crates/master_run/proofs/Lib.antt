@@ -1,3 +1,5 @@
 pub mod Growing
 pub mod Pivoted
 pub mod Over
+pub mod Rounded
+pub mod Solved

@@ -1,15 +1,13 @@
 -- where pivots and a column lead a run
-use Rattle.std.proofs.Common.{◌≡◌, ◌<◌, ◌+◌, ℕ, List, [], ◌∷◌, ◌++◌, length, Option, None, sym, ap, subst, refl, ◌∙◌, append_assoc, arith, All}
+use Rattle.std.proofs.Common.{◌≡◌, ◌<◌, ◌+◌, ℕ, List, [], ◌∷◌, ◌++◌, length, Option, None, sym, ap, subst, ◌∙◌, append_assoc, arith, All}
 use Rattle.std.specs.Prelude.{MatchOption}
 use Rattle.crew_num.specs.declared.Overflow.{Overflow}
 use Rattle.crew_terms.specs.Limits.{Limits, Route}
 use Rattle.search_terms.specs.Earned.{AreLegalOf}
 use Rattle.search_terms.specs.Overflows.{OverflowAt}
 use Rattle.search_terms.specs.Rows.{number, value_row}
-use Rattle.search_terms.specs.Opening.{dual, openers, places as place_list}
-use Rattle.search_terms.specs.Earned.{AreRounded, rounded as rounded_of, rounded_dual}
+use Rattle.search_terms.specs.Opening.{dual, places as place_list}
 use Rattle.search_terms.specs.declared.TheConstants.{VALUE}
-use Rattle.crew_terms.specs.Leaf.{Prices}
 use Rattle.std.proofs.lemmas.List.{map-append}
 use Rattle.std.specs.Prelude.{Result, Ok, Err, OnOk}
 use Rattle.std.proofs.lemmas.List.Elements.{All-nil, All-push}
@@ -101,16 +99,6 @@ module _ (n : Limits) (columns : List Route) (old : RunState) (new : MasterState
 
 -- ---- duals
 
-pub duals_same : (m : MasterState) → HaveSameDuals m m
-duals_same m = record { same = refl; whole = refl; each = λ n h is below. refl }
-
-pub duals_then : (a b c : MasterState) → HaveSameDuals a b → HaveSameDuals b c → HaveSameDuals a c
-duals_then a b c h g = record {
-  same = g.same ∙ h.same;
-  whole = g.whole ∙ h.whole;
-  each = λ n i is below. g.each n i (h.same ∙ is) below ∙ h.each n i is below;
-}
-
 -- the same rows have the same duals
 pub duals_kept : (a b c : MasterState) → HaveSameDuals a b → c.places ≡ b.places → c.rows ≡ b.rows → HaveSameDuals a c
 duals_kept a b c h places rows = record {
@@ -118,19 +106,6 @@ duals_kept a b c h places rows = record {
   whole = ap (λ t. number (value_row t) VALUE) rows ∙ h.whole;
   each = λ n i is below. ap (λ t. dual (place_list n) (value_row t) i) rows ∙ h.each n i is below;
 }
-
--- rounded prices are those of any rows with these duals
-pub rounded_same : (n : Limits) (a b : MasterState) (prices : Prices) → a.places ≡ place_list n → HaveSameDuals a b
-    → AreRounded n a.rows prices → AreRounded n b.rows prices
-rounded_same n a b prices is same rounded = record {
-  priced = rounded.priced;
-  tasks = λ h j opens. rounded.tasks h j opens ∙ one h opens.known;
-  pairs = λ h k j opens. rounded.pairs h k j opens ∙ one h opens.known;
-}
-  where
-    one : (h : ℕ) → h < length (openers (place_list n)) → rounded_dual n a.rows h ≡ rounded_dual n b.rows h
-    one h below = ap (λ d. rounded_of d (number (value_row a.rows) VALUE)) (sym (same.each n h is below))
-        ∙ ap (λ w. rounded_of (dual (place_list n) (value_row b.rows) h) w) (sym same.whole)
 
 -- ---- results
 

@@ -1,3 +1,5 @@
 pub mod State
 pub mod Kept
 pub mod Along
+pub mod Rounding
+pub mod Shares

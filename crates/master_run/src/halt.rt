@@ -38,3 +38,14 @@ impl<T: Drop> From<AllocFailed<T>> for Halt {
         Halt::OutOfMemory
     }
 }
+
+impl From<Overflow> for Halt {
+    ghost use Rattle.std.specs.Prelude.{◌≡◌};
+    ghost use Rattle.master_run.specs.declared.halt.Halt.TheVariants as halts;
+
+    ghost from_gives = { λ fault e. e ≡ halts.Overflow fault };
+
+    fn from(fault: Overflow) -> Self {
+        Halt::Overflow(fault)
+    }
+}

@@ -2,7 +2,10 @@
 #![tactic(auto)]
 
 mod halt;
+mod prices;
 mod run;
+mod shares;
 
 pub use halt::Halt;
 pub use run::Run;
+pub use shares::Solution;

@@ -24,7 +24,7 @@ use std::marker::Model;
 /// left.
 #[derive(Drop)]
 pub struct Run {
-    master: Master,
+    pub(crate) master: Master,
     ids: Vec<usize>,
     pivots: u32,
     left: u32,

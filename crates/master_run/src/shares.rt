@@ -1,0 +1,44 @@
+// The shares of columns at a run's optimum.
+ghost use Rattle.std.specs.Prelude.{◌≡◌, ◌<ℤ◌, pos, List, All, IfErr, IfOk};
+ghost use Rattle.column_arena.specs.Legal.{IsLegalColumn};
+ghost use Rattle.crew_terms.specs.Limits.{Limits as NodeLimits, Route};
+ghost use Rattle.frac_master.specs.Shares.{IsOptimalChoice};
+ghost use Rattle.master_run.specs.Along.{Halts, IsOver};
+ghost use Rattle.master_run.specs.Shares.{fractional_of};
+
+use crate::halt::Halt;
+use crate::run::Run;
+use frac_master::Share;
+use master_laws::lists_are_runs;
+use std::alloc::Global;
+
+/// The share of each column that has one, and the share of each task that is left unassigned, in parts of which `den` make
+/// one whole.
+#[derive(Drop)]
+pub struct Solution {
+    pub den: i128,
+    pub shares: Vec<Share>,
+    pub left_open: Vec<i128>,
+}
+
+impl Run {
+    /// The optimum: shares of columns that have entered, a fractional choice of the master's value.
+    pub fn solution(&self, alloc: Global) -> Result<Solution, Halt>
+        ensures whole { (n : NodeLimits) (columns : List Route) → IsOver n columns self.now → IfOk result (λ s. pos 0 <ℤ s.den) }
+        ensures legal { (n : NodeLimits) (columns : List Route) → IsOver n columns self.now →
+            IfOk result (λ s. All (λ share. IsLegalColumn n columns share.column) s.shares.items) }
+        ensures choice { (n : NodeLimits) (columns : List Route) → IsOver n columns self.now →
+            IfOk result (λ s. IsOptimalChoice n self.now.master.rows (fractional_of columns s.den s.shares.items s.left_open.items)) }
+        ensures halts { (n : NodeLimits) (columns : List Route) → IsOver n columns self.now → IfErr result (Halts n self.now.pivots columns) }
+    {
+        lists_are_runs();
+        let mut shares = Vec::new(alloc);
+        let mut left_open = Vec::new(alloc);
+        let den = self.master.shares(&mut shares, &mut left_open)??;
+        Ok(Solution {
+            den,
+            shares,
+            left_open,
+        })
+    }
+}
