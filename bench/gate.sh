@@ -1,6 +1,6 @@
 #!/usr/bin/env bash
 # Makes the table of what the gate costs from nothing: the processor minutes of each crate's proof, of its tests' proof
-# and of its must-fail edits. It runs `rt ci --anew` and looks each second at what the prover's processes have used.
+# and of its must-fail edits. It runs `rt ci` from nothing and looks each second at what the prover's processes have used.
 set -eu
 cd "$(dirname "${BASH_SOURCE[0]}")/.."
 made=$(mktemp -d)
@@ -17,7 +17,11 @@ look() {
   done
 }
 
-setsid rt ci --anew >"$made/log" 2>&1 &
+# kits that keep proofs between runs have a flag that proves all anew
+anew=()
+if rt help | grep -q -e '--anew'; then anew=(--anew); fi
+
+setsid rt ci "${anew[@]}" >"$made/log" 2>&1 &
 gate=$!
 while kill -0 $gate 2>/dev/null; do
   look $gate >>"$made/seen" || true
