@@ -230,7 +230,7 @@ fn misspelled(shape: Shape) -> &'static [&'static [u8]] {
 }
 
 /// Each kind of record, and what its fields are.
-const KINDS: &[(&[u8], &[Shape])] = &[
+const KINDS: [(&[u8], &[Shape]); 15] = [
     (b"place", &[Shape::Name]),
     (b"travel", &[Shape::Name, Shape::Name, Shape::Minutes]),
     (b"route_time", &[Shape::Name, Shape::Name, Shape::Minutes]),
@@ -347,7 +347,7 @@ fn has_all_ends(alloc: Global, key: &[u8], shapes: &[Shape]) -> Result<bool, All
 #[test]
 fn each_field_has_its_range(rt: HostRuntime) -> Result<(), Fail> {
     let alloc = rt.alloc();
-    for &(key, shapes) in KINDS {
+    for (key, shapes) in KINDS {
         holds_at(&rt, has_all_ends(alloc, key, shapes)?, &Shown(key));
     }
     Ok(())
@@ -356,7 +356,7 @@ fn each_field_has_its_range(rt: HostRuntime) -> Result<(), Fail> {
 #[test]
 fn each_kind_has_its_number_of_fields(rt: HostRuntime) -> Result<(), Fail> {
     let alloc = rt.alloc();
-    for &(key, shapes) in KINDS {
+    for (key, shapes) in KINDS {
         let mut text = record_with(alloc, key, shapes, 0, b"")?;
         text.extend_from_slice(b",more")?;
         let stop = refused(1, shapes.len() + 2, Cause::Count);
