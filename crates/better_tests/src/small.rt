@@ -4,9 +4,11 @@ ghost use Rattle.crew_terms.specs.Legal.{IsLegal};
 
 use crew_fixtures::{gate_builder, gate_instance, task, team};
 use crew_instance::{Builder, Instance, Plan, unassigned};
-use crew_terms::Task;
+use crew_terms::{D, Task};
+use node_limits::Limits;
 use plan_builder::{Use, from_uses, greedy};
-use plan_search::{Effort, better};
+use plan_search::{Effort, better, weights_of};
+use potentials::Prices;
 use std::alloc::Global;
 use std::test::Fail;
 
@@ -119,5 +121,23 @@ fn frozen_jobs_stay(rt: HostRuntime) -> Result<(), Fail> {
     let plan = greedy(rt.alloc(), &day)?;
     let found = better(rt.alloc(), &day, &plan, effort(10, 0))?;
     assert!(rt; unassigned(&found) == 1 && first_start(&found) == Some(450));
+    Ok(())
+}
+
+/// The weights of the tasks where the first has the price of one task, and the second none.
+fn weights_at_prices(alloc: Global, day: &Instance) -> Result<Vec<u32>, Fail> {
+    let limits = Limits::root(alloc, day)?;
+    let mut prices = Prices::zero(alloc, &limits)?;
+    if prices.tasks() > 0 {
+        prices.set_pi(0, i64::from(D));
+    }
+    Ok(weights_of(alloc, day, &prices)?)
+}
+
+#[test]
+fn weighs_tasks_by_their_prices(rt: HostRuntime) -> Result<(), Fail> {
+    let day = two_tasks(rt.alloc())?.finish()?;
+    let weights = weights_at_prices(rt.alloc(), &day)?;
+    assert!(rt; weights.as_slice() == [1, 21].as_slice());
     Ok(())
 }
