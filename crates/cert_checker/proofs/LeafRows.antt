@@ -71,7 +71,7 @@ module _ (tree : TreeDraft) (t : Trail) (rest : Rest) (woke : t ≡ trail_over t
     (back : trail_over t.limits.instance rest ≡ t) (over : IsRestOver t.limits.instance rest) where
   -- the walk stands where it stood
   pub stays : (fs : List Above) → IsAtNode tree fs → IsAtNode (rested tree rest) fs
-  stays fs node = at_node tree t t tree.walk rest woke refl back over fs node.claimed
+  stays fs node = at_node tree t t tree.walk rest woke refl back over refl refl fs fs node
       (subst (λ x. IsAt (root_limits tree.draft.value.base.instance) x tree.walk fs) (sym woke) node.at)
 
   -- the goal is that of the place

@@ -1,6 +1,6 @@
 -- where a walk stands behind a line of a node, and the rows of the table for these lines
-use Rattle.std.proofs.Common.{◌≡◌, ◌≤◌, ◌<◌, ℕ, List, ◌∷◌, length, Bool, true, false, ap, subst, sym, refl, ◌∙◌, arith}
-use Rattle.std.specs.Prelude.{if◌then◌else◌, codes, Option}
+use Rattle.std.proofs.Common.{◌≡◌, ◌≤◌, ◌<◌, ◌+◌, ℕ, List, ◌∷◌, length, Bool, true, false, ap, subst, sym, refl, ◌∙◌, arith}
+use Rattle.std.specs.Prelude.{if◌then◌else◌, codes}
 use Rattle.std.specs.Global.{Box}
 use Rattle.std.specs.Box.{with_value}
 use Rattle.std.proofs.lemmas.List.{length-map}
@@ -59,21 +59,27 @@ taken_woke tree held draft taken t e f took woke =
     woke ∙ ap (trail_over draft.base.instance) took ∙ ap (λ (d : Held). trail_over d.base.instance d.limits) (f ∙ ap (λ (x : TreeDraft). x.draft.value) e)
 
 -- a node of the tree is due, and this is the state of the table
-abbrev pub IsDueAt : TreeDraft → Option (Box LeafReader) → Reading → Type 0
-IsDueAt tree reader r = (above : List Above) × IsAtNode tree above × IsReaderFor tree.draft.value.base.instance reader × (r ≡ Nodes (draft_of tree.draft.value) tree.claimed above)
+abbrev pub IsDueAt : TreeDraft → Box LeafReader → Reading → Type 0
+IsDueAt tree reader r = (above : List Above) × IsAtNode tree above × IsReaderFor tree.draft.value.base.instance reader.value × (r ≡ Nodes (draft_of tree.draft.value) tree.claimed above)
 
 module _ (tree : TreeDraft) (old new : Trail) (to : Walked) (rest : Rest)
     (woke : old ≡ trail_over tree.draft.value.base.instance tree.draft.value.limits) (same : new.limits.instance ≡ old.limits.instance)
-    (back : trail_over new.limits.instance rest ≡ new) (over : IsRestOver new.limits.instance rest) where
+    (back : trail_over new.limits.instance rest ≡ new) (over : IsRestOver new.limits.instance rest)
+    (depth : to.depth ≡ tree.walk.depth) (room : new.spare + length to.above ≡ old.spare + length tree.walk.above) where
   of_instance : new.limits.instance ≡ tree.draft.value.base.instance
   of_instance = same ∙ ap (λ (t : Trail). t.limits.instance) woke
 
   -- the limits at rest are those of the node where the walk stands
-  pub at_node : (gs : List Above) → IsCounts tree.claimed → IsAt (root_limits tree.draft.value.base.instance) new to gs → IsAtNode (moved tree rest to) gs
-  at_node gs claimed at =
+  pub at_node : (fs gs : List Above) → IsAtNode tree fs → IsAt (root_limits tree.draft.value.base.instance) new to gs → IsAtNode (moved tree rest to) gs
+  at_node fs gs node at =
       let i = tree.draft.value.base.instance in
+      let rested : rest.spare ≡ new.spare = ap (λ (t : Trail). t.spare) back in
+      let had : old.spare ≡ tree.draft.value.limits.spare = ap (λ (t : Trail). t.spare) woke in
+      let enough = node.spare in
       record {
-        claimed = claimed;
+        claimed = node.claimed;
+        depth = depth ∙ node.depth;
+        spare = omega arith;
         over = subst (λ x. IsRestOver x rest) of_instance over;
         at = subst (λ t. IsAt (root_limits i) t to gs) (sym (subst (λ x. trail_over x rest ≡ new) of_instance back)) at;
       }
@@ -82,21 +88,21 @@ module _ (tree : TreeDraft) (old new : Trail) (to : Walked) (rest : Rest)
   woken fs node = subst (λ t. IsAt (root_limits tree.draft.value.base.instance) t tree.walk fs) (sym woke) node.at
 
   -- past a leaf the walk stands at the node that is due
-  pub left_at : (box : Box TreeDraft) → box.value ≡ moved tree rest to → (reader : Option (Box LeafReader)) (is_closed : Bool) → LeavesLeaf is_closed old tree.walk new to false
-      → IsReaderFor tree.draft.value.base.instance reader → (fs : List Above) (claim : Claim Leaf) → IsAtNode tree fs → IsLeaf is_closed claim
+  pub left_at : (box : Box TreeDraft) → box.value ≡ moved tree rest to → (reader : Box LeafReader) (is_closed : Bool) → LeavesLeaf is_closed old tree.walk new to false
+      → IsReaderFor tree.draft.value.base.instance reader.value → (fs : List Above) (claim : Claim Leaf) → IsAtNode tree fs → IsLeaf is_closed claim
       → Awaits (NodeDue box reader) (node_done (draft_of tree.draft.value) tree.claimed fs (LeafNode claim))
   left_at box is reader is_closed leaves for_tree fs claim node kind =
       let p = leaves (root_limits tree.draft.value.base.instance) fs claim (draft_of tree.draft.value) tree.claimed (woken fs node) kind in
-      subst (λ t. IsDueAt t reader (node_done (draft_of tree.draft.value) tree.claimed fs (LeafNode claim))) (sym is) (p.0, at_node p.0 node.claimed p.2, for_tree, p.1)
+      subst (λ t. IsDueAt t reader (node_done (draft_of tree.draft.value) tree.claimed fs (LeafNode claim))) (sym is) (p.0, at_node fs p.0 node p.2, for_tree, p.1)
 
   -- below a split the walk stands in its first child
-  pub entered_at : (box : Box TreeDraft) → box.value ≡ moved tree rest to → (reader : Option (Box LeafReader)) (choice : Choice) → Enters choice old tree.walk new to
-      → IsReaderFor tree.draft.value.base.instance reader → (fs : List Above) (cause : Cause) → IsAtNode tree fs
+  pub entered_at : (box : Box TreeDraft) → box.value ≡ moved tree rest to → (reader : Box LeafReader) (choice : Choice) → Enters choice old tree.walk new to
+      → IsReaderFor tree.draft.value.base.instance reader.value → (fs : List Above) (cause : Cause) → IsAtNode tree fs
       → Awaits (NodeDue box reader) (split_done (draft_of tree.draft.value) tree.claimed fs (record { choice = choice; cause = cause }))
   entered_at box is reader choice enters for_tree fs cause node =
       let gs = InFirst (record { choice = choice; cause = cause }) ∷ fs in
       subst (λ t. IsDueAt t reader (Nodes (draft_of tree.draft.value) tree.claimed gs)) (sym is)
-      (gs, at_node gs node.claimed (enters (root_limits tree.draft.value.base.instance) fs cause (woken fs node)), for_tree, refl)
+      (gs, at_node fs gs node (enters (root_limits tree.draft.value.base.instance) fs cause (woken fs node)), for_tree, refl)
 
 -- past the last leaf the whole tree is seen
 pub ended_at : (tree : TreeDraft) (old new : Trail) (to : Walked) (rest : Rest) (box : Box TreeDraft) (seen : TreeCounts) (is_closed : Bool)
@@ -233,12 +239,12 @@ closed_says b c fs ws said is rest = leaf_says b c fs ws said _ is (λ w p. Else
 -- ---- the step of a line of a node
 
 -- a node is due, and the step is what its row says
-pub node_step : (tree : Box TreeDraft) (reader : Option (Box LeafReader)) (ws : Words) (step : Step)
+pub node_step : (tree : Box TreeDraft) (reader : Box LeafReader) (ws : Words) (step : Step)
     → ((fs : List Above) → IsAtNode tree.value fs → Tells (node_row (draft_of tree.value.draft.value) tree.value.claimed fs ws) step) → IsStep (NodeDue tree reader) ws step
 node_step tree reader ws step f = λ reading awaited. subst (λ r. Tells (Says r ws) step) (sym awaited.3) (f awaited.0 awaited.1)
 
 -- what some rules tell behind the words of a line, its row tells
-pub node_rest : (tree : Box TreeDraft) (reader : Option (Box LeafReader)) (ws : Words) (step : Step) (Rules : List Above → Answer → Type 0)
+pub node_rest : (tree : Box TreeDraft) (reader : Box LeafReader) (ws : Words) (step : Step) (Rules : List Above → Answer → Type 0)
     → ((fs : List Above) (said : Answer) → Rules fs said → node_row (draft_of tree.value.draft.value) tree.value.claimed fs ws said)
     → ((fs : List Above) → IsAtNode tree.value fs → Tells (Rules fs) step) → IsStep (NodeDue tree reader) ws step
 node_rest tree reader ws step Rules row told = node_step tree reader ws step (λ fs node. tells_row (Rules fs) (node_row (draft_of tree.value.draft.value) tree.value.claimed fs ws) step (row fs) (told fs node))

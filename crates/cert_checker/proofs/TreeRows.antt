@@ -14,11 +14,10 @@ use Rattle.dossier_terms.specs.BodyTable.{tree_row, after_counts}
 use Rattle.node_limits.specs.Rest.{Rest, limits_over, trail_over}
 use Rattle.node_limits.specs.Trail.{Trail}
 use Rattle.tree_walk.specs.Way.{Walked, IsAt}
-use Rattle.cert_checker.specs.Due.{IsAtNode, IsRoot, Tells, draft_of}
+use Rattle.cert_checker.specs.Due.{Awaits, IsRoot, Tells, draft_of}
 use Rattle.cert_checker.specs.Rules.{IsTreeFault}
 use Rattle.cert_checker.specs.declared.due.BegunDossier.{BegunDossier as Held}
-use Rattle.cert_checker.specs.declared.due.TreeDraft.{TreeDraft}
-use Rattle.cert_checker.specs.declared.due.Due.TheVariants.{Node}
+use Rattle.cert_checker.specs.declared.due.Due.{Due}
 use Rattle.cert_checker.specs.declared.due.Step.TheVariants.{More, No}
 
 tree_says : (b : Begun) (c : TreeCounts) (ws : Words) (said : Answer) → IsCounts c → ws ≡ tree_line c
@@ -31,14 +30,11 @@ pub tree_faulty : (b : Box Held) (claimed : TreeCounts) (ws : Words) (reason : R
 tree_faulty b claimed ws reason fits is broken = tree_says (draft_of b.value) claimed ws (Refuses reason) fits is broken
 
 -- the numbers of a tree break no rule, and its root is due
-pub tree_begun : (b : Box Held) (claimed : TreeCounts) (tree : Box TreeDraft) (ws : Words) → IsCounts claimed
-    → ws ≡ tree_line claimed → IsTreeFault (draft_of b.value) claimed None
-    → tree.value.draft ≡ b → tree.value.claimed ≡ claimed → IsAtNode tree.value [] → Tells (tree_row (draft_of b.value) ws) (More (Node tree None))
-tree_begun b claimed tree ws fits is good e f node =
+pub tree_begun : (b : Box Held) (claimed : TreeCounts) (due : Due) (ws : Words) → IsCounts claimed → ws ≡ tree_line claimed → IsTreeFault (draft_of b.value) claimed None
+    → Awaits due (Nodes (draft_of b.value) claimed []) → Tells (tree_row (draft_of b.value) ws) (More due)
+tree_begun b claimed due ws fits is good awaits =
     let root = Nodes (draft_of b.value) claimed [] in
-    let same : root ≡ Nodes (draft_of tree.value.draft.value) tree.value.claimed [] =
-    ap (λ (d : Box Held). Nodes (draft_of d.value) claimed []) (sym e) ∙ ap (λ c. Nodes (draft_of tree.value.draft.value) c []) (sym f) in
-    (root, tree_says (draft_of b.value) claimed ws (Goes root) fits is (good (Goes root) (On refl)), ([], node, tt, same))
+    (root, tree_says (draft_of b.value) claimed ws (Goes root) fits is (good (Goes root) (On refl)), awaits)
 
 -- a walk begins at the root
 pub at_root : (i : Instance) (limits : Rest) (walk : Walked) → IsRoot i limits → ((t : Trail) → t.past ≡ [] → IsAt t.limits t walk []) → IsAt (root_limits i) (trail_over i limits) walk []

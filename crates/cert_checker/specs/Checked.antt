@@ -7,7 +7,7 @@ use Rattle.dossier_terms.specs.declared.Reason.{Reason}
 use Rattle.dossier_terms.specs.declared.Reason.TheVariants as reasons
 use Rattle.dossier_terms.specs.Dossier.{Dossier, IsGood, unshown}
 use Rattle.crew_terms.specs.Branches.{splits, closed, left_open}
-use Rattle.dossier_terms.specs.Reading.{Reading, Form, Answer, More as Goes, Whole as Ends, No as Refuses}
+use Rattle.dossier_terms.specs.Reading.{Reading, Form, Nodes, Whys, Prices, Extras, Worths, Phis, Ends as EndDue, Answer, More as Goes, Whole as Ends, No as Refuses}
 use Rattle.dossier_terms.specs.Table.{Says, Reaches}
 use Rattle.head_check.specs.declared.due.HeadDue.TheVariants as heads
 use Rattle.cert_checker.specs.Due.{Awaits, IsEndOf}
@@ -38,6 +38,17 @@ IsDueAt (states.Due due) reading = Awaits due reading
 IsDueAt (states.Whole ended) reading = reading ≡ Form
 IsDueAt (states.Refused line reason) reading = ⊥
 IsDueAt states.Spent reading = ⊥
+
+-- a line behind the line `tree` of a dossier is due
+abbrev pub IsPastTree : Reading → Type 0
+IsPastTree (Nodes b c above) = Unit {0}
+IsPastTree (Whys b c above choice) = Unit {0}
+IsPastTree (Prices a) = Unit {0}
+IsPastTree (Extras a leaf j js) = Unit {0}
+IsPastTree (Worths a leaf k) = Unit {0}
+IsPastTree (Phis a leaf k table j js) = Unit {0}
+IsPastTree (EndDue b c t) = Unit {0}
+IsPastTree _ = ⊥
 
 -- this dossier is whole, and no line was read after it
 abbrev pub IsWholeAt : State → Dossier → Type 0

@@ -1,6 +1,5 @@
 -- what the checker keeps stands for what has been read of a dossier
-use Rattle.std.specs.Prelude.{◌≡◌, ◌<◌, List, [], Bool, Option, IfSome, length}
-use Rattle.std.specs.Global.{Box}
+use Rattle.std.specs.Prelude.{◌≡◌, ◌≤◌, ◌<◌, ◌+◌, List, [], Bool, length}
 use Rattle.crew_terms.specs.Words.{Words}
 use Rattle.crew_terms.specs.Instance.{Instance}
 use Rattle.crew_terms.specs.Limits.{Limits as NodeLimits, root_limits}
@@ -40,11 +39,13 @@ pub record IsBegun (b : BegunDossier) : Type 0 where
   pub plan : IsPlanOf b.base.instance b.plan
   pub root : IsRoot b.base.instance b.limits
 
--- the walk stands at the node below these splits, and the limits are its
+-- the walk stands at the node below these splits, the limits are its, and both have room as deep as is claimed
 pub record IsAtNode (tree : TreeDraft) (above : List Above) : Type 0 where
   pub claimed : IsCounts tree.claimed
   pub over : IsRestOver tree.draft.value.base.instance tree.draft.value.limits
   pub at : IsAt (root_limits tree.draft.value.base.instance) (trail_over tree.draft.value.base.instance tree.draft.value.limits) tree.walk above
+  pub depth : tree.walk.depth ≡ tree.claimed.depth
+  pub spare : tree.claimed.depth ≤ tree.draft.value.limits.spare + length tree.walk.above
 
 -- the walk stands at a node
 abbrev pub IsInTree : TreeDraft → Type 0
@@ -55,9 +56,9 @@ abbrev pub IsKnown : Instance → Choice → Type 0
 IsKnown i (choices.Window j cut) = j < length i.tasks
 IsKnown i (choices.Pair k j) = (k < length i.teams) × (j < length i.tasks)
 
--- a reader that is there has room for the leaves of the instance
-abbrev pub IsReaderFor : Instance → Option (Box LeafReader) → Type 0
-IsReaderFor i reader = IfSome reader (λ r. (n : NodeLimits) × (n.instance ≡ i) × IsReady n r.value)
+-- the reader has room for the leaves of the instance
+abbrev pub IsReaderFor : Instance → LeafReader → Type 0
+IsReaderFor i reader = (n : NodeLimits) × (n.instance ≡ i) × IsReady n reader
 
 -- the numbers that are claimed have room for one more split of the node, and for one more leaf of a kind
 pub record HasSplitLeft (tree : TreeDraft) : Type 0 where
@@ -93,11 +94,19 @@ Awaits (Route b more) r = IsBegun b.value × (r ≡ Routes (draft_of b.value) mo
 Awaits (Plan b) r = IsBegun b.value × (r ≡ Plans (draft_of b.value))
 Awaits (Job b more from) r = IsBegun b.value × (r ≡ Jobs (draft_of b.value) more from)
 Awaits (Tree b) r = IsRoot b.value.base.instance b.value.limits × (r ≡ Trees (draft_of b.value))
-Awaits (Node tree reader) r = (above : List Above) × IsAtNode tree.value above × IsReaderFor tree.value.draft.value.base.instance reader × (r ≡ Nodes (draft_of tree.value.draft.value) tree.value.claimed above)
-Awaits (Why tree reader choice) r = (above : List Above) × MaySplit tree.value choice above × IsReaderFor tree.value.draft.value.base.instance reader
+Awaits (Node tree reader) r = (above : List Above) × IsAtNode tree.value above × IsReaderFor tree.value.draft.value.base.instance reader.value × (r ≡ Nodes (draft_of tree.value.draft.value) tree.value.claimed above)
+Awaits (Why tree reader choice) r = (above : List Above) × MaySplit tree.value choice above × IsReaderFor tree.value.draft.value.base.instance reader.value
     × (r ≡ Whys (draft_of tree.value.draft.value) tree.value.claimed above choice)
 Awaits (Leaf tree reader is_closed) r = (above : List Above) × IsInLeaf tree.value reader.value is_closed above r
 Awaits (End tree seen) r = (t : Written) × (seen ≡ counts_of t) × (r ≡ EndDue (draft_of tree.value.draft.value) tree.value.claimed t)
+
+-- the line that is due is one of a tree
+abbrev pub IsOfTree : Due → Type 0
+IsOfTree (Node tree reader) = Unit {0}
+IsOfTree (Why tree reader choice) = Unit {0}
+IsOfTree (Leaf tree reader is_closed) = Unit {0}
+IsOfTree (End tree seen) = Unit {0}
+IsOfTree _ = ⊥
 
 -- what is kept stands for some state of the table
 abbrev pub IsAwaited : Due → Type 0

@@ -1,12 +1,12 @@
 // The checker: what it has read, and what it says of one more line.
-ghost use Rattle.std.specs.Prelude.{◌≡◌, ◌≤◌, ◌<◌, ◌+◌, ◌^◌, ◌↔◌, ℕ, Some, None, Ok, IfOk, OnErr, IsErr, IsTrue, IfSome};
+ghost use Rattle.std.specs.Prelude.{◌≡◌, ◌≤◌, ◌<◌, ◌+◌, ◌^◌, ◌↔◌, ℕ, Some, None, Ok, IfOk, OnErr, IsErr, IsOk, IsTrue, IfSome};
 ghost use Rattle.crew_terms.specs.Words.{IsLine, words_of};
 ghost use Rattle.crew_terms.specs.declared.TheConstants.{LONGEST_INPUT};
 ghost use Rattle.dossier_terms.specs.declared.Reason.{Reason};
 ghost use Rattle.dossier_terms.specs.Dossier.{Dossier};
 ghost use Rattle.dossier_terms.specs.Reading.{Reading};
-ghost use Rattle.cert_checker.specs.Checked.{IsDueAt, IsEnded, IsJudged, IsOpen, IsReached, IsTrueYes, IsWholeAt, fresh_checker, refused_at, stop_reason_of, verdict_of};
-ghost use Rattle.cert_checker.specs.Due.{Awaits, IsEndOf};
+ghost use Rattle.cert_checker.specs.Checked.{IsDueAt, IsEnded, IsJudged, IsOpen, IsPastTree, IsReached, IsTrueYes, IsWholeAt, fresh_checker, refused_at, stop_reason_of, verdict_of};
+ghost use Rattle.cert_checker.specs.Due.{Awaits, IsEndOf, IsOfTree};
 ghost use Rattle.cert_checker.specs.Kept.{IsKeptFrom, kept_state};
 ghost use Rattle.cert_checker.specs.Said.{IsSaidOf};
 
@@ -176,6 +176,7 @@ impl Checker {
         requires plain { IsLine line.now }
         requires few { self.old.lines < LONGEST_INPUT }
         ensures judged { (reading : Reading) → IsReached reading → Awaits due reading → IfOk result (λ said. IsJudged self.old.lines reading (words_of line.now) said self.new) }
+        ensures room { IsOfTree due → IsOk result }
         ensures memory { OnErr result (self.new ≡ record self.old { at = State.Spent }) }
     {
         one_answer();
@@ -188,13 +189,17 @@ impl Checker {
     }
 
     /// Judges one more line, without its LF. After a line that is refused every later call gives that answer again,
-    /// and after want of memory every later call does that.
+    /// and after want of memory every later call does that. Behind the line `tree` of a dossier memory is not wanting to
+    /// its end.
     pub fn line(&mut self, line: &[u8]) -> Result<Said, AllocError>
         requires plain { IsLine line.now }
         requires few { self.old.lines < LONGEST_INPUT }
 
         // The line that was due is judged by the table of lines.
         ensures judged { (due : Reading) → IsReached due → IsDueAt self.old.at due → IfOk result (λ said. IsJudged self.old.lines due (words_of line.now) said self.new) }
+
+        // All memory that the lines of a tree want is taken at the line `tree`.
+        ensures room { (due : Reading) → IsPastTree due → IsDueAt self.old.at due → IsOk result }
 
         ensures refused { (number : ℕ) (reason : Reason) → self.old.at ≡ State.Refused number reason → (result ≡ Ok (Said.No number reason)) × (self.new ≡ self.old) }
         ensures spent { self.old.at ≡ State.Spent → IsErr result }

@@ -78,13 +78,13 @@ pub enum Due {
     /// The line of a node: `window`, `pair` or `leaf`.
     Node {
         tree: Box<TreeDraft>,
-        /// What read the leaves with prices so far; none before the first one.
-        reader: Option<Box<LeafReader>>,
+        /// What reads the leaves with prices.
+        reader: Box<LeafReader>,
     },
     /// The line `why` of a node that is split so.
     Why {
         tree: Box<TreeDraft>,
-        reader: Option<Box<LeafReader>>,
+        reader: Box<LeafReader>,
         choice: Choice,
     },
     /// A line of a leaf that has prices: `price`, `extra`, `worth`, and `phi` or `steps`.

@@ -1,8 +1,8 @@
 // One line of a dossier, judged by the row of the table that is due. The calls through which each line goes are inlined,
 // so that what is due is moved once, and not from call to call.
-ghost use Rattle.std.specs.Prelude.{IfOk};
+ghost use Rattle.std.specs.Prelude.{IfOk, IsOk};
 ghost use Rattle.head_check.specs.Head.{Holds as HoldsHead, IsLineDue, reading_of};
-ghost use Rattle.cert_checker.specs.Due.{Awaits, IsAwaited, IsStep};
+ghost use Rattle.cert_checker.specs.Due.{Awaits, IsAwaited, IsOfTree, IsStep};
 
 use crate::due::{Due, Step};
 use crate::leaf::{end_line, number_line};
@@ -44,7 +44,8 @@ fn head_line(alloc: Global, due: HeadDue, words: LineWords<'_>) -> Result<Step, 
 #[inline(always)]
 pub fn judge(alloc: Global, due: Due, words: LineWords<'_>) -> Result<Step, AllocError>
     requires { IsAwaited due }
-    ensures { IfOk result (IsStep due words.entry) }
+    ensures step { IfOk result (IsStep due words.entry) }
+    ensures room { IsOfTree due → IsOk result }
 {
     match due {
         Due::Head(due) => head_line(alloc, due, words),
@@ -53,12 +54,12 @@ pub fn judge(alloc: Global, due: Due, words: LineWords<'_>) -> Result<Step, Allo
         Due::Plan { draft } => Ok(plan_line(draft, words)),
         Due::Job { draft, more, from } => job_line(alloc, draft, more, from, words),
         Due::Tree { draft } => tree_line(alloc, draft, words),
-        Due::Node { tree, reader } => node_line(alloc, tree, reader, words),
+        Due::Node { tree, reader } => Ok(node_line(alloc, tree, reader, words)),
         Due::Why {
             tree,
             reader,
             choice,
-        } => why_line(alloc, tree, reader, choice, words),
+        } => Ok(why_line(alloc, tree, reader, choice, words)),
         Due::Leaf {
             tree,
             reader,

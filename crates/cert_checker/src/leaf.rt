@@ -39,7 +39,7 @@ pub fn number_line(
             reader,
             is_closed,
         }),
-        LeafStep::Done => Step::More(leave(alloc, tree, Some(reader), is_closed)),
+        LeafStep::Done => Step::More(leave(alloc, tree, reader, is_closed)),
         LeafStep::No(reason) => Step::No(reason),
     }
 }

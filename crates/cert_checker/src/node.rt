@@ -1,10 +1,9 @@
 // The lines of nodes: `window`, `pair` and `leaf`, and the line `why` of a split.
-ghost use Rattle.std.specs.Prelude.{◌≡◌, ◌<◌, ◌↔◌, List, IfOk, IsTrue};
+ghost use Rattle.std.specs.Prelude.{◌≡◌, ◌<◌, ◌↔◌, List, IsTrue};
 ghost use Rattle.crew_terms.specs.Limits.{tasks_in, teams_in};
 ghost use Rattle.crew_terms.specs.Branches.{LeafNode, Claim};
 ghost use Rattle.dossier_terms.specs.Dossier.{Cause, Leaf};
-ghost use Rattle.dossier_terms.specs.Reading.{Prices, node_done, split_done, Above, LeafSite};
-ghost use Rattle.leaf_check.specs.Reader.{IsReady, StandsFor};
+ghost use Rattle.dossier_terms.specs.Reading.{node_done, split_done, Above};
 ghost use Rattle.crew_terms.specs.Tree.{CanSplit, IsFreePair};
 ghost use Rattle.tree_walk.specs.Way.{IsLeaf};
 ghost use Rattle.cert_checker.specs.Due.{Awaits, HasLeafRoom, HasSplitLeft, IsAwaited, IsInTree, IsKnown, IsAtNode, IsReaderFor, IsStep, MaySplit, Tells, draft_of};
@@ -17,7 +16,7 @@ use dossier_terms::{DossierForm, Reason};
 use field_table::LineWords;
 use leaf_check::LeafReader;
 use node_limits::Limits;
-use std::alloc::{AllocError, Global};
+use std::alloc::Global;
 use tree_walk::is_cut;
 
 /// Whether the numbers that are claimed have room for a split of the node that is due.
@@ -42,11 +41,11 @@ fn has_leaf_room(tree: &TreeDraft, is_closed: bool) -> bool
 pub fn leave(
     alloc: Global,
     mut tree: Box<TreeDraft>,
-    reader: Option<Box<LeafReader>>,
+    reader: Box<LeafReader>,
     is_closed: bool,
 ) -> Due
     requires node { IsInTree tree.value }
-    requires reader { IsReaderFor tree.value.draft.value.base.instance reader }
+    requires reader { IsReaderFor tree.value.draft.value.base.instance reader.value }
     requires room { HasLeafRoom tree.value is_closed }
     ensures { (fs : List Above) (claim : Claim Leaf) → IsAtNode tree.value fs → IsLeaf is_closed claim
         → Awaits result (node_done (draft_of tree.value.draft.value) tree.value.claimed fs (LeafNode claim)) }
@@ -100,54 +99,51 @@ fn split_fault(choice: Choice) -> Reason
 fn first_child(
     alloc: Global,
     mut tree: Box<TreeDraft>,
-    reader: Option<Box<LeafReader>>,
+    reader: Box<LeafReader>,
     choice: Choice,
-) -> Result<Due, AllocError>
+) -> Due
     requires split { (fs : List Above) × MaySplit tree.value choice fs }
-    requires reader { IsReaderFor tree.value.draft.value.base.instance reader }
-    ensures { IfOk result (λ due. (fs : List Above) (cause : Cause) → IsAtNode tree.value fs
-        → Awaits due (split_done (draft_of tree.value.draft.value) tree.value.claimed fs (record { choice = choice; cause = cause }))) }
+    requires reader { IsReaderFor tree.value.draft.value.base.instance reader.value }
+    ensures { (fs : List Above) (cause : Cause) → IsAtNode tree.value fs
+        → Awaits result (split_done (draft_of tree.value.draft.value) tree.value.claimed fs (record { choice = choice; cause = cause })) }
 {
     let held = &mut *tree;
     let draft = &mut *held.draft;
     let mut limits = Limits::wake(&draft.base.instance, draft.limits.take(alloc));
-    held.walk.enter(&mut limits, choice)?;
+    held.walk.enter(&mut limits, choice);
     draft.limits = limits.rest();
-    Ok(Due::Node { tree, reader })
+    Due::Node { tree, reader }
 }
 
 /// A line `window` or `pair`. In form 2 the line `why` of the node comes next.
 fn split_line(
     alloc: Global,
     mut tree: Box<TreeDraft>,
-    reader: Option<Box<LeafReader>>,
+    reader: Box<LeafReader>,
     choice: Choice,
-) -> Result<Step, AllocError>
+) -> Step
     requires node { IsInTree tree.value }
-    requires reader { IsReaderFor tree.value.draft.value.base.instance reader }
+    requires reader { IsReaderFor tree.value.draft.value.base.instance reader.value }
     requires known { IsKnown tree.value.draft.value.base.instance choice }
-    ensures { IfOk result (λ step. (fs : List Above) → IsAtNode tree.value fs → Tells (after_split (draft_of tree.value.draft.value) tree.value.claimed fs choice) step) }
+    ensures { (fs : List Above) → IsAtNode tree.value fs → Tells (after_split (draft_of tree.value.draft.value) tree.value.claimed fs choice) result }
 {
     if !has_split_room(&tree) {
-        return Ok(Step::No(Reason::Count));
+        return Step::No(Reason::Count);
     }
     let draft = &mut *tree.draft;
     let form = draft.base.form;
     let limits = Limits::wake(&draft.base.instance, draft.limits.take(alloc));
     if !can_split(&limits, choice) {
-        return Ok(Step::No(split_fault(choice)));
+        return Step::No(split_fault(choice));
     }
     draft.limits = limits.rest();
     match form {
-        DossierForm::One => {
-            let due = first_child(alloc, tree, reader, choice)?;
-            Ok(Step::More(due))
-        }
-        DossierForm::Two => Ok(Step::More(Due::Why {
+        DossierForm::One => Step::More(first_child(alloc, tree, reader, choice)),
+        DossierForm::Two => Step::More(Due::Why {
             tree,
             reader,
             choice,
-        })),
+        }),
     }
 }
 
@@ -155,25 +151,24 @@ fn split_line(
 pub fn why_line(
     alloc: Global,
     tree: Box<TreeDraft>,
-    reader: Option<Box<LeafReader>>,
+    reader: Box<LeafReader>,
     choice: Choice,
     words: LineWords<'_>,
-) -> Result<Step, AllocError>
+) -> Step
     requires { IsAwaited (Due.Why tree reader choice) }
-    ensures { IfOk result (IsStep (Due.Why tree reader choice) words.entry) }
+    ensures { IsStep (Due.Why tree reader choice) words.entry result }
 {
     fault_is_refused();
     if let Err(fault) = read_line(Expect::Why, words) {
-        return Ok(Step::No(fault.reason()));
+        return Step::No(fault.reason());
     }
-    let due = first_child(alloc, tree, reader, choice)?;
-    Ok(Step::More(due))
+    Step::More(first_child(alloc, tree, reader, choice))
 }
 
 /// The line `leaf bare`.
-fn bare_line(alloc: Global, tree: Box<TreeDraft>, reader: Option<Box<LeafReader>>) -> Step
+fn bare_line(alloc: Global, tree: Box<TreeDraft>, reader: Box<LeafReader>) -> Step
     requires node { IsInTree tree.value }
-    requires reader { IsReaderFor tree.value.draft.value.base.instance reader }
+    requires reader { IsReaderFor tree.value.draft.value.base.instance reader.value }
     ensures { (fs : List Above) → IsAtNode tree.value fs → Tells (after_bare (draft_of tree.value.draft.value) tree.value.claimed fs) result }
 {
     if !has_leaf_room(&tree, false) {
@@ -185,58 +180,32 @@ fn bare_line(alloc: Global, tree: Box<TreeDraft>, reader: Option<Box<LeafReader>
     Step::More(leave(alloc, tree, reader, false))
 }
 
-/// The reader of a leaf that begins: the one that read the leaves before it, or a new one.
-fn leaf_reader(
-    alloc: Global,
-    limits: &Limits<'_>,
-    reader: Option<Box<LeafReader>>,
-) -> Result<Box<LeafReader>, AllocError>
-    requires { IsReaderFor limits.now.limits.instance reader }
-    ensures ready { IfOk result (λ r. IsReady limits.now.limits r.value) }
-    ensures begun { IfOk result (λ r. (site : LeafSite) → StandsFor site r.value (Prices site)) }
-{
-    let mut reader = match reader {
-        Some(reader) => reader,
-        None => Box::new(alloc, LeafReader::open(alloc, limits)?)?,
-    };
-    reader.begin();
-    Ok(reader)
-}
-
 /// The line `leaf open` or `leaf closed`.
-fn leaf_line(
-    alloc: Global,
-    mut tree: Box<TreeDraft>,
-    reader: Option<Box<LeafReader>>,
-    is_closed: bool,
-) -> Result<Step, AllocError>
+fn leaf_line(tree: Box<TreeDraft>, mut reader: Box<LeafReader>, is_closed: bool) -> Step
     requires node { IsInTree tree.value }
-    requires reader { IsReaderFor tree.value.draft.value.base.instance reader }
-    ensures { IfOk result (λ step. (fs : List Above) → IsAtNode tree.value fs → Tells (after_leaf (draft_of tree.value.draft.value) tree.value.claimed fs is_closed) step) }
+    requires reader { IsReaderFor tree.value.draft.value.base.instance reader.value }
+    ensures { (fs : List Above) → IsAtNode tree.value fs → Tells (after_leaf (draft_of tree.value.draft.value) tree.value.claimed fs is_closed) result }
 {
     if !has_leaf_room(&tree, is_closed) {
-        return Ok(Step::No(Reason::Count));
+        return Step::No(Reason::Count);
     }
-    let draft = &mut *tree.draft;
-    let limits = Limits::wake(&draft.base.instance, draft.limits.take(alloc));
-    let reader = leaf_reader(alloc, &limits, reader)?;
-    draft.limits = limits.rest();
-    Ok(Step::More(Due::Leaf {
+    reader.begin();
+    Step::More(Due::Leaf {
         tree,
         reader,
         is_closed,
-    }))
+    })
 }
 
 /// A line of a node.
 pub fn node_line(
     alloc: Global,
     tree: Box<TreeDraft>,
-    reader: Option<Box<LeafReader>>,
+    reader: Box<LeafReader>,
     words: LineWords<'_>,
-) -> Result<Step, AllocError>
+) -> Step
     requires { IsAwaited (Due.Node tree reader) }
-    ensures { IfOk result (IsStep (Due.Node tree reader) words.entry) }
+    ensures { IsStep (Due.Node tree reader) words.entry result }
 {
     fault_is_refused();
     let instance = &tree.draft.base.instance;
@@ -244,7 +213,7 @@ pub fn node_line(
     let tasks = instance.tasks() as u32;
     let kind = match read_line(Expect::Node { teams, tasks }, words) {
         Ok(kind) => kind,
-        Err(fault) => return Ok(Step::No(fault.reason())),
+        Err(fault) => return Step::No(fault.reason()),
     };
     match kind {
         LineKind::Window { task, cut } => {
@@ -253,9 +222,9 @@ pub fn node_line(
         LineKind::Pair { team, task } => {
             split_line(alloc, tree, reader, Choice::Pair { team, task })
         }
-        LineKind::LeafBare => Ok(bare_line(alloc, tree, reader)),
-        LineKind::LeafOpen => leaf_line(alloc, tree, reader, false),
-        LineKind::LeafClosed => leaf_line(alloc, tree, reader, true),
+        LineKind::LeafBare => bare_line(alloc, tree, reader),
+        LineKind::LeafOpen => leaf_line(tree, reader, false),
+        LineKind::LeafClosed => leaf_line(tree, reader, true),
         _ => unreachable!(),
     }
 }

@@ -1,7 +1,8 @@
 // The line `tree`: the numbers of a branch tree.
-ghost use Rattle.std.specs.Prelude.{◌≡◌, [], IfOk};
+ghost use Rattle.std.specs.Prelude.{[], IfOk};
+ghost use Rattle.dossier_terms.specs.Reading.{Nodes};
 ghost use Rattle.dossier_terms.specs.Ranges.{IsCounts};
-ghost use Rattle.cert_checker.specs.Due.{IsAwaited, IsAtNode, IsRoot, IsStep, draft_of};
+ghost use Rattle.cert_checker.specs.Due.{Awaits, IsAwaited, IsRoot, IsStep, draft_of};
 ghost use Rattle.cert_checker.specs.Rules.{IsTreeFault};
 
 use crate::due::{BegunDossier, Due, Step, TreeDraft};
@@ -10,6 +11,8 @@ use crew_instance::unassigned;
 use crew_terms::TreeCounts;
 use dossier_terms::Reason;
 use field_table::LineWords;
+use leaf_check::LeafReader;
+use node_limits::Limits;
 use std::alloc::{AllocError, Global};
 use tree_walk::Walk;
 
@@ -31,25 +34,32 @@ fn fault_of_tree(draft: &BegunDossier, claimed: TreeCounts) -> Option<Reason>
     None
 }
 
-/// A dossier whose tree is to be read from its root on. No memory is taken by the numbers that are claimed.
+/// What is due behind the line `tree`: the root of the tree. All memory is taken that the lines of the tree want: for the
+/// splits above a node, as deep as is claimed, and for the numbers of a leaf.
 fn begin_tree(
     alloc: Global,
-    draft: Box<BegunDossier>,
+    mut draft: Box<BegunDossier>,
     claimed: TreeCounts,
-) -> Result<Box<TreeDraft>, AllocError>
+) -> Result<Due, AllocError>
     requires root { IsRoot draft.value.base.instance draft.value.limits }
     requires counts { IsCounts claimed }
-    ensures draft { IfOk result (λ tree. tree.value.draft ≡ draft) }
-    ensures claimed { IfOk result (λ tree. tree.value.claimed ≡ claimed) }
-    ensures node { IfOk result (λ tree. IsAtNode tree.value []) }
+    ensures { IfOk result (λ due. Awaits due (Nodes (draft_of draft.value) claimed [])) }
 {
+    let depth = claimed.depth as usize;
+    let held = &mut *draft;
+    let mut limits = Limits::wake(&held.base.instance, held.limits.take(alloc));
+    limits.reserve(depth)?;
+    let opened = LeafReader::open(alloc, &limits)?;
+    held.limits = limits.rest();
+    let reader = Box::new(alloc, opened)?;
+    let walk = Walk::open(alloc, depth)?;
     let tree = TreeDraft {
         draft,
         claimed,
-        walk: Walk::new(alloc),
+        walk,
     };
     let tree = Box::new(alloc, tree)?;
-    Ok(tree)
+    Ok(Due::Node { tree, reader })
 }
 
 /// The line `tree`.
@@ -72,6 +82,6 @@ pub fn tree_line(
     if let Some(reason) = fault_of_tree(&draft, claimed) {
         return Ok(Step::No(reason));
     }
-    let tree = begin_tree(alloc, draft, claimed)?;
-    Ok(Step::More(Due::Node { tree, reader: None }))
+    let due = begin_tree(alloc, draft, claimed)?;
+    Ok(Step::More(due))
 }

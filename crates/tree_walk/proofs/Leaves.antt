@@ -1,5 +1,5 @@
 -- a walk that goes on past a leaf
-use Rattle.std.proofs.Common.{◌≡◌, ◌<◌, Bool, true, false, List, [], ◌∷◌, length, drop, None, Some, arith, ap, sym, subst, ◌∙◌, refl}
+use Rattle.std.proofs.Common.{◌≡◌, ◌+◌, ◌<◌, Bool, true, false, List, [], ◌∷◌, length, drop, None, Some, arith, ap, sym, subst, ◌∙◌, refl}
 use Rattle.std.proofs.lemmas.List.{length-map}
 use Rattle.crew_terms.specs.Limits.{Limits}
 use Rattle.dossier_terms.specs.Dossier.{Written, Leaf}
@@ -19,6 +19,17 @@ use Rattle.tree_walk.proofs.Ways.{IsPast, limits_in, up, turned, risen, innermos
 abbrev pub ComesPast : Bool → Trail → Walked → Trail → Walked → Type 0
 ComesPast is_closed old from new to = (root : Limits) (fs : List Above) (claim : Claim Leaf) → IsAt root old from fs → IsLeaf is_closed claim
     → (gs : List Above) × (tree : Written) × ((b : Begun) (c : TreeCounts) → node_done b c fs (LeafNode claim) ≡ node_done b c gs tree) × IsPast root new to gs tree
+
+-- and the room is what it was
+pub record Leaving (is_closed : Bool) (old : Trail) (from : Walked) (new : Trail) (to : Walked) : Type 0 where
+  pub past : ComesPast is_closed old from new to
+  pub depth : to.depth ≡ from.depth
+  pub spare : new.spare + length to.above ≡ old.spare + length from.above
+
+-- some branch is above where the innermost is one
+pub some_above : (bs : List Branch) (b : Branch) → innermost bs ≡ Some b → (length (drop 1 bs) + 1 ≡ length bs) × (0 < length bs)
+some_above [] b e = absurd (cc)
+some_above (s ∷ bs) b e = (omega arith, omega arith)
 
 pub some_leaf : (is_closed : Bool) → (claim : Claim Leaf) × IsLeaf is_closed claim
 some_leaf true = (Closed (record { prices = []; extras = []; tables = [] }), refl)

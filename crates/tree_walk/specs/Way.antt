@@ -1,5 +1,5 @@
 -- the way to a node of a tree in preorder, and the numbers of what came before it
-use Rattle.std.specs.Prelude.{◌≡◌, ◌+◌, ℕ, Bool, true, false, List, [], ◌∷◌, map, reverse, Option, None, Some, if◌then◌else◌, max}
+use Rattle.std.specs.Prelude.{◌≡◌, ◌≤◌, ◌+◌, vec_capacity, length, ℕ, Bool, true, false, List, [], ◌∷◌, map, reverse, Option, None, Some, if◌then◌else◌, max}
 use Rattle.crew_terms.specs.Limits.{Limits}
 use Rattle.crew_terms.specs.Branches.{LeafNode, Claim, Bare, Open, Closed, InFirst, splits, closed, left_open, split_of, side_of, frame_sum, deepest}
 use Rattle.crew_terms.specs.Tree.{CanSplit}
@@ -14,13 +14,20 @@ use Rattle.tree_walk.specs.declared.walk.Walk.TheInside.{Inside}
 
 -- ---- what a walk keeps
 
--- the branches that lead to the node that is due, the innermost first, and the numbers of what came before it
+-- the branches that lead to the node that is due, the innermost first, the numbers of what came before it, and how many
+-- branches there is room for
 pub record Walked : Type 0 where
   pub above : List Branch
   pub seen : TreeCounts
+  pub depth : ℕ
 
 abbrev pub walked : Inside → Walked
-walked w = record { above = reverse w.above.items; seen = w.seen }
+walked w = record { above = reverse w.above.items; seen = w.seen; depth = w.depth }
+
+-- a split is counted for each branch, and there is room for as many branches as are told
+pub record HasRoom (w : Inside) : Type 0 where
+  pub counted : length w.above.items ≤ w.seen.splits
+  pub room : w.depth ≤ vec_capacity w.above
 
 -- the innermost of the branches
 abbrev pub innermost : List Branch → Option Branch

@@ -1,5 +1,5 @@
 // The way from the root of a tree to the node that is due.
-ghost use Rattle.std.specs.Prelude.{◌≡◌, ◌≤◌, ◌<◌, ◌+◌, ◌^◌, [], ◌∷◌, drop, length, OnErr, OnOk};
+ghost use Rattle.std.specs.Prelude.{◌≡◌, ◌≤◌, ◌<◌, ◌+◌, ◌^◌, [], ◌∷◌, drop, length, IfOk};
 ghost use Rattle.node_limits.specs.Trail.{Trail};
 ghost use Rattle.crew_terms.specs.Tree.{CanSplit};
 ghost use Rattle.tree_walk.specs.Way.{Enters, IsAt, IsSomewhere, LeavesLeaf, innermost, leaves_like, with_leaf};
@@ -13,12 +13,14 @@ use std::marker::Model;
 /// The way from the root of a tree to the node that is due, where its nodes come in preorder, and the numbers of what
 /// came before that node. The limits go along with it: each call takes them as the call before left them.
 ///
-/// In contracts: the branches that lead to the node, the innermost first, and the numbers so far.
+/// In contracts: the branches that lead to the node, the innermost first, the numbers so far, and how many branches it
+/// has room for.
 #[derive(Drop)]
 pub struct Walk {
     // The outermost first.
     above: Vec<Branch>,
     seen: TreeCounts,
+    depth: usize,
 }
 
 impl Model for Walk {
@@ -28,25 +30,29 @@ impl Model for Walk {
 
     ghost view = { walked };
 
-    ghost use Rattle.std.specs.Prelude.{◌≤◌, length};
+    ghost use Rattle.tree_walk.specs.Way.{HasRoom};
 
-    ghost invariant = { λ w. length w.above.items ≤ w.seen.splits };
+    ghost invariant = { HasRoom };
 }
 
 impl Walk {
-    /// A walk at the root: its limits are those of a trail with no change. It takes no memory.
-    pub fn new(alloc: Global) -> Walk
-        ensures { (t : Trail) → t.past ≡ [] → IsAt t.limits t result [] }
+    /// A walk at the root, with room for so many splits above a node: its limits are those of a trail with no change. No
+    /// other call takes memory.
+    pub fn open(alloc: Global, depth: usize) -> Result<Walk, AllocError>
+        ensures root { IfOk result (λ w. (t : Trail) → t.past ≡ [] → IsAt t.limits t w []) }
+        ensures none { IfOk result (λ w. w.above ≡ []) }
+        ensures depth { IfOk result (λ w. w.depth ≡ depth) }
     {
-        Walk {
-            above: Vec::new(alloc),
+        Ok(Walk {
+            above: Vec::with_capacity(alloc, depth)?,
             seen: TreeCounts {
                 splits: 0,
                 closed: 0,
                 left_open: 0,
                 depth: 0,
             },
-        }
+            depth,
+        })
     }
 
     /// The numbers of what came before the node that is due: of the splits above it, and of what is whole.
@@ -64,17 +70,18 @@ impl Walk {
         self.above.len()
     }
 
-    /// Splits the node that is due, and goes into its first child. An `Err` changes nothing.
-    pub fn enter(&mut self, limits: &mut Limits<'_>, choice: Choice) -> Result<(), AllocError>
+    /// Splits the node that is due, and goes into its first child. The room of the limits and the splits above a node are
+    /// together as many as before.
+    pub fn enter(&mut self, limits: &mut Limits<'_>, choice: Choice)
         requires split { CanSplit limits.old.limits choice }
         requires room { self.old.seen.splits + 1 < 2 ^ 32 }
-        ensures ok { OnOk result (Enters choice limits.old self.old limits.new self.new) }
-        ensures err { OnErr result (self.new ≡ self.old) }
-        ensures err_limits { OnErr result (limits.new ≡ limits.old) }
+        requires deeper { length self.old.above < self.old.depth }
+        requires spare { 1 ≤ limits.old.spare }
+        ensures enters { Enters choice limits.old self.old limits.new self.new }
+        ensures depth { self.new.depth ≡ self.old.depth }
+        ensures spare { limits.new.spare + length self.new.above ≡ limits.old.spare + length self.old.above }
         ensures instance { limits.new.limits.instance ≡ limits.old.limits.instance }
     {
-        self.above.reserve(1)?;
-        limits.reserve(1)?;
         let first = Branch {
             choice,
             side: Side::First,
@@ -82,7 +89,6 @@ impl Walk {
         narrow(limits, first);
         self.above.push(first).unwrap();
         self.seen.splits += 1;
-        Ok(())
     }
 
     /// Goes on past the node that is due, which is a leaf: to the next node in preorder, which is the second child of
@@ -91,6 +97,8 @@ impl Walk {
         requires somewhere { IsSomewhere limits.old self.old }
         requires room { leaves_like is_closed self.old.seen + 1 < 2 ^ 32 }
         ensures leaves { LeavesLeaf is_closed limits.old self.old limits.new self.new result }
+        ensures depth { self.new.depth ≡ self.old.depth }
+        ensures spare { limits.new.spare + length self.new.above ≡ limits.old.spare + length self.old.above }
         ensures instance { limits.new.limits.instance ≡ limits.old.limits.instance }
     {
         self.count_leaf(is_closed);
@@ -111,6 +119,7 @@ impl Walk {
         requires { leaves_like is_closed self.old.seen + 1 < 2 ^ 32 }
         ensures above { self.new.above ≡ self.old.above }
         ensures seen { self.new.seen ≡ with_leaf is_closed (length self.old.above) self.old.seen }
+        ensures depth { self.new.depth ≡ self.old.depth }
     {
         let level = self.above.len() as u32;
         if is_closed {

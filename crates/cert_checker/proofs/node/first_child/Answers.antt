@@ -1,6 +1,7 @@
-use Rattle.std.proofs.Common.{◌<◌, ◌+◌, ◌^◌, subst, sym, arith}
+use Rattle.std.proofs.Common.{◌<◌, ◌+◌, ◌^◌, length, ap, ◌∙◌, subst, sym, arith}
 use Rattle.std.specs.Box.{with_value}
 use Rattle.crew_terms.specs.Tree.{CanSplit}
+use Rattle.node_limits.specs.Trail.{Trail}
 use Rattle.tree_walk.specs.Way.{Enters}
 use Rattle.cert_checker.specs.declared.due.TreeDraft.{TreeDraft}
 use Rattle.cert_checker.proofs.NodeRows.{entered_at, limits_at, taken_woke, written_back}
@@ -15,7 +16,14 @@ enter-requires c =
     let few = may.node.claimed.splits in
     let room = may.room.splits in
     let small : tree.walk.seen.splits + 1 < 2 ^ 32 = omega arith in
+    let level = may.room.depth in
+    let depth = may.node.depth in
+    let spare = may.node.spare in
+    let had = ap (λ (t : Trail). t.spare) woke in
+    let deep : length tree.walk.above < tree.walk.depth = omega arith in
     record {
+      deeper = subst (λ (t : TreeDraft). length t.walk.above < t.walk.depth) (sym c.deref_mut-held.ensures.value) deep;
+      spare = omega arith;
       split = subst (λ n. CanSplit n c.args.choice) (sym (limits_at tree c.wake-limits.result fs woke may.node)) may.split;
       room = subst (λ (t : TreeDraft). t.walk.seen.splits + 1 < 2 ^ 32) (sym c.deref_mut-held.ensures.value) small;
     }
@@ -29,7 +37,9 @@ returns c = λ fs cause node.
     let n = c.wake-limits.result in
     entered_at tree n c.enter.new.limits c.enter.new.self c.rest.result woke
     c.enter.ensures.instance c.rest.ensures.same c.rest.ensures.over
+    (c.enter.ensures.depth ∙ ap (λ (x : TreeDraft). x.walk.depth) c.deref_mut-held.ensures.value)
+    (c.enter.ensures.spare ∙ ap (λ (x : TreeDraft). n.spare + length x.walk.above) c.deref_mut-held.ensures.value)
     (with_value c.args.tree (record held { draft = with_value held.draft (record draft { limits = c.rest.result }); walk = c.enter.new.self }))
     (written_back tree held draft c.rest.result c.enter.new.self c.deref_mut-held.ensures.value c.deref_mut-draft.ensures.value)
     c.args.reader c.args.choice
-    (subst (λ (x : TreeDraft). Enters c.args.choice n x.walk c.enter.new.limits c.enter.new.self) c.deref_mut-held.ensures.value c.in_ok-enter.ensures.ok) c.requires.reader fs cause node
+    (subst (λ (x : TreeDraft). Enters c.args.choice n x.walk c.enter.new.limits c.enter.new.self) c.deref_mut-held.ensures.value c.enter.ensures.enters) c.requires.reader fs cause node

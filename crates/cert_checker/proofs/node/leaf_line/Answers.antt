@@ -1,11 +1,13 @@
-use Rattle.std.proofs.Common.{subst, sym}
+use Rattle.std.proofs.Common.{ap, subst, sym, ◌∙◌}
 use Rattle.std.proofs.lemmas.Bool.{both_ways}
-use Rattle.std.specs.Box.{with_value}
-use Rattle.dossier_terms.specs.Reading.{Prices}
+use Rattle.crew_terms.specs.Limits.{root_limits}
+use Rattle.dossier_terms.specs.Counted.{instance_below}
+use Rattle.dossier_terms.specs.Reading.{Prices, limits_of}
+use Rattle.leaf_check.specs.Reader.{IsReady, StandsFor}
+use Rattle.leaf_check.specs.declared.reader.LeafReader.{LeafReader}
 use Rattle.cert_checker.specs.Due.{HasLeafRoom, draft_of, site_of}
 use Rattle.cert_checker.specs.declared.due.TreeDraft.{TreeDraft}
-use Rattle.cert_checker.proofs.NodeRows.{leaf_room_above, leaf_room_at, leaf_no_room, leaf_more, taken_woke}
-use Rattle.cert_checker.proofs.LeafRows.{in_leaf, rested_back}
+use Rattle.cert_checker.proofs.NodeRows.{leaf_room_above, leaf_room_at, leaf_no_room, leaf_more}
 use Rattle.cert_checker.proofs.node.leaf_line.Goals as goal
 
 pub returns-then-not-has_leaf_room : goal.returns-then-not-has_leaf_room
@@ -18,21 +20,19 @@ returns-then-not-has_leaf_room c = λ fs node.
 pub returns : goal.returns
 returns c = λ fs node.
     let tree = c.args.tree.value in
-    let held = c.deref_mut.result.now in
-    let draft = c.deref_mut-draft.result.now in
-    let t = c.wake-limits.result in
-    let rest = c.rest.result in
-    let woke = taken_woke tree held draft c.take.result t c.deref_mut.ensures.value c.deref_mut-draft.ensures.value c.take.ensures.taken c.wake-limits.ensures in
-    let is = rested_back tree held draft rest c.deref_mut.ensures.value c.deref_mut-draft.ensures.value in
-    let new : TreeDraft = record held { draft = with_value held.draft (record draft { limits = rest }) } in
     let place = site_of tree fs c.args.is_closed in
     let room = subst (λ (x : TreeDraft). HasLeafRoom x c.args.is_closed) c.deref.ensures (c.has_leaf_room.ensures.0 c.if-not-has_leaf_room.false) in
-    let reader = c.in_ok-reader.reader in (
+    let had = c.requires.reader in
+    let old : IsReady had.0 c.deref_mut.result.now = subst (λ (r : LeafReader). IsReady had.0 r) (sym c.deref_mut.ensures.value) had.2 in (
       Prices place,
       leaf_more (draft_of tree.draft.value) tree.claimed fs c.args.is_closed (leaf_room_at tree c.args.is_closed fs node room),
       (
         fs,
-        in_leaf tree t rest woke c.rest.ensures.same c.rest.ensures.over new is c.args.is_closed reader.value fs (Prices place) node room
-            c.in_ok-reader.ensures.ready (c.in_ok-reader.ensures.begun place),
+        record {
+          node = node;
+          ready = c.begin.ensures.ready had.0 (limits_of place) (instance_below (root_limits tree.draft.value.base.instance) fs ∙ sym had.1) old;
+          room = room;
+          stands = c.begin.ensures.stands place;
+        },
       ),
     )

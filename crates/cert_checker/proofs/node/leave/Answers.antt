@@ -1,4 +1,4 @@
-use Rattle.std.proofs.Common.{subst, true, false}
+use Rattle.std.proofs.Common.{◌+◌, length, ap, ◌∙◌, subst, true, false}
 use Rattle.std.specs.Box.{with_value}
 use Rattle.tree_walk.specs.Way.{LeavesLeaf}
 use Rattle.cert_checker.specs.declared.due.TreeDraft.{TreeDraft}
@@ -13,6 +13,8 @@ returns-then-not-is_whole c =
     let woke = taken_woke tree held draft c.take.result c.wake-limits.result c.deref_mut-held.ensures.value c.deref_mut-draft.ensures.value c.take.ensures.taken c.wake-limits.ensures in
     left_at tree c.wake-limits.result c.leave-is_whole.new.limits c.leave-is_whole.new.self c.rest.result
     woke c.leave-is_whole.ensures.instance c.rest.ensures.same c.rest.ensures.over
+    (c.leave-is_whole.ensures.depth ∙ ap (λ (x : TreeDraft). x.walk.depth) c.deref_mut-held.ensures.value)
+    (c.leave-is_whole.ensures.spare ∙ ap (λ (x : TreeDraft). c.wake-limits.result.spare + length x.walk.above) c.deref_mut-held.ensures.value)
     (with_value c.args.tree (record held { draft = with_value held.draft (record draft { limits = c.rest.result }); walk = c.leave-is_whole.new.self }))
     (written_back tree held draft c.rest.result c.leave-is_whole.new.self c.deref_mut-held.ensures.value c.deref_mut-draft.ensures.value)
     c.args.reader c.args.is_closed

@@ -42,9 +42,7 @@ returns-in-Window c =
     let cut = c.in-Window.cut in
     let h = subst (IsNodeLine c.teams-teams.result c.tasks-tasks.result ws) c.in-Window.is c.in-Ok.ensures in
     let task : j < length tree.draft.value.base.instance.tasks = subst (λ x. j < x) (c.tasks-tasks.ensures.count ∙ ap (λ (d : BegunDossier). length d.base.instance.tasks) read) h.0 in
-    if_ok c.split_line.result (λ step. (fs : List Above) → IsAtNode tree fs → Tells (after_split b n fs (Window j cut)) step) (IsStep (NodeDue c.args.tree c.args.reader) ws)
-    (λ step told. node_rest c.args.tree c.args.reader ws step (λ fs. after_split b n fs (Window j cut)) (λ fs said rest. window_says b n fs j cut ws said task h.1 h.2 rest) told)
-    c.split_line.ensures
+    node_rest c.args.tree c.args.reader ws c.split_line.result (λ fs. after_split b n fs (Window j cut)) (λ fs said rest. window_says b n fs j cut ws said task h.1 h.2 rest) c.split_line.ensures
 
 pub returns-in-Pair : goal.returns-in-Pair
 returns-in-Pair c =
@@ -58,9 +56,7 @@ returns-in-Pair c =
     let h = subst (IsNodeLine c.teams-teams.result c.tasks-tasks.result ws) c.in-Pair.is c.in-Ok.ensures in
     let team : k < length tree.draft.value.base.instance.teams = subst (λ x. k < x) (c.teams-teams.ensures.count ∙ ap (λ (d : BegunDossier). length d.base.instance.teams) read) h.0 in
     let task : j < length tree.draft.value.base.instance.tasks = subst (λ x. j < x) (c.tasks-tasks.ensures.count ∙ ap (λ (d : BegunDossier). length d.base.instance.tasks) read) h.1 in
-    if_ok c.split_line-in-Pair.result (λ step. (fs : List Above) → IsAtNode tree fs → Tells (after_split b n fs (Pair k j)) step) (IsStep (NodeDue c.args.tree c.args.reader) ws)
-    (λ step told. node_rest c.args.tree c.args.reader ws step (λ fs. after_split b n fs (Pair k j)) (λ fs said rest. pair_says b n fs k j ws said team task h.2 rest) told)
-    c.split_line-in-Pair.ensures
+    node_rest c.args.tree c.args.reader ws c.split_line-in-Pair.result (λ fs. after_split b n fs (Pair k j)) (λ fs said rest. pair_says b n fs k j ws said team task h.2 rest) c.split_line-in-Pair.ensures
 
 pub returns-in-LeafBare : goal.returns-in-LeafBare
 returns-in-LeafBare c =
@@ -78,9 +74,7 @@ returns-in-LeafOpen c =
     let n = tree.claimed in
     let ws = c.args.words in
     let h = subst (IsNodeLine c.teams-teams.result c.tasks-tasks.result ws) c.in-LeafOpen.is c.in-Ok.ensures in
-    if_ok c.leaf_line.result (λ step. (fs : List Above) → IsAtNode tree fs → Tells (after_leaf b n fs false) step) (IsStep (NodeDue c.args.tree c.args.reader) ws)
-    (λ step told. node_rest c.args.tree c.args.reader ws step (λ fs. after_leaf b n fs false) (λ fs said rest. open_says b n fs ws said h rest) told)
-    c.leaf_line.ensures
+    node_rest c.args.tree c.args.reader ws c.leaf_line.result (λ fs. after_leaf b n fs false) (λ fs said rest. open_says b n fs ws said h rest) c.leaf_line.ensures
 
 pub returns-in-LeafClosed : goal.returns-in-LeafClosed
 returns-in-LeafClosed c =
@@ -89,6 +83,4 @@ returns-in-LeafClosed c =
     let n = tree.claimed in
     let ws = c.args.words in
     let h = subst (IsNodeLine c.teams-teams.result c.tasks-tasks.result ws) c.in-LeafClosed.is c.in-Ok.ensures in
-    if_ok c.leaf_line-in-LeafClosed.result (λ step. (fs : List Above) → IsAtNode tree fs → Tells (after_leaf b n fs true) step) (IsStep (NodeDue c.args.tree c.args.reader) ws)
-    (λ step told. node_rest c.args.tree c.args.reader ws step (λ fs. after_leaf b n fs true) (λ fs said rest. closed_says b n fs ws said h rest) told)
-    c.leaf_line-in-LeafClosed.ensures
+    node_rest c.args.tree c.args.reader ws c.leaf_line-in-LeafClosed.result (λ fs. after_leaf b n fs true) (λ fs said rest. closed_says b n fs ws said h rest) c.leaf_line-in-LeafClosed.ensures

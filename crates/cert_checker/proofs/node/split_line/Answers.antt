@@ -1,7 +1,6 @@
 use Rattle.std.proofs.Common.{◌≡◌, List, ap, subst, sym, refl, ◌∙◌}
 use Rattle.std.proofs.lemmas.Bool.{both_ways}
 use Rattle.std.specs.Box.{with_value}
-use Rattle.std.specs.Prelude.{Option}
 use Rattle.std.specs.Global.{Box}
 use Rattle.crew_terms.specs.declared.Choice.{Choice}
 use Rattle.dossier_terms.specs.declared.DossierForm.{DossierForm}
@@ -65,7 +64,7 @@ first_child-requires d =
     let at = c.requires.node in
     record {
       split = (at.0, subst (λ (t : TreeDraft). MaySplit t c.args.choice at.0) (sym (written_is c)) (may c at.0 at.1));
-      reader = subst (λ (t : TreeDraft). IsReaderFor t.draft.value.base.instance c.args.reader) (sym (written_is c)) c.requires.reader;
+      reader = subst (λ (t : TreeDraft). IsReaderFor t.draft.value.base.instance c.args.reader.value) (sym (written_is c)) c.requires.reader;
     }
 
 -- the form is that of the dossier
@@ -82,22 +81,22 @@ goes_on c fs next node is =
     let room = room_at tree fs node (subst HasSplitLeft c.deref.ensures (c.has_split_room.ensures.0 c.if-not-has_split_room.false)) in
     split_more (draft_of tree.draft.value) tree.claimed fs c.args.choice n.limits next (limits_at tree n fs (woke c) node) room (c.can_split.ensures.0 c.if-not-can_split.false) is
 
-pub returns-in_ok-due-in-One : goal.returns-in_ok-due-in-One
-returns-in_ok-due-in-One d = λ fs node.
-    let c = (goal.at.returns-in_ok-due-in-One d).After-rest in
+pub returns-in-One : goal.returns-in-One
+returns-in-One d = λ fs node.
+    let c = (goal.at.returns-in-One d).After-rest in
     let tree = c.args.tree.value in
     let b = draft_of tree.draft.value in
     let next = split_done b tree.claimed fs (record { choice = c.args.choice; cause = NoCause }) in
     let here = subst (λ (t : TreeDraft). IsAtNode t fs) (sym (written_is c)) (may c fs node).node in (
       next,
       goes_on c fs next node (ap (λ f. choice_done f b tree.claimed fs c.args.choice) (form_is c One d.in-One.is)),
-      subst (λ (t : TreeDraft). Awaits d.in_ok-due-in-One.due (split_done (draft_of t.draft.value) t.claimed fs (record { choice = c.args.choice; cause = NoCause }))) (written_is c)
-          (d.in_ok-due-in-One.ensures fs NoCause here),
+      subst (λ (t : TreeDraft). Awaits d.first_child.result (split_done (draft_of t.draft.value) t.claimed fs (record { choice = c.args.choice; cause = NoCause }))) (written_is c)
+          (d.first_child.ensures fs NoCause here),
     )
 
 -- the line `why` of this node is due
-abbrev IsWhyDue : Option (Box LeafReader) → Choice → List Above → Reading → TreeDraft → Type 0
-IsWhyDue reader choice fs next t = (above : List Above) × MaySplit t choice above × IsReaderFor t.draft.value.base.instance reader
+abbrev IsWhyDue : Box LeafReader → Choice → List Above → Reading → TreeDraft → Type 0
+IsWhyDue reader choice fs next t = (above : List Above) × MaySplit t choice above × IsReaderFor t.draft.value.base.instance reader.value
     × (next ≡ Whys (draft_of t.draft.value) t.claimed above choice)
 
 pub returns-in-Two : goal.returns-in-Two

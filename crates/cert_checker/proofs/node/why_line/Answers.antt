@@ -17,8 +17,8 @@ returns c = λ reading awaited.
     let fs = awaited.0 in
     let ws = c.args.words in
     let is = why_is ws c.in_default.field-0 c.in_default.ensures in
-    subst (λ r. Tells (Says r ws) (More c.in_ok-due.due)) (sym awaited.3) (
+    subst (λ r. Tells (Says r ws) (More c.first_child.result)) (sym awaited.3) (
       split_done b tree.claimed fs (record { choice = c.args.choice; cause = NoCause }),
       why_more b tree.claimed fs c.args.choice ws is,
-      c.in_ok-due.ensures fs NoCause awaited.1.node,
+      c.first_child.ensures fs NoCause awaited.1.node,
     )

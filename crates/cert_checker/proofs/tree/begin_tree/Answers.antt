@@ -1,14 +1,51 @@
-use Rattle.std.proofs.Common.{[], subst, sym}
-use Rattle.cert_checker.specs.Due.{IsAtNode}
+use Rattle.std.proofs.Common.{◌≡◌, ◌≤◌, ◌+◌, List, [], length, ap, subst, sym, ◌∙◌, arith}
+use Rattle.std.specs.Box.{with_value}
+use Rattle.node_limits.specs.Rest.{trail_over}
+use Rattle.node_limits.specs.Trail.{Trail}
+use Rattle.crew_terms.specs.Limits.{Limits}
+use Rattle.crew_terms.specs.declared.TreeCounts.{TreeCounts}
+use Rattle.dossier_terms.specs.Reading.{Begun, Nodes, Above}
+use Rattle.leaf_check.specs.Reader.{IsReady}
+use Rattle.leaf_check.specs.declared.reader.LeafReader.{LeafReader}
+use Rattle.cert_checker.specs.Due.{IsAtNode, IsReaderFor, IsRoot, draft_of}
+use Rattle.cert_checker.specs.declared.due.BegunDossier.{BegunDossier}
 use Rattle.cert_checker.specs.declared.due.TreeDraft.{TreeDraft}
+use Rattle.cert_checker.proofs.PoolRows.{rest_is_root, root_woke}
 use Rattle.cert_checker.proofs.TreeRows.{at_root}
 use Rattle.cert_checker.proofs.tree.begin_tree.Goals as goal
 
-pub returns-clause-node : goal.returns-clause-node
-returns-clause-node c =
-    let b = c.args.draft.value in
-    subst (λ (t : TreeDraft). IsAtNode t []) (sym c.in_ok-tree.ensures.ok) (record {
+-- the root of the tree is due
+abbrev IsRootDue : LeafReader → Begun → TreeCounts → TreeDraft → Type 0
+IsRootDue reader b claimed t = (above : List Above) × IsAtNode t above × IsReaderFor t.draft.value.base.instance reader
+    × (Nodes b claimed [] ≡ Nodes (draft_of t.draft.value) t.claimed above)
+
+pub returns : goal.returns
+returns c =
+    let claimed = c.args.claimed in
+    let held = c.deref_mut-held.result.now in
+    let same : held ≡ c.args.draft.value = c.deref_mut-held.ensures.value in
+    let i = held.base.instance in
+    let given : IsRoot i held.limits = subst (λ (d : BegunDossier). IsRoot d.base.instance d.limits) (sym same) c.requires.root in
+    let woke : c.wake-limits.result ≡ trail_over i held.limits = c.wake-limits.ensures ∙ ap (trail_over i) c.take.ensures.taken in
+    let first = root_woke i held.limits c.wake-limits.result given woke in
+    let t = c.reserve.new.self in
+    let kept = c.in_ok-reserve.ensures.ok in
+    let limits = ap (λ (x : Trail). x.limits) kept ∙ first.0 in
+    let past = ap (λ (x : Trail). x.past) kept ∙ first.1 in
+    let room = ap (λ (x : Trail). x.spare) kept in
+    let rest = c.rest.result in
+    let root = rest_is_root i t rest limits past c.rest.ensures.same c.rest.ensures.over in
+    let rested : rest.spare ≡ t.spare = ap (λ (x : Trail). x.spare) c.rest.ensures.same in
+    let walk = c.in_ok-walk.walk in
+    let draft : TreeDraft = record { draft = with_value c.args.draft (record held { limits = rest }); claimed = claimed; walk = walk } in
+    let node : IsAtNode draft [] = record {
       claimed = c.requires.counts;
-      over = c.requires.root.over;
-      at = at_root b.base.instance b.limits c.new.result c.requires.root c.new.ensures;
-    })
+      over = root.over;
+      at = at_root i rest walk root c.in_ok-walk.ensures.root;
+      depth = c.in_ok-walk.ensures.depth;
+      spare = omega arith;
+    } in
+    let reader = c.in_ok-reader.reader.value in
+    let ready : IsReady t.limits reader = subst (λ (r : LeafReader). IsReady t.limits r) (sym c.in_ok-reader.ensures.ok) c.in_ok-opened.ensures.ready in
+    subst (IsRootDue reader (draft_of c.args.draft.value) claimed) (sym c.in_ok-tree.ensures.ok)
+    ([], node, (t.limits, ap (λ (n : Limits). n.instance) limits, ready), ap (λ (d : BegunDossier). Nodes (draft_of d) claimed []) (sym same))
