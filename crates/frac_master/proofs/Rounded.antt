@@ -1,40 +1,15 @@
 -- quotients rounded down, and cut off
-use Rattle.std.proofs.Common.{◌≡◌, ◌<◌, ◌≤◌, ◌^◌, ◌∙◌, ◌⊎◌, inl, inr, ℕ, zero, suc, ap, sym, subst, arith, to_z, of_z}
+use Rattle.std.proofs.Common.{◌≡◌, ◌<◌, ◌≤◌, ◌^◌, ◌∙◌, ◌⊎◌, inl, inr, ℕ, ap, sym, subst, arith, to_z, of_z}
 use Rattle.std.specs.Prelude.{ℤ, pos, negsuc, neg_ℤ, ◌+ℤ◌, ◌-ℤ◌, ◌*ℤ◌, ◌≤ℤ◌, ◌<ℤ◌, FitsSigned}
-use Rattle.std.specs.Int.{int_div_euclid, int_rem_euclid, int_max, int_min, w64, w128}
+use Rattle.std.specs.Int.{int_div_euclid, int_max, int_min, w64, w128}
 use Rattle.std.proofs.lemmas.Bool.{cases_lt}
 use Rattle.std.proofs.lemmas.Int.{int_max_is, int_min_is, ints, to_z-of_z}
 use Rattle.std.proofs.Math.IntN.{*ℤ_comm}
 use Rattle.crew_num.specs.Ratios.{IsFloor}
 use Rattle.crew_terms.specs.declared.TheConstants.{D, MOST_PRICE}
 use Rattle.search_terms.specs.Earned.{rounded}
-use Rattle.frac_master.proofs.Ring.{cancel_positive, not_negative, scale_diff}
-
--- the quotient and the rest give the number again
-division : (n : ℤ) (d : ℕ) → 0 < d → (int_div_euclid n (pos d) *ℤ pos d) +ℤ int_rem_euclid n (pos d) ≡ n
-division n zero h = absurd (omega arith)
-division (pos n) (suc d) h = omega (arith, ints)
-division (negsuc n) (suc d) h = omega (arith, ints)
-
-rest_low : (n : ℤ) (d : ℕ) → 0 < d → pos 0 ≤ℤ int_rem_euclid n (pos d)
-rest_low n zero h = absurd (omega arith)
-rest_low (pos n) (suc d) h = omega (arith, ints)
-rest_low (negsuc n) (suc d) h = omega (arith, ints)
-
-rest_below : (n : ℤ) (d : ℕ) → 0 < d → int_rem_euclid n (pos d) <ℤ pos d
-rest_below n zero h = absurd (omega arith)
-rest_below (pos n) (suc d) h = omega (arith, ints)
-rest_below (negsuc n) (suc d) h = omega (arith, ints)
-
--- a number whose product is below that of the next is at most it
-at_most : (a b d : ℤ) → pos 0 <ℤ d → (a *ℤ d) <ℤ ((b +ℤ pos 1) *ℤ d) → a ≤ℤ b
-at_most a b d up h =
-    let e = scale_diff d (b +ℤ pos 1) a in
-    let f = *ℤ_comm a d in
-    let g = *ℤ_comm (b +ℤ pos 1) d in
-    let s : pos 0 <ℤ (d *ℤ ((b +ℤ pos 1) -ℤ a)) = omega (arith, ints) in
-    let p = cancel_positive d ((b +ℤ pos 1) -ℤ a) up s in
-    omega (arith, ints)
+use Rattle.ring_laws.specs.Quotients.{at_most, division, rest_below, rest_low}
+use Rattle.ring_laws.specs.Ring.{cancel_positive, not_negative, scale_diff}
 
 -- the floor is the quotient
 floor_is : (floor n : ℤ) (d : ℕ) → 0 < d → IsFloor floor n (pos d) → floor ≡ int_div_euclid n (pos d)
@@ -44,7 +19,7 @@ floor_is floor n d some is =
     let e = division n d some in
     let low = rest_low n d some in
     let high = rest_below n d some in
-    let next = times_next q (pos d) in
+    let next = times_next floor (pos d) in
     let a = at_most floor q (pos d) up (let h = is.not_above in omega (arith, ints)) in
     let b = at_most q floor (pos d) up (let h = is.next_above in omega (arith, ints)) in
     omega (arith, ints)

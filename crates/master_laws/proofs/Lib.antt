@@ -1,5 +1,4 @@
 pub mod Below
-pub mod Ring
 pub mod Totals
 pub mod Solutions
 pub mod Feasible

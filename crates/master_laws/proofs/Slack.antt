@@ -18,7 +18,7 @@ use Rattle.search_terms.specs.Rows.{Row, Rows, number, last, value_row}
 use Rattle.search_terms.specs.Opening.{places, visit_number, one_if}
 use Rattle.search_terms.specs.Duals.{AreDuals, best_reward, term_over, extras}
 use Rattle.search_terms.specs.Shares.{IsRouteIn, visits_to}
-use Rattle.master_laws.proofs.Ring.{scale_sum}
+use Rattle.ring_laws.specs.Ring.{scale_sum}
 use Rattle.crew_terms.specs.Totals.{total-same, total-zero, total-one, total-plus}
 use Rattle.master_laws.proofs.Apart.{not_same, same}
 use Rattle.master_laws.proofs.Duals.{no_route}

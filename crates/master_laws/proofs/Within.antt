@@ -22,7 +22,7 @@ use Rattle.search_terms.specs.Shares.{unassigned_of}
 use Rattle.search_terms.specs.BasicChoice.{AreWholeParts, choice_of, is_unassigned_at}
 use Rattle.search_terms.specs.declared.TheConstants.{RIGHT, VALUE}
 use Rattle.master_laws.proofs.Below.{below}
-use Rattle.master_laws.proofs.Ring.{not_negative, cancel_up_to, times_up_to, cancel_positive}
+use Rattle.ring_laws.specs.Ring.{not_negative, cancel_up_to, times_up_to, cancel_positive}
 use Rattle.crew_terms.specs.Totals.{total-same, lt_or_last}
 use Rattle.master_laws.proofs.Solutions.{solves_next}
 use Rattle.master_laws.proofs.Entering.{AreWithin, folded, stand_in, solves_unfolded, spike, spike-other, product_plus, product_spike}

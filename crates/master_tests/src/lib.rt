@@ -7,4 +7,6 @@ mod asserts;
 #[cfg(test)]
 mod masters;
 #[cfg(test)]
+mod rounding;
+#[cfg(test)]
 mod rows;

@@ -1,0 +1,3 @@
+pub mod Rounding
+pub mod Losing
+pub mod Loose
