@@ -1,0 +1,5 @@
+pub mod Earning
+pub mod Growing
+pub mod MeetingLemmas
+pub mod Ending
+pub mod Permitted

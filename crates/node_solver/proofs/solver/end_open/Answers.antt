@@ -1,0 +1,59 @@
+use Rattle.std.proofs.Common.{All, sym, subst}
+use Rattle.branch_choice.specs.Uses.{IsPermittedUse}
+use Rattle.search_terms.specs.Search.{IsKeepable}
+use Rattle.node_solver.proofs.Growing.{extends_more}
+use Rattle.node_solver.proofs.solver.end_open.Goals as goal
+
+pub returns-then-found-best-clause-ends : goal.returns-then-found-best-clause-ends
+returns-then-found-best-clause-ends g c =
+    c.less_is_proved.ensures c.args.limits.now.limits c.in_ok-found.found.prices c.in_ok-found.found.proved c.offer.new.self.unassigned
+    c.if-found-best.true c.in_ok-found.ensures.proved.proved
+
+pub returns-then-found-best-clause-best : goal.returns-then-found-best-clause-best
+returns-then-found-best-clause-best g c = λ b.
+    c.offer.ensures.best c.args.limits.now.limits.instance b
+    (subst (λ i. IsKeepable i c.in_ok-from_uses.field-0) c.instance.ensures.instance
+    (record { legal = c.in_ok-from_uses.ensures.legal; packed = c.in_ok-from_uses.ensures.packed }))
+
+pub returns-in_err-add_routes-clause-best : goal.returns-in_err-add_routes-clause-best
+returns-in_err-add_routes-clause-best g c = λ b.
+    c.offer.ensures.best c.args.limits.now.limits.instance b
+    (subst (λ i. IsKeepable i c.in_ok-from_uses.field-0) c.instance.ensures.instance
+    (record { legal = c.in_ok-from_uses.ensures.legal; packed = c.in_ok-from_uses.ensures.packed }))
+
+pub returns-in-Ok-clause-keeps : goal.returns-in-Ok-clause-keeps
+returns-in-Ok-clause-keeps g c = c.in-Ok.ensures.keeps c.args.start
+
+pub returns-in-Ok-clause-best : goal.returns-in-Ok-clause-best
+returns-in-Ok-clause-best g c = λ b is.
+    c.in-Ok.ensures.best b (c.offer.ensures.best c.args.limits.now.limits.instance b
+    (subst (λ i. IsKeepable i c.in_ok-from_uses.field-0) c.instance.ensures.instance
+    (record { legal = c.in_ok-from_uses.ensures.legal; packed = c.in_ok-from_uses.ensures.packed })) is)
+
+pub returns-in-Ok-clause-extends : goal.returns-in-Ok-clause-extends
+returns-in-Ok-clause-extends g c =
+    extends_more c.args.limits.now.limits (g.C.Columns.columns c.args.columns.now) (g.C.Columns.columns c.add_routes.new.columns)
+    (g.C.Columns.columns c.end_by_master.new.columns) c.add_routes.ensures c.in-Ok.ensures.extends
+
+pub end_halted-requires-clause-uses : goal.end_halted-requires-clause-uses
+end_halted-requires-clause-uses g c =
+    let n = c.args.limits.now.limits in
+    subst (All (IsPermittedUse n)) (sym c.deref-in-Err.ensures.value) (c.in_ok-uses.ensures n c.in_ok-found.ensures.routes)
+
+pub returns-clause-ends : goal.returns-clause-ends
+returns-clause-ends g c =
+    c.end_halted.ensures.ends c.args.effort.now.pivots (g.C.Columns.columns c.end_by_master.new.columns) c.in-Err.ensures.halts
+
+pub returns-clause-keeps : goal.returns-clause-keeps
+returns-clause-keeps g c = c.end_halted.ensures.keeps c.args.start c.in_ok-found.ensures.as_much
+
+pub returns-clause-best : goal.returns-clause-best
+returns-clause-best g c = λ b is.
+    c.in-Err.ensures.best b (c.offer.ensures.best c.args.limits.now.limits.instance b
+    (subst (λ i. IsKeepable i c.in_ok-from_uses.field-0) c.instance.ensures.instance
+    (record { legal = c.in_ok-from_uses.ensures.legal; packed = c.in_ok-from_uses.ensures.packed })) is)
+
+pub returns-clause-extends : goal.returns-clause-extends
+returns-clause-extends g c =
+    extends_more c.args.limits.now.limits (g.C.Columns.columns c.args.columns.now) (g.C.Columns.columns c.add_routes.new.columns)
+    (g.C.Columns.columns c.end_by_master.new.columns) c.add_routes.ensures c.in-Err.ensures.extends

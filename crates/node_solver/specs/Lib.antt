@@ -1,0 +1,5 @@
+pub mod Plans
+pub mod Meeting
+pub mod Settled
+pub mod Causes
+pub mod Steps

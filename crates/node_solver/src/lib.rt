@@ -1,0 +1,24 @@
+// One node of the search: closed by prices, or split with a cause.
+#![tactic(auto)]
+
+mod best_plan;
+mod decided;
+mod earnings;
+mod effort;
+mod improving;
+mod master;
+mod rounds;
+mod seeds;
+mod solver;
+mod step;
+mod uses;
+
+pub use branch_choice::Choice;
+pub use crew_instance::Plan;
+pub use crew_num::Overflow;
+pub use effort::Effort;
+pub use frac_master::Share;
+pub use potentials::Prices;
+pub use price_ascent::Effort as AscentEffort;
+pub use solver::process;
+pub use step::{NodeEnd, Parts, Shares, Step, Why};
