@@ -10,8 +10,8 @@ type Case = (usize, &'static [u8], &'static [u8]);
 const FORM: &[Case] = &[
     (1, b"", b"no 1 Shape\n"),
     (1, b"crew dossier", b"no 1 Shape\n"),
-    (1, b"crew dossier 2", b"no 1 Shape\n"),
-    (1, b"crew dossier 01", b"no 1 Shape\n"),
+    (1, b"crew dossier 3", b"no 1 Shape\n"),
+    (1, b"crew dossier 02", b"no 1 Shape\n"),
     (1, b"crew dossier 1 1", b"no 1 Shape\n"),
     (1, b"crew  dossier 1", b"no 1 Shape\n"),
     (1, b" crew dossier 1", b"no 1 Shape\n"),
