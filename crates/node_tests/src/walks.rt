@@ -41,13 +41,14 @@ fn split_window(walk: &mut Walk, limits: &mut Limits<'_>, task: u32, cut: u32) -
     requires { IsSomewhere limits.old walk.old }
     ensures { OnOk result (IsSomewhere limits.new walk.new) }
 {
+    limits.reserve(1)?;
     if task as usize >= limits.instance().tasks() || !is_cut(limits, task, cut) {
         return Err("cut")?;
     }
-    if walk.seen().splits > 100000 {
+    if walk.is_full() || walk.seen().splits > 100000 {
         return Err("splits")?;
     }
-    walk.enter(limits, Choice::Window { task, cut })?;
+    walk.enter(limits, Choice::Window { task, cut });
     Ok(())
 }
 
@@ -56,13 +57,17 @@ fn split_pair(walk: &mut Walk, limits: &mut Limits<'_>) -> Result<(), Fail>
     requires { IsSomewhere limits.old walk.old }
     ensures { OnOk result (IsSomewhere limits.new walk.new) }
 {
+    limits.reserve(1)?;
     if limits.instance().teams() != 2 || limits.instance().tasks() != 2 {
         return Err("day")?;
     }
     if !matches!(limits.pair(0, 1), Pair::Free) || walk.seen().splits > 100000 {
         return Err("pair")?;
     }
-    walk.enter(limits, Choice::Pair { team: 0, task: 1 })?;
+    if walk.is_full() {
+        return Err("splits")?;
+    }
+    walk.enter(limits, Choice::Pair { team: 0, task: 1 });
     Ok(())
 }
 
@@ -81,7 +86,7 @@ fn leave(walk: &mut Walk, limits: &mut Limits<'_>, is_closed: bool) -> Result<bo
 fn walks_a_small_tree(rt: HostRuntime) -> Result<(), Fail> {
     let day = small_day(rt.alloc())?;
     let mut limits = Limits::root(rt.alloc(), &day)?;
-    let mut walk = Walk::new(rt.alloc());
+    let mut walk = Walk::open(rt.alloc(), 2)?;
     split_window(&mut walk, &mut limits, 0, 440)?;
     same(&rt, &told(&limits), &Some(((420, 440), Pair::Free)));
     split_pair(&mut walk, &mut limits)?;
@@ -155,7 +160,7 @@ fn leave_all(walk: &mut Walk, limits: &mut Limits<'_>, below: u32) -> Result<u32
 fn walks_a_deep_tree(rt: HostRuntime) -> Result<(), Fail> {
     let day = small_day(rt.alloc())?;
     let mut limits = Limits::root(rt.alloc(), &day)?;
-    let mut walk = Walk::new(rt.alloc());
+    let mut walk = Walk::open(rt.alloc(), 1000)?;
     go_down(&mut walk, &mut limits, 0, 1139, 720)?;
     go_down(&mut walk, &mut limits, 1, 799, 280)?;
     same(&rt, &walk.level(), &1000);

@@ -1,5 +1,5 @@
 // The way from the root of a tree to the node that is due.
-ghost use Rattle.std.specs.Prelude.{◌≡◌, ◌≤◌, ◌<◌, ◌+◌, ◌^◌, [], ◌∷◌, drop, length, IfOk};
+ghost use Rattle.std.specs.Prelude.{◌≡◌, ◌≤◌, ◌<◌, ◌+◌, ◌^◌, [], ◌∷◌, drop, length, IfOk, IsTrue, ◌↔◌};
 ghost use Rattle.node_limits.specs.Trail.{Trail};
 ghost use Rattle.crew_terms.specs.Tree.{CanSplit};
 ghost use Rattle.tree_walk.specs.Way.{Enters, IsAt, IsSomewhere, LeavesLeaf, innermost, leaves_like, with_leaf};
@@ -68,6 +68,13 @@ impl Walk {
         ensures splits { result ≤ self.now.seen.splits }
     {
         self.above.len()
+    }
+
+    /// Whether there is no room for one more split above a node.
+    pub fn is_full(&self) -> bool
+        ensures { IsTrue result ↔ self.now.depth ≤ length self.now.above }
+    {
+        self.depth <= self.above.len()
     }
 
     /// Splits the node that is due, and goes into its first child. The room of the limits and the splits above a node are

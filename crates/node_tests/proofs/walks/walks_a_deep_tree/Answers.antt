@@ -3,4 +3,4 @@ use Rattle.tree_walk.proofs.Somewhere.{at_root}
 use Rattle.node_tests.proofs.walks.walks_a_deep_tree.Goals as goal
 
 pub go_down-requires-clause-somewhere : goal.go_down-requires-clause-somewhere
-go_down-requires-clause-somewhere g c = at_root _ _ c.new-walk.ensures (ap (λ t. t.past) c.in_ok-limits.ensures)
+go_down-requires-clause-somewhere g c = at_root _ _ c.in_ok-walk.ensures.root (ap (λ t. t.past) c.in_ok-limits.ensures)
