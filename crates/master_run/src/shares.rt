@@ -1,10 +1,12 @@
 // The shares of columns at a run's optimum.
-ghost use Rattle.std.specs.Prelude.{◌≡◌, ◌<ℤ◌, pos, List, All, IfErr, IfOk};
+ghost use Rattle.std.specs.Prelude.{◌≡◌, ◌<ℤ◌, pos, unsigned_abs, List, All, IfErr, IfOk};
 ghost use Rattle.column_arena.specs.Legal.{IsLegalColumn};
 ghost use Rattle.crew_terms.specs.Limits.{Limits as NodeLimits, Route};
-ghost use Rattle.frac_master.specs.Shares.{IsOptimalChoice};
+ghost use Rattle.frac_master.specs.Shares.{IsOptimalChoice, basic_choice, parts_at};
 ghost use Rattle.master_run.specs.Along.{Halts, IsOver};
 ghost use Rattle.master_run.specs.Shares.{fractional_of};
+ghost use Rattle.master_run.specs.State.{routes_of};
+ghost use Rattle.search_terms.specs.BasicChoice.{AreWholeParts};
 
 use crate::halt::Halt;
 use crate::run::Run;
@@ -29,6 +31,11 @@ impl Run {
             IfOk result (λ s. All (λ share. IsLegalColumn n columns share.column) s.shares.items) }
         ensures choice { (n : NodeLimits) (columns : List Route) → IsOver n columns self.now →
             IfOk result (λ s. IsOptimalChoice n self.now.master.rows (fractional_of columns s.den s.shares.items s.left_open.items)) }
+        ensures parts { (n : NodeLimits) (columns : List Route) → IsOver n columns self.now → IfOk result (λ s.
+            AreWholeParts n (routes_of columns self.now.ids) self.now.master.rows (unsigned_abs s.den) (parts_at self.now.master.rows (unsigned_abs s.den))) }
+        ensures basic { (n : NodeLimits) (columns : List Route) → IsOver n columns self.now → IfOk result (λ s.
+            fractional_of columns s.den s.shares.items s.left_open.items ≡
+            basic_choice n (routes_of columns self.now.ids) self.now.master.rows (unsigned_abs s.den)) }
         ensures halts { (n : NodeLimits) (columns : List Route) → IsOver n columns self.now → IfErr result (Halts n self.now.pivots columns) }
     {
         lists_are_runs();

@@ -3,3 +3,4 @@ pub mod Meeting
 pub mod Settled
 pub mod Causes
 pub mod Steps
+pub mod Loose

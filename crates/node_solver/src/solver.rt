@@ -9,6 +9,7 @@ ghost use Rattle.potentials.specs.Prices.{ArePricesOf};
 ghost use Rattle.search_terms.specs.Inside.{IsNode};
 ghost use Rattle.search_terms.specs.Proven.{IsProvedCount, ProveAsMuch};
 ghost use Rattle.search_terms.specs.Search.{Extends};
+ghost use Rattle.node_solver.specs.Loose.{IsShown};
 ghost use Rattle.node_solver.specs.Plans.{IsBestOf, IsBetterPlan, now_after};
 ghost use Rattle.node_solver.specs.Steps.{Ends, KeepsProved, prices_of};
 
@@ -55,6 +56,7 @@ fn end_halted(
     ensures ends { (pivots : ℕ) (columns : List Route) → Halts limits.now.limits pivots columns halt →
         IfOk result (Ends limits.now.limits now pivots columns) }
     ensures shape { IfOk result (λ e. ArePricesOf limits.now.limits (prices_of e)) }
+    ensures shown { (columns : List Route) → IfOk result (IsShown limits.now.limits now columns) }
     ensures keeps { (start : NodePrices) → ProveAsMuch limits.now.limits ascent.prices start → IfOk result (KeepsProved limits.now.limits start) }
 {
     less_is_proved();
@@ -90,6 +92,7 @@ fn end_open<C: Columns>(
     requires required { IsOnRequired limits.now.limits start }
     ensures ends { IfOk result (Ends limits.now.limits best.new.unassigned effort.now.pivots (C.columns columns.new)) }
     ensures shape { IfOk result (λ e. ArePricesOf limits.now.limits (prices_of e)) }
+    ensures shown { IfOk result (IsShown limits.now.limits best.new.unassigned (C.columns columns.new)) }
     ensures keeps { IfOk result (KeepsProved limits.now.limits start) }
     ensures best { (b : ℕ) → IsBestOf limits.now.limits.instance b best.old → IsBestOf limits.now.limits.instance b best.new }
     ensures extends { Extends limits.now.limits (C.columns columns.old) (C.columns columns.new) }
@@ -119,7 +122,8 @@ fn end_open<C: Columns>(
 /// A decided node is closed by what is required in it. Else the prices with which it begins are bettered by an ascent, and
 /// where they prove too little the node's master runs over the columns that are routes in it, and goes on by the routes
 /// that earn more at its prices. What is found on the way may give a better plan, and then that is what is to be proved.
-/// The columns only grow, also where memory runs out.
+/// A split that is loose shows shares of the columns that leave hardly more than what would be better, and prices near to
+/// what these are worth. The columns only grow, also where memory runs out.
 pub fn process<C: Columns>(
     alloc: Global,
     limits: &Limits<'_>,
@@ -134,6 +138,7 @@ pub fn process<C: Columns>(
     requires required { IsOnRequired limits.now.limits start }
     ensures plan { IfOk result (λ s. IfSome s.plan (IsBetterPlan limits.now.limits.instance best)) }
     ensures ends { IfOk result (λ s. Ends limits.now.limits (now_after best s.plan) effort.now.pivots (C.columns columns.new) s.end) }
+    ensures shown { IfOk result (λ s. IsShown limits.now.limits (now_after best s.plan) (C.columns columns.new) s.end) }
     ensures shape { IfOk result (λ s. ArePricesOf limits.now.limits (prices_of s.end)) }
     ensures as_much { IfOk result (λ s. KeepsProved limits.now.limits start s.end) }
     ensures extends { Extends limits.now.limits (C.columns columns.old) (C.columns columns.new) }

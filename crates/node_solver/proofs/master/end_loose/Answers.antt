@@ -1,8 +1,20 @@
-use Rattle.std.proofs.Common.{◌≤◌, All, sym, subst, arith}
-use Rattle.std.specs.Prelude.{IfSome}
+use Rattle.std.proofs.Common.{◌≤◌, ◌<◌, ◌+◌, ◌-◌, ◌*◌, ℕ, pos, ◌*ℤ◌, ◌+ℤ◌, ◌≤ℤ◌, All, rules, sym, subst, arith}
+use Rattle.std.specs.Int.{w128}
+use Rattle.std.specs.Prelude.{FitsSigned, IfSome, unsigned_abs}
+use Rattle.std.proofs.lemmas.Int.{to_z-of_z}
+use Rattle.crew_terms.specs.Leaf.{Proves, bound_of, worth_of}
+use Rattle.crew_terms.specs.declared.TheConstants.{D}
+use Rattle.frac_master.specs.Shares.{parts_at}
+use Rattle.master_run.specs.Shares.{fractional_of}
+use Rattle.master_run.specs.State.{routes_of}
+use Rattle.rounding_laws.specs.declared.TheConstants.{MOST_LOSS}
+use Rattle.search_terms.specs.Earned.{AreWorths as EarnedWorths, BeatsRoutes}
+use Rattle.search_terms.specs.Shares.{IsLoose, choice_value}
+use Rattle.node_solver.specs.Loose.{IsShownLoose}
+use Rattle.node_solver.proofs.MeetingLemmas.{legal_are, met_unbeaten}
 use Rattle.branch_choice.specs.Uses.{IsPermittedUse}
 use Rattle.column_arena.specs.Legal.{IsLegalColumn}
-use Rattle.crew_terms.specs.Limits.{tasks_in}
+use Rattle.crew_terms.specs.Limits.{tasks_in, teams_in}
 use Rattle.frac_master.specs.declared.shares.Share.{Share}
 use Rattle.search_terms.specs.Choice.{IsValidChoice}
 use Rattle.search_terms.specs.Search.{IsKeepable}
@@ -50,3 +62,48 @@ returns-clause-best g c = λ b.
     c.offer.ensures.best c.args.limits.now.limits.instance b
     (subst (λ i. IsKeepable i c.in_ok-from_uses.field-0) c.instance.ensures.instance
     (record { legal = c.in_ok-from_uses.ensures.legal; packed = c.in_ok-from_uses.ensures.packed }))
+
+pub returns-clause-shown : goal.returns-clause-shown
+returns-clause-shown g c =
+    let n = c.args.limits.now.limits in
+    let cs = g.C.Columns.columns c.args.columns.now in
+    let p = c.args.answer.prices in
+    let s = c.requires.settled in
+    let at = s.over.at in
+    let r = c.args.run.now in
+    let routes = routes_of cs r.ids in
+    let t = r.master.rows in
+    let made = at.along.made in
+    let now = c.offer.new.self.unassigned in
+    let den = c.in_ok-solution.solution.den in
+    let out = c.in_ok-solution.solution.shares.items in
+    let opened = c.in_ok-solution.solution.left_open.items in
+    let whole = unsigned_abs den in
+    let most : now ≤ tasks_in n = omega (arith, c.offer.ensures.fewer, c.requires.most) in
+    let some : 1 ≤ now = omega (arith, c.if-answer-best.false) in
+    let run = c.lists_are_runs.ensures n routes made t at.along.follows.run in
+    let all = legal_are n cs routes s.over.legal in
+    let worth : EarnedWorths n p s.worths = record { count = s.worth.count; each = s.worth.each } in
+    let unbeaten : (k : ℕ) → k < teams_in n → BeatsRoutes routes k p (worth_of s.worths k) → ⊥ =
+    λ k known beats. met_unbeaten n cs routes k p (worth_of s.worths k) s.over.legal (s.met k known) beats in
+    let unproved : Proves (bound_of n p s.worths) now → ⊥ =
+    λ proves. let b = c.requires.count.greatest now most ((s.decides now most).1 proves) in
+    let l = c.if-answer-best.false in omega arith in
+    let parts = c.in_ok-solution.ensures.parts n cs s.over in
+    let basic = c.in_ok-solution.ensures.basic n cs s.over in
+    let choice = c.in_ok-solution.ensures.choice n cs s.over in
+    let is = c.instance.ensures.is_instance in
+    let loose = c.unproved_shares_are_loose.ensures n routes made t p s.worths whole (parts_at t whole) now is run at.done all s.rounded worth unbeaten parts some unproved in
+    let near = c.rounded_prices_are_near.ensures n routes made t p s.worths whole (parts_at t whole) is run at.done all s.rounded worth unbeaten parts in
+    let whole_choice = fractional_of cs den out opened in
+    let shown : IsShownLoose n now p whole_choice = record {
+      fractional = choice.fractional;
+      loose = subst (λ ch. IsLoose n ch (1000 * (now - 1) + 1) 1000) (sym basic) loose;
+      worths = s.worths;
+      worth = s.worth;
+      near = subst (λ ch. (pos D *ℤ choice_value n ch) ≤ℤ (pos ch.whole *ℤ (bound_of n p s.worths +ℤ pos MOST_LOSS))) (sym basic) near;
+    } in
+    let fits : FitsSigned w128 den = search rules in
+    simp to_z-of_z
+    (subst (λ l. IsShownLoose n now p (fractional_of cs den l c.of-2.result)) (sym c.of.ensures)
+    (subst (λ l. IsShownLoose n now p (fractional_of cs den out l)) (sym c.of-2.ensures) shown))

@@ -57,3 +57,9 @@ pub returns-clause-extends : goal.returns-clause-extends
 returns-clause-extends g c =
     extends_more c.args.limits.now.limits (g.C.Columns.columns c.args.columns.now) (g.C.Columns.columns c.add_routes.new.columns)
     (g.C.Columns.columns c.end_by_master.new.columns) c.add_routes.ensures c.in-Err.ensures.extends
+
+pub returns-in-Ok-clause-shown : goal.returns-in-Ok-clause-shown
+returns-in-Ok-clause-shown g c = c.in-Ok.ensures.shown
+
+pub returns-clause-shown : goal.returns-clause-shown
+returns-clause-shown g c = c.end_halted.ensures.shown (g.C.Columns.columns c.end_by_master.new.columns)

@@ -1,4 +1,4 @@
-use Rattle.std.proofs.Common.{ℤ, List, [], rules, sym, subst}
+use Rattle.std.proofs.Common.{◌≡◌, ℤ, List, [], rules, sym, subst}
 use Rattle.std.specs.Int.{w128}
 use Rattle.std.specs.Prelude.{FitsSigned, Result, unsigned_abs}
 use Rattle.std.proofs.lemmas.Int.{to_z-of_z}
@@ -6,7 +6,8 @@ use Rattle.std.proofs.lemmas.Result.{err_from_is_err_and, IfErr-at_err, IfOk-at_
 use Rattle.crew_num.specs.declared.Overflow.{Overflow}
 use Rattle.crew_terms.specs.Limits.{Route}
 use Rattle.frac_master.specs.Follows.{FollowsRun}
-use Rattle.frac_master.specs.Shares.{GivesShares, IsOptimalChoice, basic_choice}
+use Rattle.frac_master.specs.Shares.{GivesShares, IsOptimalChoice, basic_choice, parts_at}
+use Rattle.search_terms.specs.BasicChoice.{AreWholeParts}
 use Rattle.search_terms.specs.Earned.{RunOverflows}
 use Rattle.search_terms.specs.Overflows.{OverflowAt}
 use Rattle.master_run.specs.State.{RunState, routes_of}
@@ -71,3 +72,39 @@ returns-clause-choice c = λ n columns over.
     simp to_z-of_z
     (subst (λ (s : RunState). IsOptimalChoice n s.master.rows (fractional_of columns den out opened)) c.self.view_is
     (subst (IsOptimalChoice n old.master.rows) (sym (solution_is n columns old den out opened is.at.along.entered are)) best))
+
+pub returns-clause-parts : goal.returns-clause-parts
+returns-clause-parts c = λ n columns over.
+    let old = kept c.self.inside in
+    let is : IsOver n columns old = subst (IsOver n columns) (sym c.self.view_is) over in
+    let den = c.in_ok-den.den in
+    let routes = routes_of columns old.ids in
+    let made = is.at.along.made in
+    let follows = is.at.along.follows in
+    let run : FollowsRun n routes made old.master = record {
+      places = follows.places;
+      columns = follows.columns;
+      going = follows.going;
+      run = c.lists_are_runs.ensures n routes made old.master.rows follows.run;
+    } in
+    let parts = IfOk-at_ok (λ den. AreWholeParts n routes old.master.rows (unsigned_abs den) (parts_at old.master.rows (unsigned_abs den))) c.in_ok-den.was
+        (c.in_ok-shares.ensures.parts n routes made run) in
+    let fits : FitsSigned w128 den = search rules in
+    simp to_z-of_z
+    (subst (λ (s : RunState). AreWholeParts n (routes_of columns s.ids) s.master.rows (unsigned_abs den) (parts_at s.master.rows (unsigned_abs den)))
+    c.self.view_is parts)
+
+pub returns-clause-basic : goal.returns-clause-basic
+returns-clause-basic c = λ n columns over.
+    let old = kept c.self.inside in
+    let is : IsOver n columns old = subst (IsOver n columns) (sym c.self.view_is) over in
+    let den = c.in_ok-den.den in
+    let out = c.shares.new.out.items in
+    let opened = c.shares.new.left_open.items in
+    let follows = is.at.along.follows in
+    let gives = subst (λ (r : Result ℤ Overflow). GivesShares n old.master r out opened) c.in_ok-den.was (c.in_ok-shares.ensures.shares n follows.places) in
+    let are = gives_shares n old.master den out opened follows.going gives in
+    let fits : FitsSigned w128 den = search rules in
+    simp to_z-of_z
+    (subst (λ (s : RunState). fractional_of columns den out opened ≡ basic_choice n (routes_of columns s.ids) s.master.rows (unsigned_abs den)) c.self.view_is
+    (solution_is n columns old den out opened is.at.along.entered are))
