@@ -1,6 +1,6 @@
 #!/usr/bin/env bash
 # Prints for generated days what an ascent from zero prices comes to at the root, where it aims at what the plan search
-# leaves unassigned: rounds, what is proved, and seconds in all. With words: only these sizes, as 8x40.
+# leaves unassigned: rounds, what is proved, and seconds of the processor in all. With words: only these sizes, as 8x40.
 set -eu
 here=$(cd "$(dirname "${BASH_SOURCE[0]}")" && pwd)
 . "$here/parts.sh"

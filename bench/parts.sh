@@ -9,9 +9,9 @@ part() {
   echo "$crate/out/crew_bench"
 }
 
-# timed COMMAND..: what the command prints, and behind it the seconds by the clock
+# timed COMMAND..: what the command prints, and behind it the seconds of the processor
 timed() {
-  local TIMEFORMAT='%R' said seconds
+  local TIMEFORMAT='%U' said seconds
   { seconds=$({ time "$@" >"$printed" 2>&3; } 3>&2 2>&1) || return 1; } 3>&2
   said=$(cat "$printed")
   echo "$said seconds $seconds"
