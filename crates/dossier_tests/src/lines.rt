@@ -141,7 +141,11 @@ const SECOND_FORM: &[Bad] = &[
     (STEPS, b"steps 012 420 1", LineFault::Shape),
     (STEPS, b"steps 12 2881 1", LineFault::Number),
     (STEPS, b"steps 12 -1 1", LineFault::Number),
-    (STEPS, b"steps 12 420 9223372036854775808", LineFault::Number),
+    (
+        STEPS,
+        b"steps 12 420 9223372036854775808",
+        LineFault::Number,
+    ),
 ];
 
 const POTENTIALS: &[Bad] = &[

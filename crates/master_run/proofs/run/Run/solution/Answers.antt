@@ -88,7 +88,7 @@ returns-clause-parts c = λ n columns over.
       run = c.lists_are_runs.ensures n routes made old.master.rows follows.run;
     } in
     let parts = IfOk-at_ok (λ den. AreWholeParts n routes old.master.rows (unsigned_abs den) (parts_at old.master.rows (unsigned_abs den))) c.in_ok-den.was
-        (c.in_ok-shares.ensures.parts n routes made run) in
+    (c.in_ok-shares.ensures.parts n routes made run) in
     let fits : FitsSigned w128 den = search rules in
     simp to_z-of_z
     (subst (λ (s : RunState). AreWholeParts n (routes_of columns s.ids) s.master.rows (unsigned_abs den) (parts_at s.master.rows (unsigned_abs den)))
