@@ -15,7 +15,7 @@ const KEEP: Expect = Expect::Keep { teams: 2, tasks: 3 };
 /// A kind of line, and a good line of it.
 type Good = (Expect, &'static [u8]);
 
-const GOOD: [Good; 27] = [
+const GOOD: &[Good] = &[
     (Expect::Form, b"crew dossier 1"),
     (Expect::Form, b"crew dossier 2"),
     (Expect::Frozen { most: 2 }, b"frozen 2"),
@@ -54,13 +54,19 @@ const GOOD: [Good; 27] = [
     (Expect::End, b"end"),
 ];
 
+/// Asserts that each line of the table is read.
+fn reads_lines(rt: &impl Abort, cuts: &mut Cuts, table: &[Good]) {
+    for (expect, line) in table {
+        assert!(rt; line.len() < 100);
+        let read = read_line(*expect, cuts.split(line));
+        holds_at(rt, read.is_ok(), &Shown(line));
+    }
+}
+
 #[test]
 fn reads_each_kind(rt: HostRuntime) -> Result<(), Fail> {
     let mut cuts = Cuts::new(rt.alloc())?;
-    for (expect, line) in GOOD {
-        let read = read_line(expect, cuts.split(line));
-        holds_at(&rt, read.is_ok(), &Shown(line));
-    }
+    reads_lines(&rt, &mut cuts, GOOD);
     Ok(())
 }
 
