@@ -1,1 +1,12 @@
 pub mod Instances
+pub mod Texts
+pub mod JobTexts
+pub mod Runs
+pub mod TeamTables
+pub mod Leaves
+pub mod Walks
+pub mod Whole
+pub mod Existing
+pub mod OneDossier
+pub mod Nodes
+pub mod DeskRoom

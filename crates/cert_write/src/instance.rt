@@ -9,6 +9,7 @@ ghost use Rattle.dossier_terms.specs.Dossier.{skills_of};
 ghost use Rattle.dossier_terms.specs.Lines.{instance_text, size_line, size_of, place_line, travel_line, team_line, task_line};
 ghost use Rattle.line_out.specs.Parts.{part_word};
 
+use crate::words::number;
 use arrayvec::ArrayVec;
 use crew_instance::Instance;
 use crew_io::sink::{Sink, WriteFault};
@@ -20,13 +21,6 @@ const MOST_PARTS: usize = MOST_PLACES + 1;
 
 /// The parts of a line of an instance.
 type Line<'a> = ArrayVec<Part<'a>, MOST_PARTS>;
-
-/// A number as a part of a line.
-fn number(n: u32) -> Part<'static>
-    ensures { result ≡ Part.Number n }
-{
-    Part::Number(n as u64)
-}
 
 fn put_size<K: Sink>(out: &mut K, instance: &Instance, nodes: u32) -> Result<(), WriteFault>
     ensures { Puts K.Sink (line_text (size_line (size_of instance.now nodes)))

@@ -1,6 +1,22 @@
-// Dossiers, written: so far the lines of an instance.
+// Dossiers, written: the lines of an instance, and whole dossiers from their parts.
 #![tactic(auto)]
 
+mod causes;
+mod desk;
+mod dossier;
+mod faults;
 pub mod instance;
+mod jobs;
+mod laws;
+mod leaf;
+mod pool;
+mod steps;
+mod tables;
+mod tree;
+mod words;
 
+pub use causes::Cause;
+pub use dossier::{Parts, write_dossier};
+pub use faults::PutFault;
 pub use instance::write_instance;
+pub use laws::parts_have_one_dossier;

@@ -12,6 +12,7 @@ mod master;
 mod opening;
 mod pivots;
 mod places;
+mod quotients;
 mod rounding;
 mod routes;
 mod running;

@@ -78,9 +78,34 @@ module _ (n : Limits) (k : ℕ) (p : Prices) where
       greatest (w ∷ ws) h = is.most w.task w.start ws h
 
   -- a visit at an earlier minute can be followed by whatever can follow a later one
+  begun_earlier : (j t u : ℕ) → t ≤ u → IsPermittedVisit n k j t → (r : List Visit) → IsRoute n k (visit j u ∷ r) → IsRoute n k (visit j t ∷ r)
+  begun_earlier j t u le here [] is = (here, tt)
+  begun_earlier j t u le here (x ∷ xs) (there, (step, next, on)) =
+      (here, (record { other = step.other; follow = let g = step.follow in omega arith }, next, on))
+
   pub best_falls : (j t u : ℕ) (v w : ℤ) → t ≤ u → IsPermittedVisit n k j t → IsBest n k p j t v → IsBest n k p j u w → w ≤ℤ v
-  best_falls j t u v w le here a b = let e = b.attained.2 in let f = a.greatest b.attained.0 (earlier b.attained.0 b.attained.1) in omega (arith, ints)
+  best_falls j t u v w le here a b =
+      let e = b.attained.2 in
+      let f = a.greatest b.attained.0 (begun_earlier j t u le here b.attained.0 b.attained.1) in
+      omega (arith, ints)
+
+  -- between two minutes at which the same can be earned, the same can be earned
+  pub best_between : (j t s u : ℕ) (v : ℤ) → t ≤ s → s ≤ u → IsPermittedVisit n k j t → IsPermittedVisit n k j s
+      → IsBest n k p j t v → IsBest n k p j u v → IsBest n k p j s v
+  best_between j t s u v before behind here there a b = record {
+    attained = (b.attained.0, begun_earlier j s u behind there b.attained.0 b.attained.1, let e = b.attained.2 in omega (arith, ints));
+    greatest = λ r is. let f = a.greatest r (begun_earlier j t s before here r is) in omega (arith, ints);
+  }
+
+  -- potentials that hold and that routes attain are the greatest
+  pub attained_is_best : (phi : ℕ → ℕ → ℤ) (worth : ℤ) → HoldsLocally n k p phi worth
+      → ((j t : ℕ) → IsPermittedVisit n k j t → (r : List Visit) × IsRoute n k (visit j t ∷ r) × (rewards p k (visit j t ∷ r) ≡ phi j t))
+      → (j t : ℕ) → IsPermittedVisit n k j t → IsBest n k p j t (phi j t)
+  attained_is_best phi worth holds reach j t here = record { attained = reach j t here; greatest = bound j t }
     where
-      earlier : (r : List Visit) → IsRoute n k (visit j u ∷ r) → IsRoute n k (visit j t ∷ r)
-      earlier [] is = (here, tt)
-      earlier (x ∷ xs) (there, (step, next, on)) = (here, (record { other = step.other; follow = let g = step.follow in omega arith }, next, on))
+      bound : (j t : ℕ) (r : List Visit) → IsRoute n k (visit j t ∷ r) → rewards p k (visit j t ∷ r) ≤ℤ phi j t
+      bound j t [] (first, on) = let a = (holds.tasks j).alone t first in omega (arith, ints)
+      bound j t (w ∷ ws) (first, (step, there, on)) =
+          let a = (holds.tasks j).step t w.task w.start first there step in
+          let b = bound w.task w.start ws (there, on) in
+          omega (arith, ints)

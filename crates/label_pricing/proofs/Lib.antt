@@ -7,3 +7,4 @@ pub mod Swept
 pub mod Followed
 pub mod Twins
 pub mod Deciding
+pub mod Fitting

@@ -109,7 +109,7 @@ module _ (n : Limits) (k : ℕ) (p : Prices) where
 
   module _ (range : AreInRange p) (instance : IsInstance n.instance) (end : ℕ) (ends : IsEnd n k end) (day : end ≤ 2881) where
     -- each visit of a route earns so much at most, and takes a minute
-    short : (j t : ℕ) (r : List Visit) → IsRoute n k (visit j t ∷ r) → rewards p k (visit j t ∷ r) ≤ℤ pos ((2881 - t) * most_reward)
+    pub short : (j t : ℕ) (r : List Visit) → IsRoute n k (visit j t ∷ r) → rewards p k (visit j t ∷ r) ≤ℤ pos ((2881 - t) * most_reward)
     short j t [] (here, on) =
         let a = (range.tasks j).most in
         let b = (range.pairs k j).most in

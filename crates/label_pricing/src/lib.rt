@@ -18,7 +18,9 @@ mod workspace;
 mod worths;
 
 pub use crew_terms::Visit;
-pub use laws::{best_falls, best_potentials_hold, best_worth, one_worth};
+pub use laws::{
+    best_falls, best_potentials_hold, best_worth, earnings_fit, one_worth, teams_have_bests,
+};
 pub use likeness::{alike, alike_teams_earn_alike};
 pub use pricer::{Priced, Pricer, price_team};
 pub use proved::{Proved, most_proved};

@@ -1,7 +1,8 @@
 // Pricing of one team after the other, in room that is taken once.
-ghost use Rattle.std.specs.Prelude.{◌≡◌, ◌<◌, ◌↔◌, ◌≤◌, ℕ, length, IfOk};
+ghost use Rattle.std.specs.Prelude.{◌≡◌, ◌<◌, ◌↔◌, ◌≤◌, ℕ, length, IfOk, OnErr};
 ghost use Rattle.crew_terms.specs.Leaf.{HoldsLocally, IsOnRequired, IsWorth, Proves, bound_of, rewards};
-ghost use Rattle.crew_terms.specs.Limits.{IsRoute, tasks_in, teams_in};
+ghost use Rattle.crew_terms.specs.Limits.{IsPermittedVisit, IsRoute, tasks_in, teams_in};
+ghost use Rattle.label_pricing.specs.Best.{IsBest};
 ghost use Rattle.label_pricing.specs.Pricing.{HasRoom};
 ghost use Rattle.label_pricing.specs.Worths.{AreWorths};
 ghost use Rattle.potentials.specs.Prices.{ArePricesOf};
@@ -88,6 +89,7 @@ impl Pricer {
         requires table { IsTableOf limits.now.limits.instance table.old }
         ensures table { IsTableOf limits.now.limits.instance table.new }
         ensures holds { HoldsLocally limits.now.limits k prices.now (phi table.new) result }
+        ensures best { (j t : ℕ) → IsPermittedVisit limits.now.limits k j t → IsBest limits.now.limits k prices.now j t (phi table.new j t) }
         ensures worth { IsWorth limits.now.limits k prices.now result }
         ensures route { IsRoute limits.now.limits k self.new.route }
         ensures rewards { rewards prices.now k self.new.route ≡ result }
@@ -169,6 +171,7 @@ pub fn price_team(
     requires prices { ArePricesOf limits.now.limits prices.now }
     requires table { IsTableOf limits.now.limits.instance table.old }
     ensures table { IsTableOf limits.now.limits.instance table.new }
+    ensures err { OnErr result (table.new ≡ table.old) }
     ensures holds { IfOk result (λ found. HoldsLocally limits.now.limits k prices.now (phi table.new) found.worth) }
     ensures route { IfOk result (λ found. IsRoute limits.now.limits k found.route) }
     ensures rewards { IfOk result (λ found. rewards prices.now k found.route ≡ found.worth) }

@@ -1,11 +1,20 @@
 -- laws of calls that write the lines of items, one after another
-use Rattle.std.proofs.Common.{◌≡◌, ◌<◌, ◌≤◌, ◌+◌, ◌++◌, ◌∷◌, [], ℕ, List, length, take, map, get_or, ap, refl}
+use Rattle.std.proofs.Common.{◌≡◌, ◌<◌, ◌≤◌, ◌+◌, ◌++◌, ◌∷◌, [], ℕ, List, length, take, map, get_or, ap, sym, refl, append-nil}
 use Rattle.std.specs.Prelude.{Result, Ok, Err, IsErr}
-use Rattle.std.specs.List.{flat_map}
+use Rattle.std.specs.List.{flat_map, join_with_byte}
 use Rattle.crew_terms.specs.Words.{Words, line_text}
 use Rattle.crew_io.specs.Puts.{Puts}
 use Rattle.crew_io.specs.Chains.{fine, puts_same, puts_more, puts_more_front, puts_all}
 use Rattle.crew_io.specs.declared.sink.Sink.{Ghosts}
+use Rattle.line_out.specs.Parts.{next_word}
+
+-- a line is its first word, each word behind it, and the LF
+pub line_parts : (w : List ℕ) (ws : Words) → line_text (w ∷ ws) ≡ (w ++ flat_map next_word ws) ++ 10 ∷ []
+line_parts w ws = ap (λ text. text ++ 10 ∷ []) (joined w ws)
+  where
+    joined : (v : List ℕ) (vs : Words) → join_with_byte 32 (v ∷ vs) ≡ v ++ flat_map next_word vs
+    joined v [] = sym (append-nil v)
+    joined v (u ∷ us) = ap (λ text. v ++ 32 ∷ text) (joined u us)
 
 -- the text of the lines of items is that of each line
 pub of_each : {A : Type 0} (line : A → Words) (items : List A) → flat_map (λ a. line_text (line a)) items ≡ flat_map line_text (map line items)

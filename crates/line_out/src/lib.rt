@@ -5,7 +5,7 @@ ghost use Rattle.std.specs.Prelude.{◌≡◌, ◌++◌, [], ◌∷◌, map, OnO
 ghost use Rattle.std.specs.Fmt.{decimal};
 ghost use Rattle.crew_io.specs.Puts.{Puts};
 ghost use Rattle.crew_terms.specs.Words.{line_text};
-ghost use Rattle.line_out.specs.Parts.{part_word};
+ghost use Rattle.line_out.specs.Parts.{next_word, part_word};
 
 use arrayvec::ArrayVec;
 use crew_io::put::put_all;
@@ -26,6 +26,8 @@ pub enum Part<'a> {
     Word(&'a [u8]),
     /// The word is the decimal of this number.
     Number(u64),
+    /// The word is the decimal of this number, behind a minus where it is below 0.
+    Signed(i64),
 }
 
 impl Default for Part<'_> {
@@ -69,6 +71,10 @@ fn add_part(line: &mut ShortLine, part: &Part<'_>) -> Result<(), Longer>
             let mut buffer = Buffer::new();
             add(line, buffer.format(*n).as_bytes())
         }
+        Part::Signed(n) => {
+            let mut buffer = Buffer::new();
+            add(line, buffer.format(*n).as_bytes())
+        }
     }
 }
 
@@ -94,6 +100,10 @@ fn put_part<K: Sink>(out: &mut K, part: &Part<'_>) -> Result<(), WriteFault>
     match part {
         Part::Word(word) => put_all(out, word),
         Part::Number(n) => {
+            let mut buffer = Buffer::new();
+            put_all(out, buffer.format(*n).as_bytes())
+        }
+        Part::Signed(n) => {
             let mut buffer = Buffer::new();
             put_all(out, buffer.format(*n).as_bytes())
         }
@@ -123,6 +133,15 @@ pub fn put_line<K: Sink>(out: &mut K, parts: &[Part<'_>]) -> Result<(), WriteFau
         Ok(()) => put_all(out, &line),
         Err(Longer) => put_long(out, parts),
     }
+}
+
+/// Writes one more word of a line, and the space before it: with a first word before it and an LF at its end, a line that
+/// is too long to be held can be written word by word.
+pub fn put_next<K: Sink>(out: &mut K, part: &Part<'_>) -> Result<(), WriteFault>
+    ensures { Puts K.Sink (next_word (part_word part.now)) out.old out.new result }
+{
+    put_all(out, b" ")?;
+    put_part(out, part)
 }
 
 /// Writes a line of a word, a number and one more word.

@@ -1,6 +1,8 @@
 -- the shares of a run's columns
-use Rattle.std.proofs.Common.{◌≡◌, ◌==◌, ℕ, suc, ℤ, pos, Bool, true, false, List, [], ◌∷◌, length, map, All, sym, ap, subst, refl, ◌∙◌, arith}
+use Rattle.std.proofs.Common.{◌≡◌, ◌≢◌, ◌==◌, ◌≤ℤ◌, ◌<ℤ◌, ℕ, suc, ℤ, pos, Bool, true, false, List, [], ◌∷◌, length, map, All, sym, ap, subst, refl, ◌∙◌, arith}
 use Rattle.std.specs.Prelude.{unsigned_abs, MatchOption, MatchResult, Result, Ok, Option, None, Err}
+use Rattle.std.proofs.lemmas.Bool.{eqb-false}
+use Rattle.std.proofs.lemmas.Int.{ints}
 use Rattle.std.proofs.lemmas.List.{length-map}
 use Rattle.std.proofs.Math.ListN.{get_or-map}
 use Rattle.std.proofs.lemmas.List.Elements.{All-nil, All-cons, All-head, All-tail, All-get_or}
@@ -16,7 +18,7 @@ use Rattle.frac_master.specs.Shares.{AreShares, GivesShares, IsCommonFault, basi
 use Rattle.frac_master.specs.State.{MasterState}
 use Rattle.frac_master.specs.declared.shares.Share.{Share}
 use Rattle.master_run.specs.Along.{IsOver}
-use Rattle.master_run.specs.Shares.{fractional_of, share_of}
+use Rattle.master_run.specs.Shares.{ArePositive, fractional_of, share_of}
 use Rattle.master_run.specs.State.{RunState, routes_of}
 use Rattle.master_run.proofs.Growing.{legal_are}
 
@@ -47,6 +49,34 @@ module _ (x : ℕ → ℕ) (columns : List Route) where
           → All (λ (s : Share). P s.column) (column_shares x at (id ∷ ids))
       by true is e = rw is e
       by false is e = rw is (All-cons (λ (s : Share). P s.column) (record { column = id; num = pos (x at) }) (column_shares x (suc at) ids) (All-head P id ids all) e)
+
+  shares_positive : (at : ℕ) (ids : List ℕ) → All (λ (s : Share). pos 0 <ℤ s.num) (column_shares x at ids)
+  shares_positive at [] = All-nil (λ (s : Share). pos 0 <ℤ s.num)
+  shares_positive at (id ∷ ids) = by (x at == 0) refl (shares_positive (suc at) ids)
+    where
+      by : (b : Bool) → x at == 0 ≡ b → All (λ (s : Share). pos 0 <ℤ s.num) (column_shares x (suc at) ids)
+          → All (λ (s : Share). pos 0 <ℤ s.num) (column_shares x at (id ∷ ids))
+      by true is e = rw is e
+      by false is e =
+          let none : x at ≢ 0 = eqb-false (x at) 0 is in
+          let some : pos 0 <ℤ pos (x at) = omega (arith, ints) in
+          rw is (All-cons (λ (s : Share). pos 0 <ℤ s.num) (record { column = id; num = pos (x at) }) (column_shares x (suc at) ids) some e)
+
+numbers_positive : (xs : List ℕ) → All (λ z. pos 0 ≤ℤ z) (map pos xs)
+numbers_positive [] = All-nil (λ z. pos 0 ≤ℤ z)
+numbers_positive (x ∷ xs) = All-cons (λ z. pos 0 ≤ℤ z) (pos x) (map pos xs) (omega (arith, ints)) (numbers_positive xs)
+
+-- the whole and the shares are positive, and nothing that is left unassigned is negative
+pub solution_positive : (n : Limits) (m : MasterState) (den : ℤ) (out : List Share) (left_open : List ℤ) → AreShares n m den out left_open
+    → ArePositive den out left_open
+solution_positive n m den out left_open are = record {
+  whole = are.positive;
+  parts = subst (All (λ (s : Share). pos 0 <ℤ s.num)) (sym are.shares) (shares_positive x [] (length (places n)) m.columns);
+  left = subst (All (λ z. pos 0 ≤ℤ z)) (sym are.unassigned) (numbers_positive (basic_choice n [] m.rows (unsigned_abs den)).unassigned);
+}
+  where
+    x : ℕ → ℕ
+    x = parts_at m.rows (unsigned_abs den)
 
 numbers_back : (xs : List ℕ) → map unsigned_abs (map pos xs) ≡ xs
 numbers_back [] = refl

@@ -1,10 +1,10 @@
 // The shares of columns at a run's optimum.
-ghost use Rattle.std.specs.Prelude.{◌≡◌, ◌<ℤ◌, pos, unsigned_abs, List, All, IfErr, IfOk};
+ghost use Rattle.std.specs.Prelude.{◌≡◌, unsigned_abs, List, All, IfErr, IfOk};
 ghost use Rattle.column_arena.specs.Legal.{IsLegalColumn};
 ghost use Rattle.crew_terms.specs.Limits.{Limits as NodeLimits, Route};
 ghost use Rattle.frac_master.specs.Shares.{IsOptimalChoice, basic_choice, parts_at};
 ghost use Rattle.master_run.specs.Along.{Halts, IsOver};
-ghost use Rattle.master_run.specs.Shares.{fractional_of};
+ghost use Rattle.master_run.specs.Shares.{ArePositive, fractional_of};
 ghost use Rattle.master_run.specs.State.{routes_of};
 ghost use Rattle.search_terms.specs.BasicChoice.{AreWholeParts};
 
@@ -26,7 +26,8 @@ pub struct Solution {
 impl Run {
     /// The optimum: shares of columns that have entered, a fractional choice of the master's value.
     pub fn solution(&self, alloc: Global) -> Result<Solution, Halt>
-        ensures whole { (n : NodeLimits) (columns : List Route) → IsOver n columns self.now → IfOk result (λ s. pos 0 <ℤ s.den) }
+        ensures positive { (n : NodeLimits) (columns : List Route) → IsOver n columns self.now →
+            IfOk result (λ s. ArePositive s.den s.shares.items s.left_open.items) }
         ensures legal { (n : NodeLimits) (columns : List Route) → IsOver n columns self.now →
             IfOk result (λ s. All (λ share. IsLegalColumn n columns share.column) s.shares.items) }
         ensures choice { (n : NodeLimits) (columns : List Route) → IsOver n columns self.now →

@@ -122,6 +122,16 @@ impl Queue {
         }
     }
 
+    /// The bound of what waits under the key; None exactly where nothing does.
+    pub fn bound(&self, key: usize) -> Option<i128>
+        ensures { result ≡ option_map (λ waiting. waiting.bound) (found self.now key) }
+    {
+        match self.entries.get(key) {
+            Some(waiting) => Some(waiting.bound),
+            None => None,
+        }
+    }
+
     /// How many wait; no two under one key.
     pub fn len(&self) -> usize
         ensures count { result ≡ length self.now }

@@ -1,12 +1,14 @@
 -- what a loose split shows
-use Rattle.std.specs.Prelude.{◌+◌, ◌-◌, ◌*◌, ℕ, ℤ, pos, ◌+ℤ◌, ◌*ℤ◌, ◌≤ℤ◌, List}
+use Rattle.std.specs.Prelude.{◌+◌, ◌-◌, ◌*◌, ℕ, ℤ, pos, ◌+ℤ◌, ◌*ℤ◌, ◌≤ℤ◌, List, All}
+use Rattle.column_arena.specs.Legal.{IsLegalColumn}
 use Rattle.crew_terms.specs.Leaf.{Prices, bound_of}
 use Rattle.crew_terms.specs.Limits.{Limits, Route}
 use Rattle.crew_terms.specs.declared.TheConstants.{D}
+use Rattle.frac_master.specs.declared.shares.Share.{Share}
 use Rattle.label_pricing.specs.Worths.{AreWorths}
 use Rattle.rounding_laws.specs.declared.TheConstants.{MOST_LOSS}
 use Rattle.search_terms.specs.Shares.{FractionalChoice, IsFractional, IsLoose, choice_value}
-use Rattle.master_run.specs.Shares.{fractional_of}
+use Rattle.master_run.specs.Shares.{ArePositive, fractional_of}
 use Rattle.node_solver.specs.declared.step.NodeEnd.{NodeEnd}
 use Rattle.node_solver.specs.declared.step.NodeEnd.TheVariants.{Closed, Split}
 use Rattle.node_solver.specs.declared.step.Why.TheVariants.{Loose, Overflow, Spent}
@@ -26,3 +28,15 @@ IsShown n now columns (Closed prices) = Unit {0}
 IsShown n now columns (Split choice (Loose den shares left_open) prices) = IsShownLoose n now prices (fractional_of columns den shares left_open)
 IsShown n now columns (Split choice (Overflow fault) prices) = Unit {0}
 IsShown n now columns (Split choice Spent prices) = Unit {0}
+
+-- the shares are of columns that are routes in the node, and none is negative
+pub record AreHeld (n : Limits) (columns : List Route) (den : ℤ) (shares : List Share) (left_open : List ℤ) : Type 0 where
+  pub legal : All (λ (s : Share). IsLegalColumn n columns s.column) shares
+  pub positive : ArePositive den shares left_open
+
+-- a split that is called loose has such shares
+abbrev pub HasHeld : Limits → List Route → NodeEnd → Type 0
+HasHeld n columns (Closed prices) = Unit {0}
+HasHeld n columns (Split choice (Loose den shares left_open) prices) = AreHeld n columns den shares left_open
+HasHeld n columns (Split choice (Overflow fault) prices) = Unit {0}
+HasHeld n columns (Split choice Spent prices) = Unit {0}

@@ -4,7 +4,14 @@ ghost use Rattle.crew_terms.specs.Instance.{Instance};
 ghost use Rattle.search_terms.specs.Search.{IsKeepable};
 ghost use Rattle.node_solver.specs.Plans.{IsBestOf};
 
-use crew_instance::{Plan, unassigned};
+use branch_choice::Use;
+use crew_instance::{Instance, Plan, unassigned};
+use plan_builder::from_uses;
+use plan_search::{Effort, better};
+use std::alloc::{AllocError, Global};
+
+// So many iterations better a plan that uses suggest.
+const ITERATIONS: u32 = 1_000;
 
 /// The plan that a step has found, if it is better than the search's, and how many tasks the best one leaves unassigned.
 #[derive(Drop)]
@@ -35,5 +42,25 @@ impl BestPlan {
             self.unassigned = count;
             self.plan = Some(plan);
         }
+    }
+
+    /// Keeps the plan that the uses suggest, once it is bettered a little, where it is better.
+    pub(crate) fn try_uses(
+        &mut self,
+        alloc: Global,
+        instance: &Instance,
+        uses: &[Use],
+    ) -> Result<(), AllocError>
+        ensures best { (best : ℕ) → IsBestOf instance.now best self.old → IsBestOf instance.now best self.new }
+        ensures fewer { self.new.unassigned ≤ self.old.unassigned }
+    {
+        let plan = from_uses(alloc, instance, uses)?;
+        let effort = Effort {
+            iterations: ITERATIONS,
+            enough: 0,
+            weights: None,
+        };
+        self.offer(better(alloc, instance, &plan, effort)?);
+        Ok(())
     }
 }

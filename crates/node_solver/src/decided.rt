@@ -1,6 +1,7 @@
 // A decided node.
 ghost use Rattle.std.specs.Prelude.{◌≤◌, IfOk, IfSome};
 ghost use Rattle.crew_terms.specs.Decided.{IsDecided};
+ghost use Rattle.crew_terms.specs.Leaf.{IsOnRequired};
 ghost use Rattle.crew_terms.specs.Limits.{tasks_in};
 ghost use Rattle.potentials.specs.Prices.{ArePricesOf};
 ghost use Rattle.search_terms.specs.Inside.{IsNode};
@@ -34,6 +35,7 @@ pub(crate) fn close_node(
     ensures plan { IfOk result (λ c. IfSome c.plan (IsBetterPlan limits.now.limits.instance best)) }
     ensures proved { IfOk result (λ c. PricesProve limits.now.limits c.prices (now_after best c.plan)) }
     ensures shape { IfOk result (λ c. ArePricesOf limits.now.limits c.prices) }
+    ensures required { IfOk result (λ c. IsOnRequired limits.now.limits c.prices) }
 {
     less_is_proved();
     match close_decided(alloc, limits, best)? {

@@ -1,13 +1,13 @@
 // The end of a node by its master.
 ghost use Rattle.std.specs.Prelude.{◌≡◌, ◌≤◌, ℕ, IfErr, IfOk};
 ghost use Rattle.crew_terms.specs.Decided.{IsDecided};
-ghost use Rattle.crew_terms.specs.Leaf.{Prices as NodePrices};
+ghost use Rattle.crew_terms.specs.Leaf.{IsOnRequired, Prices as NodePrices};
 ghost use Rattle.crew_terms.specs.Limits.{tasks_in};
 ghost use Rattle.master_run.specs.Along.{Halts};
 ghost use Rattle.potentials.specs.Prices.{ArePricesOf};
 ghost use Rattle.search_terms.specs.Proven.{IsProvedCount};
 ghost use Rattle.search_terms.specs.Search.{Extends};
-ghost use Rattle.node_solver.specs.Loose.{IsShown};
+ghost use Rattle.node_solver.specs.Loose.{HasHeld, IsShown};
 ghost use Rattle.node_solver.specs.Plans.{IsBestOf};
 ghost use Rattle.node_solver.specs.Settled.{IsSettled};
 ghost use Rattle.node_solver.specs.Steps.{Ends, KeepsProved, prices_of};
@@ -22,7 +22,6 @@ use label_pricing::Pricer;
 use master_laws::lists_are_runs;
 use master_run::{Halt, Run};
 use node_limits::Limits;
-use plan_builder::from_uses;
 use rounding_laws::{rounded_prices_are_near, unproved_shares_are_loose};
 use search_laws::less_is_proved;
 use split_uses::split_uses;
@@ -45,7 +44,9 @@ fn end_loose<C: Columns>(
     requires shape { ArePricesOf limits.now.limits answer.prices }
     ensures ends { IfOk result (Ends limits.now.limits best.new.unassigned run.now.pivots (C.columns columns.now)) }
     ensures shape { IfOk result (λ e. ArePricesOf limits.now.limits (prices_of e)) }
+    ensures required { IfOk result (λ e. IsOnRequired limits.now.limits (prices_of e)) }
     ensures shown { IfOk result (IsShown limits.now.limits best.new.unassigned (C.columns columns.now)) }
+    ensures held { IfOk result (HasHeld limits.now.limits (C.columns columns.now)) }
     ensures keeps { (start : NodePrices) → IfOk result (KeepsProved limits.now.limits start) }
     ensures halts { IfErr result (Halts limits.now.limits run.now.pivots (C.columns columns.now)) }
     ensures best { (b : ℕ) → IsBestOf limits.now.limits.instance b best.old → IsBestOf limits.now.limits.instance b best.new }
@@ -57,7 +58,7 @@ fn end_loose<C: Columns>(
     unproved_shares_are_loose();
     let solution = run.solution(alloc)?;
     let uses = uses_of(alloc, columns, &solution.shares)?;
-    best.offer(from_uses(alloc, limits.instance(), &uses)?);
+    best.try_uses(alloc, limits.instance(), &uses)?;
     if answer.proved >= best.unassigned {
         return Ok(NodeEnd::Closed(answer.prices));
     }
@@ -87,7 +88,9 @@ pub(crate) fn end_by_master<C: Columns>(
     requires most { best.old.unassigned ≤ tasks_in limits.now.limits }
     ensures ends { IfOk result (Ends limits.now.limits best.new.unassigned pivots (C.columns columns.new)) }
     ensures shape { IfOk result (λ e. ArePricesOf limits.now.limits (prices_of e)) }
+    ensures required { IfOk result (λ e. IsOnRequired limits.now.limits (prices_of e)) }
     ensures shown { IfOk result (IsShown limits.now.limits best.new.unassigned (C.columns columns.new)) }
+    ensures held { IfOk result (HasHeld limits.now.limits (C.columns columns.new)) }
     ensures keeps { (start : NodePrices) → IfOk result (KeepsProved limits.now.limits start) }
     ensures halts { IfErr result (Halts limits.now.limits pivots (C.columns columns.new)) }
     ensures best { (b : ℕ) → IsBestOf limits.now.limits.instance b best.old → IsBestOf limits.now.limits.instance b best.new }

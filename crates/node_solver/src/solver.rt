@@ -9,7 +9,7 @@ ghost use Rattle.potentials.specs.Prices.{ArePricesOf};
 ghost use Rattle.search_terms.specs.Inside.{IsNode};
 ghost use Rattle.search_terms.specs.Proven.{IsProvedCount, ProveAsMuch};
 ghost use Rattle.search_terms.specs.Search.{Extends};
-ghost use Rattle.node_solver.specs.Loose.{IsShown};
+ghost use Rattle.node_solver.specs.Loose.{HasHeld, IsShown};
 ghost use Rattle.node_solver.specs.Plans.{IsBestOf, IsBetterPlan, now_after};
 ghost use Rattle.node_solver.specs.Steps.{Ends, KeepsProved, prices_of};
 
@@ -23,7 +23,6 @@ use branch_choice::{Use, choose};
 use column_arena::Columns;
 use master_run::Halt;
 use node_limits::Limits;
-use plan_builder::from_uses;
 use potentials::Prices;
 use price_ascent::{ascend, average_uses};
 use search_laws::less_is_proved;
@@ -56,7 +55,9 @@ fn end_halted(
     ensures ends { (pivots : ℕ) (columns : List Route) → Halts limits.now.limits pivots columns halt →
         IfOk result (Ends limits.now.limits now pivots columns) }
     ensures shape { IfOk result (λ e. ArePricesOf limits.now.limits (prices_of e)) }
+    ensures required { IfOk result (λ e. IsOnRequired limits.now.limits (prices_of e)) }
     ensures shown { (columns : List Route) → IfOk result (IsShown limits.now.limits now columns) }
+    ensures held { (columns : List Route) → IfOk result (HasHeld limits.now.limits columns) }
     ensures keeps { (start : NodePrices) → ProveAsMuch limits.now.limits ascent.prices start → IfOk result (KeepsProved limits.now.limits start) }
 {
     less_is_proved();
@@ -92,7 +93,9 @@ fn end_open<C: Columns>(
     requires required { IsOnRequired limits.now.limits start }
     ensures ends { IfOk result (Ends limits.now.limits best.new.unassigned effort.now.pivots (C.columns columns.new)) }
     ensures shape { IfOk result (λ e. ArePricesOf limits.now.limits (prices_of e)) }
+    ensures required { IfOk result (λ e. IsOnRequired limits.now.limits (prices_of e)) }
     ensures shown { IfOk result (IsShown limits.now.limits best.new.unassigned (C.columns columns.new)) }
+    ensures held { IfOk result (HasHeld limits.now.limits (C.columns columns.new)) }
     ensures keeps { IfOk result (KeepsProved limits.now.limits start) }
     ensures best { (b : ℕ) → IsBestOf limits.now.limits.instance b best.old → IsBestOf limits.now.limits.instance b best.new }
     ensures extends { Extends limits.now.limits (C.columns columns.old) (C.columns columns.new) }
@@ -100,7 +103,7 @@ fn end_open<C: Columns>(
     less_is_proved();
     let found = ascend(alloc, limits, start, best.unassigned, effort.ascent)?;
     let uses = average_uses(alloc, &found.routes, found.rounds)?;
-    best.offer(from_uses(alloc, limits.instance(), &uses)?);
+    best.try_uses(alloc, limits.instance(), &uses)?;
     if found.proved >= best.unassigned {
         return Ok(NodeEnd::Closed(found.prices));
     }
@@ -139,7 +142,9 @@ pub fn process<C: Columns>(
     ensures plan { IfOk result (λ s. IfSome s.plan (IsBetterPlan limits.now.limits.instance best)) }
     ensures ends { IfOk result (λ s. Ends limits.now.limits (now_after best s.plan) effort.now.pivots (C.columns columns.new) s.end) }
     ensures shown { IfOk result (λ s. IsShown limits.now.limits (now_after best s.plan) (C.columns columns.new) s.end) }
+    ensures held { IfOk result (λ s. HasHeld limits.now.limits (C.columns columns.new) s.end) }
     ensures shape { IfOk result (λ s. ArePricesOf limits.now.limits (prices_of s.end)) }
+    ensures required { IfOk result (λ s. IsOnRequired limits.now.limits (prices_of s.end)) }
     ensures as_much { IfOk result (λ s. KeepsProved limits.now.limits start s.end) }
     ensures extends { Extends limits.now.limits (C.columns columns.old) (C.columns columns.new) }
 {

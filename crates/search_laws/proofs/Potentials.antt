@@ -228,6 +228,11 @@ module _ (n : Limits) (positive : (j : ℕ) → j < tasks_in n → 1 ≤ (task_o
       outer (inl z) rest = stays z
       outer (inr (h, below, e)) rest = inner h e (greatest_reached stop (λ u. cond (tells (can j t h u)) (phi d h u) (pos 0))) rest
 
+  -- a route from each visit on attains its potential
+  pub from_visit : (j t : ℕ) → May j t → (r : List Visit) × IsRoute n k (visit j t ∷ r) × (rewards p k (visit j t ∷ r) ≡ potential j t)
+  unfolding Tail
+  from_visit j t here = let r = tail (stop - t) j t in (r.0, (here, r.1), r.2)
+
   abbrev pub from_task : ℕ → ℤ
   from_task j = greatest stop (λ t. cond (tells (tell_visit n k j t)) (potential j t) (pos 0))
 

@@ -6,9 +6,10 @@
 ghost use Rattle.std.specs.Prelude.{◌≡◌, ◌≢◌, ◌≤◌, ◌<◌, ◌+◌, ◌-◌, ◌*◌, ◌++◌, ◌∷◌, [], ◌↔◌, ◌≤ℤ◌, ◌*ℤ◌, List, ℕ, ℤ, pos, true};
 ghost use Rattle.crew_terms.specs.Branches.{LeafNode, SplitNode, closed, splits};
 ghost use Rattle.crew_terms.specs.Instance.{Instance};
-ghost use Rattle.crew_terms.specs.Leaf.{AreInRange, IsOnRequired, IsValidLeaf, Prices, Proves, bound_of, rewards, worth_of};
+ghost use Rattle.crew_laws.specs.Visits.{visit};
+ghost use Rattle.crew_terms.specs.Leaf.{AreInRange, HoldsLocally, IsOnRequired, IsValidLeaf, Prices, Proves, bound_of, rewards, worth_of};
 ghost use Rattle.crew_terms.specs.Legal.{IsLegal};
-ghost use Rattle.crew_terms.specs.Limits.{IsLimits, IsRoute, IsWithin, Limits, Route, has_required, pair_of, root_limits, tasks_in, teams_in};
+ghost use Rattle.crew_terms.specs.Limits.{IsLimits, IsPermittedVisit, IsRoute, IsWithin, Limits, Route, has_required, pair_of, root_limits, tasks_in, teams_in};
 ghost use Rattle.crew_terms.specs.Plan.{Plan, unassigned_count};
 ghost use Rattle.crew_terms.specs.Rules.{IsInstance};
 ghost use Rattle.crew_terms.specs.Tree.{CanSplit, IsSound, Tree, child};
@@ -54,6 +55,14 @@ pub fn prices_have_potentials()
     ensures { (n : Limits) (prices : Prices) → IsInstance n.instance → AreInRange prices → IsOnRequired n prices →
         (worths : List ℤ) × (phi : ℕ → ℕ → ℕ → ℤ) × IsValidLeaf n prices worths phi ×
         ((k : ℕ) → k < teams_in n → (r : List Visit) × IsRoute n k r × (rewards prices k r ≡ worth_of worths k)) }
+{}
+
+/// A team has potentials that hold locally with its worth: at each visit what some route from there on earns.
+pub fn potentials_are_attained()
+    ensures { (n : Limits) (k : ℕ) (p : Prices) → IsInstance n.instance →
+        (phi : ℕ → ℕ → ℤ) × (worth : ℤ) × HoldsLocally n k p phi worth ×
+        ((r : List Visit) × IsRoute n k r × (rewards p k r ≡ worth)) ×
+        ((j t : ℕ) → IsPermittedVisit n k j t → (r : List Visit) × IsRoute n k (visit j t ∷ r) × (rewards p k (visit j t ∷ r) ≡ phi j t)) }
 {}
 
 /// Worths that routes attain prove what any worths prove.

@@ -8,7 +8,7 @@ use Rattle.search_terms.specs.SearchTree.{SearchTree, SplitCause, Split}
 use Rattle.search_tree.specs.declared.nodes.Content.{Content}
 use Rattle.search_tree.specs.declared.nodes.Content.TheVariants as content
 use Rattle.search_tree.specs.declared.nodes.Node.{Node}
-use Rattle.search_tree.specs.Numbered.{AreNumbered, node_of, child_of, grown, tree_at, way_up, way_of}
+use Rattle.search_tree.specs.Numbered.{AreNumbered, node_of, child_of, grown, subtree, tree_at, way_up, way_of}
 
 -- the tree of a node is one, where the trees of its children are
 pub grown_same : (p : ℕ → Prices) (c : ℕ → SplitCause) (k : Content) (below other : ℕ → SearchTree)
@@ -59,3 +59,19 @@ child_way nodes a n (suc m) side l is =
     ap (λ (x : ℕ). way_up m nodes x ++ (node_of nodes (suc m)).side ∷ []) k.above
     ∙ ap (λ (s : Side). way_up m nodes n ++ s ∷ []) k.turned
     ∙ ap (λ (w : List Side). w ++ side ∷ []) (same_way nodes a m n n l (omega arith) (omega arith))
+
+grown_levels : (p : ℕ → Prices) (c : ℕ → SplitCause) (nodes : List Node) (f n : ℕ) → AreNumbered nodes → n < length nodes → f ≡ length nodes
+    → tree_at p c f nodes n ≡ grown p c (node_of nodes n).content (tree_at p c f nodes)
+unfolding tree_at
+grown_levels p c nodes zero n a l e = absurd (omega arith)
+grown_levels p c nodes (suc f) n a l e =
+    grown_same p c (node_of nodes n).content (tree_at p c f nodes) (tree_at p c (suc f) nodes)
+    (λ side m is.
+    let k = a.children n m side l is in
+    let b = k.behind in
+    same_levels p c nodes a f (suc f) m k.known (omega arith) (omega arith))
+
+-- the tree from a node on is made of its content
+pub grown_subtree : (p : ℕ → Prices) (c : ℕ → SplitCause) (nodes : List Node) (n : ℕ) → AreNumbered nodes → n < length nodes
+    → subtree p c nodes n ≡ grown p c (node_of nodes n).content (subtree p c nodes)
+grown_subtree p c nodes n a l = grown_levels p c nodes (length nodes) n a l refl

@@ -12,7 +12,7 @@ use Rattle.search_terms.specs.Ways.{replaced}
 use Rattle.search_tree.specs.declared.nodes.Content.{Content}
 use Rattle.search_tree.specs.declared.nodes.Content.TheVariants as content
 use Rattle.search_tree.specs.declared.nodes.Node.{Node}
-use Rattle.search_tree.specs.Numbered.{AreNumbered, IsChild, IsOpenNode, node_of, child_of, root_node, leaf_below, with_content, split_at, grown, tree_at, tree_of, way_of, way_up}
+use Rattle.search_tree.specs.Numbered.{AreNumbered, HasSplit, IsChild, IsOpenNode, node_of, child_of, root_node, leaf_below, with_content, split_at, grown, tree_at, tree_of, way_of, way_up}
 use Rattle.search_tree.proofs.Levels.{root_way, child_way}
 use Rattle.search_tree.proofs.Changing.{ChangesAt, tree_changed}
 
@@ -133,14 +133,6 @@ closed_tree p c nodes j prices numbered o =
     (λ f h. made p c (set nodes j new) j f new (omega arith) (get_or-set_same nodes j new (root_node 0) known))
 
 -- ---- a leaf is split
-
--- the nodes where a leaf is split, one by one
-pub record HasSplit (nodes after : List Node) (j : ℕ) (choice : Choice) (cause prices : ℕ) : Type 0 where
-  pub count : length after ≡ length nodes + 2
-  pub here : node_of after j ≡ record (node_of nodes j) { content = content.Split choice cause (length nodes) }
-  pub first : node_of after (length nodes) ≡ leaf_below j First prices
-  pub second : node_of after (length nodes + 1) ≡ leaf_below j Second prices
-  pub others : (n : ℕ) → n < length nodes → n ≢ j → node_of after n ≡ node_of nodes n
 
 pub has_split : (nodes : List Node) (j : ℕ) (choice : Choice) (cause prices : ℕ) → j < length nodes
     → HasSplit nodes (split_at nodes j choice cause prices) j choice cause prices

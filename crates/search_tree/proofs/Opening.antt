@@ -4,7 +4,7 @@ use Rattle.std.proofs.lemmas.List.{append-nil}
 use Rattle.crew_terms.specs.Leaf.{Prices}
 use Rattle.crew_terms.specs.Limits.{Limits}
 use Rattle.crew_terms.specs.Branches.{LeafNode, SplitNode}
-use Rattle.crew_terms.specs.Tree.{child}
+use Rattle.crew_terms.specs.Tree.{CanSplit, child}
 use Rattle.crew_terms.specs.declared.Side.{Side}
 use Rattle.crew_terms.specs.declared.Side.TheVariants.{First, Second}
 use Rattle.search_terms.specs.SearchTree.{SearchTree, SplitCause}
@@ -14,7 +14,7 @@ use Rattle.search_tree.specs.declared.nodes.Content.TheVariants as content
 use Rattle.search_tree.specs.declared.nodes.Node.{Node}
 use Rattle.search_tree.specs.declared.trees.Turn.{Turn}
 use Rattle.search_tree.specs.Numbered.{AreNumbered, IsOpenNode, node_of, child_of, grown, tree_at, tree_of, way_of, way_up}
-use Rattle.search_tree.specs.Ways.{Leads, Here, Along, choice_in, turn_to, turns_up, turns_of, limits_after}
+use Rattle.search_tree.specs.Ways.{Leads, Here, Along, AreSplits, CanTurns, choice_in, turn_to, turns_up, turns_of, limits_after}
 use Rattle.search_tree.proofs.Leading.{leads_to, leads_way}
 
 -- ---- one turn
@@ -193,3 +193,42 @@ limits_of_nodes p c nodes n limits a l =
     let some = a.some in
     let r = limits_along p c nodes a (length nodes) zero n (way_of nodes n) limits (omega arith) (omega arith) (root_leads nodes a n l) in
     r.2 ∙ ap (λ (x : List Turn). limits_after limits x) (sym r.1)
+
+-- ---- turns that can be made
+
+can_turn : (p : ℕ → Prices) (c : ℕ → SplitCause) (l : Limits) (k : Content) (side : Side) (m : ℕ) (below : ℕ → SearchTree)
+    → child_of k side ≡ Some m → AreSplits l (grown p c k below)
+    → CanSplit l (choice_in k) × AreSplits (child l (choice_in k) side) (below m)
+can_turn p c l (content.Open x) side m below is can = let e : None ≡ Some m = is in cc
+can_turn p c l (content.Closed x) side m below is can = let e : None ≡ Some m = is in cc
+can_turn p c l (content.Split choice cause first) First m below is can =
+    let e : Some first ≡ Some m = is in let same : first ≡ m = cc e in
+    (can.0, subst (λ x. AreSplits (child l choice First) (below x)) same can.1)
+can_turn p c l (content.Split choice cause first) Second m below is can =
+    let e : Some (first + 1) ≡ Some m = is in let same : first + 1 ≡ m = cc e in
+    (can.0, subst (λ x. AreSplits (child l choice Second) (below x)) same can.2)
+
+can_along : (p : ℕ → Prices) (c : ℕ → SplitCause) (nodes : List Node) → AreNumbered nodes → (f n j : ℕ) (way : List Side) (limits : Limits)
+    → n < length nodes → length nodes ≤ n + f → Leads nodes n way j → AreSplits limits (tree_at p c f nodes n)
+    → (turns : List Turn) × (turns_of nodes j ≡ turns_of nodes n ++ turns) × CanTurns limits turns
+unfolding tree_at
+can_along p c nodes a zero n j way limits l h leads can = absurd (omega arith)
+can_along p c nodes a (suc f) n j [] limits l h (Here n') can = ([], sym (append-nil (turns_of nodes n)), tt)
+can_along p c nodes a (suc f) n j (s ∷ w) limits l h (Along n' m j' side way step rest) can =
+    let k = a.children n m side l step in
+    let b = k.behind in
+    let turn : Turn = record { choice = choice_in (node_of nodes n).content; side = side } in
+    let d = can_turn p c limits (node_of nodes n).content side m (tree_at p c f nodes) step can in
+    let r = can_along p c nodes a f m j way (child limits turn.choice side) k.known (omega arith) rest d.1 in (
+      turn ∷ r.0,
+      r.1 ∙ ap (λ (x : List Turn). x ++ r.0) (child_turns nodes a n m side l step) ∙ append_assoc (turns_of nodes n) (turn ∷ []) r.0,
+      (d.0, r.2),
+    )
+
+pub can_turns : (p : ℕ → Prices) (c : ℕ → SplitCause) (nodes : List Node) (n : ℕ) (limits : Limits) → AreNumbered nodes → n < length nodes
+    → AreSplits limits (tree_of p c nodes) → CanTurns limits (turns_of nodes n)
+unfolding turns_up
+can_turns p c nodes n limits a l can =
+    let some = a.some in
+    let r = can_along p c nodes a (length nodes) zero n (way_of nodes n) limits (omega arith) (omega arith) (root_leads nodes a n l) can in
+    subst (λ (x : List Turn). CanTurns limits x) (sym r.1) r.2

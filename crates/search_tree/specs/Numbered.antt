@@ -1,5 +1,5 @@
 -- trees whose nodes have numbers
-use Rattle.std.specs.Prelude.{◌≡◌, ◌≤◌, ◌<◌, ◌+◌, ◌++◌, ℕ, zero, suc, Option, None, Some, List, [], ◌∷◌, length, slice_index_or, slice_set}
+use Rattle.std.specs.Prelude.{◌≡◌, ◌≢◌, ◌≤◌, ◌<◌, ◌+◌, ◌++◌, ℕ, zero, suc, Option, None, Some, List, [], ◌∷◌, length, slice_index_or, slice_set}
 use Rattle.crew_terms.specs.Leaf.{Prices}
 use Rattle.crew_terms.specs.Branches.{LeafNode, SplitNode}
 use Rattle.crew_terms.specs.declared.Side.{Side}
@@ -61,6 +61,10 @@ tree_at prices causes (suc levels) nodes n = grown prices causes (node_of nodes 
 abbrev pub tree_of : (ℕ → Prices) → (ℕ → SplitCause) → List Node → SearchTree
 tree_of prices causes nodes = tree_at prices causes (length nodes) nodes 0
 
+-- the tree from a node on
+abbrev pub subtree : (ℕ → Prices) → (ℕ → SplitCause) → List Node → ℕ → SearchTree
+subtree prices causes nodes n = tree_at prices causes (length nodes) nodes n
+
 -- ---- ways
 
 -- the way from the root to a node, so many levels up
@@ -88,3 +92,11 @@ with_children nodes n prices = nodes ++ leaf_below n First prices ∷ leaf_below
 -- the nodes where the leaf n is split into two open leaves with these prices, which come last
 abbrev pub split_at : List Node → ℕ → Choice → ℕ → ℕ → List Node
 split_at nodes n choice cause prices = with_content (with_children nodes n prices) n (content.Split choice cause (length nodes))
+
+-- the nodes where the leaf n is split, one by one
+pub record HasSplit (nodes after : List Node) (n : ℕ) (choice : Choice) (cause prices : ℕ) : Type 0 where
+  pub count : length after ≡ length nodes + 2
+  pub here : node_of after n ≡ record (node_of nodes n) { content = content.Split choice cause (length nodes) }
+  pub first : node_of after (length nodes) ≡ leaf_below n First prices
+  pub second : node_of after (length nodes + 1) ≡ leaf_below n Second prices
+  pub others : (m : ℕ) → m < length nodes → m ≢ n → node_of after m ≡ node_of nodes m

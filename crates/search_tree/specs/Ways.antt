@@ -1,10 +1,13 @@
 -- ways along the splits of a tree, and the limits that they come to
 use Rattle.std.specs.Prelude.{◌≡◌, ◌++◌, ℕ, zero, suc, Some, List, [], ◌∷◌}
 use Rattle.crew_terms.specs.Limits.{Limits}
-use Rattle.crew_terms.specs.Tree.{child}
+use Rattle.crew_terms.specs.Branches.{LeafNode, SplitNode}
+use Rattle.crew_terms.specs.Tree.{CanSplit, child}
 use Rattle.crew_terms.specs.declared.Side.{Side}
+use Rattle.crew_terms.specs.declared.Side.TheVariants.{First, Second}
 use Rattle.crew_terms.specs.declared.Choice.{Choice}
 use Rattle.crew_terms.specs.declared.Choice.TheVariants as choices
+use Rattle.search_terms.specs.SearchTree.{SearchTree}
 use Rattle.search_tree.specs.declared.nodes.Content.{Content}
 use Rattle.search_tree.specs.declared.nodes.Content.TheVariants as content
 use Rattle.search_tree.specs.declared.nodes.Node.{Node}
@@ -45,3 +48,14 @@ turns_of nodes n = turns_up n nodes n
 abbrev pub limits_after : Limits → List Turn → Limits
 limits_after n [] = n
 limits_after n (turn ∷ turns) = limits_after (child n turn.choice turn.side) turns
+
+-- each turn is at a choice that can split its node
+abbrev pub CanTurns : Limits → List Turn → Type 0
+CanTurns n [] = Unit {0}
+CanTurns n (turn ∷ turns) = CanSplit n turn.choice × CanTurns (child n turn.choice turn.side) turns
+
+-- each split of the tree is by a choice that can split its node
+abbrev pub AreSplits : Limits → SearchTree → Type 0
+AreSplits n (LeafNode leaf) = Unit {0}
+AreSplits n (SplitNode split first second) = CanSplit n split.choice × AreSplits (child n split.choice First) first
+    × AreSplits (child n split.choice Second) second

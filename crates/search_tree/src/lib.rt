@@ -6,6 +6,8 @@ mod nodes;
 mod trees;
 
 pub use crew_terms::{Choice, Side};
-pub use laws::{split_ways, ways_are_of_nodes};
+pub use laws::{
+    split_ways, splits_are_put, subtrees_are_grown, turns_are_splits, ways_are_of_nodes,
+};
 pub use nodes::{Content, Node};
 pub use trees::{NumberedTree, Turn};

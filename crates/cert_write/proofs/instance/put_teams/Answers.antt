@@ -1,4 +1,4 @@
-use Rattle.std.proofs.Common.{◌<◌, ◌≤◌, length, ap, refl, ◌∙◌, arith}
+use Rattle.std.proofs.Common.{◌<◌, ◌≤◌, length, ap, arith}
 use Rattle.crew_io.specs.Chains.{puts_nothing}
 use Rattle.dossier_terms.specs.Lines.{team_line}
 use Rattle.line_out.specs.Lines.{puts_line, puts_line_front, puts_lines}

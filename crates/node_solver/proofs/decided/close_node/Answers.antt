@@ -1,4 +1,5 @@
 use Rattle.crew_terms.specs.Plan.{unassigned_count}
+use Rattle.node_solver.proofs.Ending.{proved_required}
 use Rattle.node_solver.proofs.decided.close_node.Goals as goal
 
 pub returns-in_ok-plan-in-Plan-clause-proved : goal.returns-in_ok-plan-in-Plan-clause-proved

@@ -10,27 +10,25 @@ use Rattle.master_run.specs.State.{routes_of}
 use Rattle.rounding_laws.specs.declared.TheConstants.{MOST_LOSS}
 use Rattle.search_terms.specs.Earned.{AreWorths as EarnedWorths, BeatsRoutes}
 use Rattle.search_terms.specs.Shares.{IsLoose, choice_value}
-use Rattle.node_solver.specs.Loose.{IsShownLoose}
+use Rattle.node_solver.specs.Loose.{AreHeld, IsShownLoose}
 use Rattle.node_solver.proofs.MeetingLemmas.{legal_are, met_unbeaten}
 use Rattle.branch_choice.specs.Uses.{IsPermittedUse}
 use Rattle.column_arena.specs.Legal.{IsLegalColumn}
 use Rattle.crew_terms.specs.Limits.{tasks_in, teams_in}
 use Rattle.frac_master.specs.declared.shares.Share.{Share}
 use Rattle.search_terms.specs.Choice.{IsValidChoice}
-use Rattle.search_terms.specs.Search.{IsKeepable}
-use Rattle.node_solver.proofs.Ending.{settled_loose}
+use Rattle.node_solver.specs.Plans.{IsBestOf}
+use Rattle.node_solver.proofs.Ending.{proved_required, settled_loose}
 use Rattle.node_solver.proofs.master.end_loose.Goals as goal
 
 pub returns-then-answer-best-clause-ends : goal.returns-then-answer-best-clause-ends
 returns-then-answer-best-clause-ends g c =
-    c.less_is_proved.ensures c.args.limits.now.limits c.args.answer.prices c.args.answer.proved c.offer.new.self.unassigned
+    c.less_is_proved.ensures c.args.limits.now.limits c.args.answer.prices c.args.answer.proved c.try_uses.new.self.unassigned
     c.if-answer-best.true c.requires.count.proved
 
 pub returns-then-answer-best-clause-best : goal.returns-then-answer-best-clause-best
 returns-then-answer-best-clause-best g c = λ b.
-    c.offer.ensures.best c.args.limits.now.limits.instance b
-    (subst (λ i. IsKeepable i c.in_ok-from_uses.field-0) c.instance.ensures.instance
-    (record { legal = c.in_ok-from_uses.ensures.legal; packed = c.in_ok-from_uses.ensures.packed }))
+    subst (λ i. IsBestOf i b c.args.best.now → IsBestOf i b c.try_uses.new.self) c.instance.ensures.instance (c.try_uses.ensures.best b)
 
 pub split_uses-requires : goal.split_uses-requires
 split_uses-requires g c =
@@ -41,15 +39,13 @@ split_uses-requires g c =
 
 pub returns-in_err-picked-clause-best : goal.returns-in_err-picked-clause-best
 returns-in_err-picked-clause-best g c = λ b.
-    c.offer.ensures.best c.args.limits.now.limits.instance b
-    (subst (λ i. IsKeepable i c.in_ok-from_uses.field-0) c.instance.ensures.instance
-    (record { legal = c.in_ok-from_uses.ensures.legal; packed = c.in_ok-from_uses.ensures.packed }))
+    subst (λ i. IsBestOf i b c.args.best.now → IsBestOf i b c.try_uses.new.self) c.instance.ensures.instance (c.try_uses.ensures.best b)
 
 pub returns-clause-ends : goal.returns-clause-ends
 returns-clause-ends g c =
     let n = c.args.limits.now.limits in
-    let now = c.offer.new.self.unassigned in
-    let most : now ≤ tasks_in n = omega (arith, c.offer.ensures.fewer, c.requires.most) in
+    let now = c.try_uses.new.self.unassigned in
+    let most : now ≤ tasks_in n = omega (arith, c.try_uses.ensures.fewer, c.requires.most) in
     record {
       valid = subst (λ o. IfSome o (IsValidChoice n)) c.unwrap-choice.ensures c.choose.ensures.valid;
       some = omega (arith, c.if-answer-best.false);
@@ -59,9 +55,7 @@ returns-clause-ends g c =
 
 pub returns-clause-best : goal.returns-clause-best
 returns-clause-best g c = λ b.
-    c.offer.ensures.best c.args.limits.now.limits.instance b
-    (subst (λ i. IsKeepable i c.in_ok-from_uses.field-0) c.instance.ensures.instance
-    (record { legal = c.in_ok-from_uses.ensures.legal; packed = c.in_ok-from_uses.ensures.packed }))
+    subst (λ i. IsBestOf i b c.args.best.now → IsBestOf i b c.try_uses.new.self) c.instance.ensures.instance (c.try_uses.ensures.best b)
 
 pub returns-clause-shown : goal.returns-clause-shown
 returns-clause-shown g c =
@@ -74,12 +68,12 @@ returns-clause-shown g c =
     let routes = routes_of cs r.ids in
     let t = r.master.rows in
     let made = at.along.made in
-    let now = c.offer.new.self.unassigned in
+    let now = c.try_uses.new.self.unassigned in
     let den = c.in_ok-solution.solution.den in
     let out = c.in_ok-solution.solution.shares.items in
     let opened = c.in_ok-solution.solution.left_open.items in
     let whole = unsigned_abs den in
-    let most : now ≤ tasks_in n = omega (arith, c.offer.ensures.fewer, c.requires.most) in
+    let most : now ≤ tasks_in n = omega (arith, c.try_uses.ensures.fewer, c.requires.most) in
     let some : 1 ≤ now = omega (arith, c.if-answer-best.false) in
     let run = c.lists_are_runs.ensures n routes made t at.along.follows.run in
     let all = legal_are n cs routes s.over.legal in
@@ -107,3 +101,25 @@ returns-clause-shown g c =
     simp to_z-of_z
     (subst (λ l. IsShownLoose n now p (fractional_of cs den l c.of-2.result)) (sym c.of.ensures)
     (subst (λ l. IsShownLoose n now p (fractional_of cs den out l)) (sym c.of-2.ensures) shown))
+
+pub returns-then-answer-best-clause-required : goal.returns-then-answer-best-clause-required
+returns-then-answer-best-clause-required g c = proved_required c.args.limits.now.limits c.args.answer.prices c.args.answer.proved c.requires.count.proved
+
+pub returns-clause-required : goal.returns-clause-required
+returns-clause-required g c = proved_required c.args.limits.now.limits c.args.answer.prices c.args.answer.proved c.requires.count.proved
+
+pub returns-clause-held : goal.returns-clause-held
+returns-clause-held g c =
+    let n = c.args.limits.now.limits in
+    let cs = g.C.Columns.columns c.args.columns.now in
+    let den = c.in_ok-solution.solution.den in
+    let out = c.in_ok-solution.solution.shares.items in
+    let opened = c.in_ok-solution.solution.left_open.items in
+    let held : AreHeld n cs den out opened = record {
+      legal = c.in_ok-solution.ensures.legal n cs c.requires.settled.over;
+      positive = c.in_ok-solution.ensures.positive n cs c.requires.settled.over;
+    } in
+    let fits : FitsSigned w128 den = search rules in
+    simp to_z-of_z
+    (subst (λ l. AreHeld n cs den l c.of-2.result) (sym c.of.ensures)
+    (subst (λ l. AreHeld n cs den out l) (sym c.of-2.ensures) held))

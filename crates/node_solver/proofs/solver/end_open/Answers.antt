@@ -1,34 +1,28 @@
 use Rattle.std.proofs.Common.{All, sym, subst}
 use Rattle.branch_choice.specs.Uses.{IsPermittedUse}
-use Rattle.search_terms.specs.Search.{IsKeepable}
+use Rattle.node_solver.specs.Plans.{IsBestOf}
 use Rattle.node_solver.proofs.Growing.{extends_more}
 use Rattle.node_solver.proofs.solver.end_open.Goals as goal
 
 pub returns-then-found-best-clause-ends : goal.returns-then-found-best-clause-ends
 returns-then-found-best-clause-ends g c =
-    c.less_is_proved.ensures c.args.limits.now.limits c.in_ok-found.found.prices c.in_ok-found.found.proved c.offer.new.self.unassigned
+    c.less_is_proved.ensures c.args.limits.now.limits c.in_ok-found.found.prices c.in_ok-found.found.proved c.try_uses.new.self.unassigned
     c.if-found-best.true c.in_ok-found.ensures.proved.proved
 
 pub returns-then-found-best-clause-best : goal.returns-then-found-best-clause-best
 returns-then-found-best-clause-best g c = λ b.
-    c.offer.ensures.best c.args.limits.now.limits.instance b
-    (subst (λ i. IsKeepable i c.in_ok-from_uses.field-0) c.instance.ensures.instance
-    (record { legal = c.in_ok-from_uses.ensures.legal; packed = c.in_ok-from_uses.ensures.packed }))
+    subst (λ i. IsBestOf i b c.args.best.now → IsBestOf i b c.try_uses.new.self) c.instance.ensures.instance (c.try_uses.ensures.best b)
 
 pub returns-in_err-add_routes-clause-best : goal.returns-in_err-add_routes-clause-best
 returns-in_err-add_routes-clause-best g c = λ b.
-    c.offer.ensures.best c.args.limits.now.limits.instance b
-    (subst (λ i. IsKeepable i c.in_ok-from_uses.field-0) c.instance.ensures.instance
-    (record { legal = c.in_ok-from_uses.ensures.legal; packed = c.in_ok-from_uses.ensures.packed }))
+    subst (λ i. IsBestOf i b c.args.best.now → IsBestOf i b c.try_uses.new.self) c.instance.ensures.instance (c.try_uses.ensures.best b)
 
 pub returns-in-Ok-clause-keeps : goal.returns-in-Ok-clause-keeps
 returns-in-Ok-clause-keeps g c = c.in-Ok.ensures.keeps c.args.start
 
 pub returns-in-Ok-clause-best : goal.returns-in-Ok-clause-best
 returns-in-Ok-clause-best g c = λ b is.
-    c.in-Ok.ensures.best b (c.offer.ensures.best c.args.limits.now.limits.instance b
-    (subst (λ i. IsKeepable i c.in_ok-from_uses.field-0) c.instance.ensures.instance
-    (record { legal = c.in_ok-from_uses.ensures.legal; packed = c.in_ok-from_uses.ensures.packed })) is)
+    c.in-Ok.ensures.best b (subst (λ i. IsBestOf i b c.args.best.now → IsBestOf i b c.try_uses.new.self) c.instance.ensures.instance (c.try_uses.ensures.best b) is)
 
 pub returns-in-Ok-clause-extends : goal.returns-in-Ok-clause-extends
 returns-in-Ok-clause-extends g c =
@@ -49,9 +43,7 @@ returns-clause-keeps g c = c.end_halted.ensures.keeps c.args.start c.in_ok-found
 
 pub returns-clause-best : goal.returns-clause-best
 returns-clause-best g c = λ b is.
-    c.in-Err.ensures.best b (c.offer.ensures.best c.args.limits.now.limits.instance b
-    (subst (λ i. IsKeepable i c.in_ok-from_uses.field-0) c.instance.ensures.instance
-    (record { legal = c.in_ok-from_uses.ensures.legal; packed = c.in_ok-from_uses.ensures.packed })) is)
+    c.in-Err.ensures.best b (subst (λ i. IsBestOf i b c.args.best.now → IsBestOf i b c.try_uses.new.self) c.instance.ensures.instance (c.try_uses.ensures.best b) is)
 
 pub returns-clause-extends : goal.returns-clause-extends
 returns-clause-extends g c =
@@ -63,3 +55,15 @@ returns-in-Ok-clause-shown g c = c.in-Ok.ensures.shown
 
 pub returns-clause-shown : goal.returns-clause-shown
 returns-clause-shown g c = c.end_halted.ensures.shown (g.C.Columns.columns c.end_by_master.new.columns)
+
+pub returns-in-Ok-clause-required : goal.returns-in-Ok-clause-required
+returns-in-Ok-clause-required g c = c.in-Ok.ensures.required
+
+pub returns-clause-required : goal.returns-clause-required
+returns-clause-required g c = c.end_halted.ensures.required
+
+pub returns-in-Ok-clause-held : goal.returns-in-Ok-clause-held
+returns-in-Ok-clause-held g c = c.in-Ok.ensures.held
+
+pub returns-clause-held : goal.returns-clause-held
+returns-clause-held g c = c.end_halted.ensures.held (g.C.Columns.columns c.end_by_master.new.columns)

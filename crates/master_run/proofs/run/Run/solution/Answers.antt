@@ -16,7 +16,7 @@ use Rattle.master_run.specs.Kept.{kept}
 use Rattle.master_run.specs.Shares.{fractional_of}
 use Rattle.master_run.proofs.Growing.{legal_are}
 use Rattle.master_run.proofs.Rounded.{overflow_here}
-use Rattle.master_run.proofs.Solved.{gives_shares, shares_legal, solution_is}
+use Rattle.master_run.proofs.Solved.{gives_shares, shares_legal, solution_is, solution_positive}
 use Rattle.master_run.proofs.run.Run.solution.Goals as goal
 
 pub returns-in_err-den-clause-halts : goal.returns-in_err-den-clause-halts
@@ -38,6 +38,17 @@ returns-in_err-den-clause-halts c = λ n columns over.
     let halts = overflow_here n columns old f is (at []) in
     let p = err_from_is_err_and c.from_residual-in_err-den.result c.from_residual-in_err-den.ensures.1 in
     rw (p.1, p.2) (subst (λ (s : RunState). RunOverflows n s.pivots columns f) c.self.view_is halts)
+
+pub returns-clause-positive : goal.returns-clause-positive
+returns-clause-positive c = λ n columns over.
+    let old = kept c.self.inside in
+    let is : IsOver n columns old = subst (IsOver n columns) (sym c.self.view_is) over in
+    let den = c.in_ok-den.den in
+    let out = c.shares.new.out.items in
+    let opened = c.shares.new.left_open.items in
+    let gives = subst (λ (r : Result ℤ Overflow). GivesShares n old.master r out opened) c.in_ok-den.was (c.in_ok-shares.ensures.shares n is.at.along.follows.places) in
+    let fits : FitsSigned w128 den = search rules in
+    simp to_z-of_z (solution_positive n old.master den out opened (gives_shares n old.master den out opened is.at.along.follows.going gives))
 
 pub returns-clause-legal : goal.returns-clause-legal
 returns-clause-legal c = λ n columns over.

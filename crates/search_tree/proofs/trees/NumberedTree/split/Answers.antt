@@ -3,8 +3,8 @@ use Rattle.std.proofs.lemmas.Grind.{common_steps}
 use Rattle.crew_terms.specs.declared.Choice.{Choice}
 use Rattle.search_tree.specs.declared.nodes.Node.{Node}
 use Rattle.search_tree.specs.declared.nodes.Content.TheVariants as content
-use Rattle.search_tree.specs.Numbered.{AreNumbered, IsOpenNode, split_at, with_content, with_children, tree_of, way_of}
-use Rattle.search_tree.proofs.Numbering.{HasSplit, has_split, splits_leaf, split_tree, numbered_after, way_after}
+use Rattle.search_tree.specs.Numbered.{AreNumbered, HasSplit, IsOpenNode, split_at, with_content, with_children, tree_of, way_of}
+use Rattle.search_tree.proofs.Numbering.{has_split, splits_leaf, split_tree, numbered_after, way_after}
 use Rattle.search_tree.proofs.trees.NumberedTree.split.Goals as goal
 
 -- what is written is the split

@@ -1,0 +1,140 @@
+-- the parts of a dossier, one after another
+use Rattle.std.proofs.Common.{◌≡◌, ◌+◌, ◌++◌, ◌∷◌, [], ℕ, List, max, ap, sym, refl, ◌∙◌, append_assoc, append-nil, arith}
+use Rattle.std.proofs.lemmas.List.Concat.{flat_map-append}
+use Rattle.crew_terms.specs.Branches.{LeafNode, SplitNode, Claim, Bare, Open, Closed, closed_in, left_open_in, depth, splits, leaf_sum}
+use Rattle.crew_terms.specs.Instance.{Instance}
+use Rattle.crew_terms.specs.Limits.{Limits, root_limits}
+use Rattle.crew_terms.specs.Tree.{child}
+use Rattle.crew_terms.specs.Words.{line_text}
+use Rattle.crew_terms.specs.declared.Side.TheVariants.{First, Second}
+use Rattle.dossier_terms.specs.Dossier.{Dossier, Leaf, Written}
+use Rattle.dossier_terms.specs.Lines.{counts_of, end_line, form_line, frozen_lines, head_lines, instance_lines, instance_text, node_lines, plan_lines, pool_lines, text_of, tree_line, tree_lines}
+use Rattle.dossier_terms.specs.declared.DossierForm.TheVariants.{Two}
+use Rattle.branch_tree.specs.Trees.{BranchTree, ClaimedLeaf, claim_in, counts_of as tree_counts}
+use Rattle.crew_terms.specs.declared.TreeCounts.{TreeCounts}
+use Rattle.cert_write.specs.Given.{Given}
+use Rattle.cert_write.specs.Dossiers.{IsDossierOf, IsPricedClaim, IsPricedTree}
+use Rattle.crew_io.specs.Fronts.{IsFront}
+use Rattle.cert_write.proofs.Texts.{front_of, front_1, front_2, text}
+
+-- ---- numbers of a tree
+
+pub same_splits : (n : Limits) (t : BranchTree) (w : Written) → IsPricedTree n t w → splits t ≡ splits w
+same_splits n (LeafNode given) (LeafNode claim) is = refl
+same_splits n (LeafNode given) (SplitNode split low high) is = absurd is
+same_splits n (SplitNode choice first second) (LeafNode claim) is = absurd is
+same_splits n (SplitNode choice first second) (SplitNode split low high) is =
+    let a = same_splits (child n choice First) first low is.1 in
+    let b = same_splits (child n choice Second) second high is.2 in
+    omega (arith, a, b)
+
+pub same_depth : (n : Limits) (t : BranchTree) (w : Written) → IsPricedTree n t w → depth t ≡ depth w
+same_depth n (LeafNode given) (LeafNode claim) is = refl
+same_depth n (LeafNode given) (SplitNode split low high) is = absurd is
+same_depth n (SplitNode choice first second) (LeafNode claim) is = absurd is
+same_depth n (SplitNode choice first second) (SplitNode split low high) is =
+    ap (λ m. max m (depth second) + 1) (same_depth (child n choice First) first low is.1)
+    ∙ ap (λ m. max (depth low) m + 1) (same_depth (child n choice Second) second high is.2)
+
+closed_same : (n : Limits) (given : ClaimedLeaf) (claim : Claim Leaf) → IsPricedClaim n given claim → closed_in (claim_in given.state) ≡ closed_in claim
+closed_same n given Bare is = ap (λ s. closed_in (claim_in s)) is
+closed_same n given (Open leaf) is = ap (λ s. closed_in (claim_in s)) is.0
+closed_same n given (Closed leaf) is = ap (λ s. closed_in (claim_in s)) is.0
+
+open_same : (n : Limits) (given : ClaimedLeaf) (claim : Claim Leaf) → IsPricedClaim n given claim → left_open_in (claim_in given.state) ≡ left_open_in claim
+open_same n given Bare is = ap (λ s. left_open_in (claim_in s)) is
+open_same n given (Open leaf) is = ap (λ s. left_open_in (claim_in s)) is.0
+open_same n given (Closed leaf) is = ap (λ s. left_open_in (claim_in s)) is.0
+
+same_leaves : (f : ClaimedLeaf → ℕ) (h : Claim Leaf → ℕ) → ((n : Limits) (given : ClaimedLeaf) (claim : Claim Leaf) → IsPricedClaim n given claim → f given ≡ h claim)
+    → (n : Limits) (t : BranchTree) (w : Written) → IsPricedTree n t w → leaf_sum f t ≡ leaf_sum h w
+same_leaves f h one n (LeafNode given) (LeafNode claim) is = one n given claim is
+same_leaves f h one n (LeafNode given) (SplitNode split low high) is = absurd is
+same_leaves f h one n (SplitNode choice first second) (LeafNode claim) is = absurd is
+same_leaves f h one n (SplitNode choice first second) (SplitNode split low high) is =
+    let a = same_leaves f h one (child n choice First) first low is.1 in
+    let b = same_leaves f h one (child n choice Second) second high is.2 in
+    omega (arith, a, b)
+
+counts_from : (a b c d e f g h : ℕ) → a ≡ e → b ≡ f → c ≡ g → d ≡ h
+    → (let x : TreeCounts = record { splits = a; closed = b; left_open = c; depth = d } in let y : TreeCounts = record { splits = e; closed = f; left_open = g; depth = h } in x ≡ y)
+counts_from a b c d e f g h p q r s =
+    ap (λ x. record { splits = x; closed = b; left_open = c; depth = d }) p ∙ ap (λ x. record { splits = e; closed = x; left_open = c; depth = d }) q
+    ∙ ap (λ x. record { splits = e; closed = f; left_open = x; depth = d }) r ∙ ap (λ x. record { splits = e; closed = f; left_open = g; depth = x }) s
+
+pub same_counts : (n : Limits) (t : BranchTree) (w : Written) → IsPricedTree n t w → tree_counts t ≡ counts_of w
+same_counts n t w is = counts_from _ _ _ _ _ _ _ _ (same_splits n t w is)
+    (same_leaves (λ (given : ClaimedLeaf). closed_in (claim_in given.state)) closed_in closed_same n t w is)
+    (same_leaves (λ (given : ClaimedLeaf). left_open_in (claim_in given.state)) left_open_in open_same n t w is) (same_depth n t w is)
+
+-- ---- texts
+
+pub tree_text : (i : Instance) (t : BranchTree) (w : Written) → IsPricedTree (root_limits i) t w
+    → (line_text (tree_line (tree_counts t)) ++ text (node_lines Two (root_limits i) w)) ++ line_text end_line ≡ text (tree_lines Two i w)
+tree_text i t w is =
+    let nodes = node_lines Two (root_limits i) w in
+    ap (λ c. (line_text (tree_line c) ++ text nodes) ++ line_text end_line) (same_counts (root_limits i) t w is)
+    ∙ append_assoc (line_text (tree_line (counts_of w))) (text nodes) (line_text end_line)
+    ∙ ap (λ e. line_text (tree_line (counts_of w)) ++ (text nodes ++ e)) (sym (append-nil (line_text end_line)))
+    ∙ ap (λ x. line_text (tree_line (counts_of w)) ++ x) (sym (flat_map-append line_text nodes (end_line ∷ [])))
+
+pub head_text : (i : Instance) (b : ℕ) → (line_text (form_line Two) ++ instance_text i b) ++ text (frozen_lines Two i.frozen) ≡ text (head_lines Two i b)
+head_text i b =
+    append_assoc (line_text (form_line Two)) (instance_text i b) (text (frozen_lines Two i.frozen))
+    ∙ ap (λ x. line_text (form_line Two) ++ x) (sym (flat_map-append line_text (instance_lines i b) (frozen_lines Two i.frozen)))
+
+pub head_front_1 : (i : Instance) (b : ℕ) → IsFront (line_text (form_line Two)) (text (head_lines Two i b))
+head_front_1 i b = front_1 (line_text (form_line Two)) (instance_text i b) (text (frozen_lines Two i.frozen)) _ (sym (head_text i b))
+
+pub head_front_2 : (i : Instance) (b : ℕ) → IsFront (line_text (form_line Two) ++ instance_text i b) (text (head_lines Two i b))
+head_front_2 i b = front_of (line_text (form_line Two) ++ instance_text i b) (text (frozen_lines Two i.frozen)) _ (sym (head_text i b))
+
+pub tree_front_1 : (i : Instance) (t : BranchTree) (w : Written) → IsPricedTree (root_limits i) t w → IsFront (line_text (tree_line (tree_counts t))) (text (tree_lines Two i w))
+tree_front_1 i t w is = front_1 (line_text (tree_line (tree_counts t))) (text (node_lines Two (root_limits i) w)) (line_text end_line) _ (sym (tree_text i t w is))
+
+pub tree_front_2 : (i : Instance) (t : BranchTree) (w : Written) → IsPricedTree (root_limits i) t w
+    → IsFront (line_text (tree_line (tree_counts t)) ++ text (node_lines Two (root_limits i) w)) (text (tree_lines Two i w))
+tree_front_2 i t w is = front_of (line_text (tree_line (tree_counts t)) ++ text (node_lines Two (root_limits i) w)) (line_text end_line) _ (sym (tree_text i t w is))
+
+-- the dossier of these parts with this tree
+abbrev pub dossier_with : Given → Written → Dossier
+dossier_with g tree = record { form = Two; instance = g.instance; budget = g.nodes; kept = g.kept; pool = g.columns; plan = g.plan; bound = g.bound; tree = tree }
+
+pub dossier_is : (g : Given) (d : Dossier) → IsDossierOf g d → d ≡ dossier_with g d.tree
+dossier_is g d is =
+    ap (λ x. record d { form = x }) is.form
+    ∙ ap (λ x. record d { form = Two; instance = x }) is.instance
+    ∙ ap (λ x. record d { form = Two; instance = g.instance; budget = x }) is.budget
+    ∙ ap (λ x. record d { form = Two; instance = g.instance; budget = g.nodes; kept = x }) is.kept
+    ∙ ap (λ x. record d { form = Two; instance = g.instance; budget = g.nodes; kept = g.kept; pool = x }) is.pool
+    ∙ ap (λ x. record d { form = Two; instance = g.instance; budget = g.nodes; kept = g.kept; pool = g.columns; plan = x }) is.plan
+    ∙ ap (λ x. record d { form = Two; instance = g.instance; budget = g.nodes; kept = g.kept; pool = g.columns; plan = g.plan; bound = x }) is.bound
+
+pub dossier_text : (g : Given) (d : Dossier) → IsDossierOf g d
+    → ((text (head_lines Two g.instance g.nodes) ++ text (pool_lines g.kept g.columns)) ++ text (plan_lines g.plan g.bound)) ++ text (tree_lines Two g.instance d.tree) ≡ text_of d
+dossier_text g d is =
+    let h = head_lines Two g.instance g.nodes in
+    let o = pool_lines g.kept g.columns in
+    let q = plan_lines g.plan g.bound in
+    let t = tree_lines Two g.instance d.tree in
+    sym (flat_map-append line_text ((h ++ o) ++ q) t ∙ ap (λ x. x ++ text t) (flat_map-append line_text (h ++ o) q ∙ ap (λ x. x ++ text q) (flat_map-append line_text h o)))
+    ∙ ap text_of (sym (dossier_is g d is))
+
+module _ (g : Given) (d : Dossier) (is : IsDossierOf g d) where
+  abbrev head : List ℕ
+  head = text (head_lines Two g.instance g.nodes)
+
+  abbrev pool : List ℕ
+  pool = text (pool_lines g.kept g.columns)
+
+  abbrev plan : List ℕ
+  plan = text (plan_lines g.plan g.bound)
+
+  pub front_of_head : IsFront head (text_of d)
+  front_of_head = front_2 head pool plan (text (tree_lines Two g.instance d.tree)) (text_of d) (sym (dossier_text g d is))
+
+  pub front_of_pool : IsFront (head ++ pool) (text_of d)
+  front_of_pool = front_1 (head ++ pool) plan (text (tree_lines Two g.instance d.tree)) (text_of d) (sym (dossier_text g d is))
+
+  pub front_of_plan : IsFront ((head ++ pool) ++ plan) (text_of d)
+  front_of_plan = front_of ((head ++ pool) ++ plan) (text (tree_lines Two g.instance d.tree)) (text_of d) (sym (dossier_text g d is))

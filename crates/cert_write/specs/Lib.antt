@@ -1,0 +1,9 @@
+pub mod Causes
+pub mod Jobs
+pub mod Steps
+pub mod Tables
+pub mod Leaves
+pub mod Given
+pub mod Dossiers
+pub mod Walks
+pub mod Desks

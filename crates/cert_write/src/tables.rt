@@ -1,0 +1,147 @@
+// The worths and the potentials of the teams in a node, as pricing gives them.
+ghost use Rattle.std.specs.Prelude.{◌<◌, List, [], ◌∷◌, filter, map, IfOk};
+ghost use Rattle.std.specs.List.{flat_map, range_with_len};
+ghost use Rattle.crew_terms.specs.Limits.{tasks_in, teams_in};
+ghost use Rattle.crew_terms.specs.Words.{line_text};
+ghost use Rattle.crew_io.specs.Puts.{Puts};
+ghost use Rattle.dossier_terms.specs.Dossier.{Potentials};
+ghost use Rattle.dossier_terms.specs.Lines.{table_lines};
+ghost use Rattle.dossier_terms.specs.declared.DossierForm.TheVariants.{Two};
+ghost use Rattle.label_pricing.specs.Pricing.{HasRoom};
+ghost use Rattle.potentials.specs.Prices.{ArePricesOf};
+ghost use Rattle.potentials.specs.Table.{IsTableOf};
+ghost use Rattle.cert_write.specs.Dossiers.{ArePricedTables, IsPricedTable};
+ghost use Rattle.cert_write.specs.Steps.{table_in};
+ghost use Rattle.cert_write.specs.Tables.{IsRoomOf, may_begin, row_line, team_lines};
+
+use crate::steps::put_steps;
+use crew_instance::Instance;
+use crew_io::sink::{Sink, WriteFault};
+use crew_laws::minutes_are_permitted;
+use label_pricing::{Pricer, one_worth, teams_have_bests};
+use line_out::{Part, put_line};
+use node_limits::Limits;
+use potentials::{Prices, Table};
+use std::alloc::{AllocError, Global};
+
+/// Room for pricing, and for the potentials of one team.
+#[derive(Drop)]
+pub(crate) struct Room {
+    pub(crate) pricer: Pricer,
+    pub(crate) table: Table,
+}
+
+impl Room {
+    /// Room for the teams and tasks of an instance.
+    pub(crate) fn reserve(alloc: Global, instance: &Instance) -> Result<Room, AllocError>
+        ensures { IfOk result (IsRoomOf instance.now) }
+    {
+        let pricer = Pricer::reserve(alloc, instance)?;
+        let table = Table::reserve(alloc, instance)?;
+        Ok(Room { pricer, table })
+    }
+}
+
+/// The line of the potentials of task `j`, if the team may begin it.
+fn put_if_open<K: Sink>(
+    out: &mut K,
+    limits: &Limits<'_>,
+    k: u32,
+    table: &Table,
+    j: u32,
+) -> Result<(), WriteFault>
+    requires team { k < teams_in limits.now.limits }
+    requires task { j < tasks_in limits.now.limits }
+    requires table { IsTableOf limits.now.limits.instance table.now }
+    ensures { Puts K.Sink (flat_map line_text (map (row_line limits.now.limits k table.now) (filter (may_begin limits.now.limits k) (j ∷ []))))
+        out.old out.new result }
+{
+    minutes_are_permitted();
+    // It is known from here on that no minute is past the last one of the day.
+    let _day = limits.instance();
+    match limits.minutes(k, j) {
+        None => Ok(()),
+        Some((first, last)) => put_steps(out, table, j, first, last + 1),
+    }
+}
+
+/// The lines of the potentials of the tasks that the team may begin.
+fn put_rows<K: Sink>(
+    out: &mut K,
+    limits: &Limits<'_>,
+    k: u32,
+    table: &Table,
+) -> Result<(), WriteFault>
+    requires team { k < teams_in limits.now.limits }
+    requires table { IsTableOf limits.now.limits.instance table.now }
+    ensures { Puts K.Sink (flat_map line_text (map (row_line limits.now.limits k table.now) (filter (may_begin limits.now.limits k) (range_with_len 0 (tasks_in limits.now.limits)))))
+        out.old out.new result }
+{
+    for j in 0..limits.instance().tasks() as u32 {
+        put_if_open(out, limits, k, table, j)?;
+    }
+    Ok(())
+}
+
+/// The lines of a team: its worth, and the table's potentials.
+fn put_table<K: Sink>(
+    out: &mut K,
+    limits: &Limits<'_>,
+    k: u32,
+    worth: i64,
+    table: &Table,
+) -> Result<(), WriteFault>
+    requires team { k < teams_in limits.now.limits }
+    requires table { IsTableOf limits.now.limits.instance table.now }
+    ensures { Puts K.Sink (flat_map line_text (team_lines limits.now.limits k (table_in limits.now.limits k worth table.now)))
+        out.old out.new result }
+{
+    put_line(out, &[Part::Word(b"worth"), Part::Signed(worth)])?;
+    put_rows(out, limits, k, table)
+}
+
+/// The lines of a team, with the worth and the potentials that pricing gives.
+fn put_team<K: Sink>(
+    out: &mut K,
+    limits: &Limits<'_>,
+    k: u32,
+    prices: &Prices,
+    pricer: &mut Pricer,
+    table: &mut Table,
+) -> Result<(), WriteFault>
+    requires team { k < teams_in limits.now.limits }
+    requires prices { ArePricesOf limits.now.limits prices.now }
+    requires room { HasRoom limits.now.limits.instance pricer.old }
+    requires table { IsTableOf limits.now.limits.instance table.old }
+    ensures puts { (t : Potentials) → IsPricedTable limits.now.limits k prices.now t →
+        Puts K.Sink (flat_map line_text (team_lines limits.now.limits k t)) out.old out.new result }
+    ensures room { HasRoom limits.now.limits.instance pricer.new }
+    ensures table { IsTableOf limits.now.limits.instance table.new }
+{
+    one_worth();
+    teams_have_bests();
+    let worth = pricer.price_with(limits, k, prices, table);
+    put_table(out, limits, k, worth, table)
+}
+
+/// The lines of all teams.
+pub(crate) fn put_tables<K: Sink>(
+    out: &mut K,
+    limits: &Limits<'_>,
+    prices: &Prices,
+    pricer: &mut Pricer,
+    table: &mut Table,
+) -> Result<(), WriteFault>
+    requires prices { ArePricesOf limits.now.limits prices.now }
+    requires room { HasRoom limits.now.limits.instance pricer.old }
+    requires table { IsTableOf limits.now.limits.instance table.old }
+    ensures puts { (ts : List Potentials) → ArePricedTables limits.now.limits prices.now 0 ts →
+        Puts K.Sink (flat_map line_text (table_lines Two limits.now.limits 0 ts)) out.old out.new result }
+    ensures room { HasRoom limits.now.limits.instance pricer.new }
+    ensures table { IsTableOf limits.now.limits.instance table.new }
+{
+    for k in 0..limits.instance().teams() as u32 {
+        put_team(out, limits, k, prices, pricer, table)?;
+    }
+    Ok(())
+}

@@ -1,0 +1,3 @@
+pub mod Zero
+pub mod Leaf
+pub mod Steps

@@ -1,0 +1,5 @@
+pub mod Rounds
+pub mod Planning
+pub mod Kept
+pub mod Untaken
+pub mod Entries

@@ -1,0 +1,5 @@
+pub mod Exploring
+pub mod StepLemmas
+pub mod Keeping
+pub mod Sites
+pub mod Starting

@@ -1,0 +1,22 @@
+use Rattle.std.proofs.Common.{◌≡◌, sym, subst, arith}
+use Rattle.crew_terms.specs.Leaf.{Prices}
+use Rattle.node_solver.specs.Plans.{now_after}
+use Rattle.node_solver.specs.Steps.{Ends, KeepsProved}
+use Rattle.node_solver.specs.declared.step.NodeEnd.{NodeEnd}
+use Rattle.node_solver.specs.declared.step.NodeEnd.TheVariants as ends
+use Rattle.search_terms.specs.Proven.{PricesProve}
+use Rattle.search_core.proofs.Exploring.{split_required}
+use Rattle.search_core.proofs.finding.examine.Goals as goal
+
+pub hand_on-requires-clause-required : goal.hand_on-requires-clause-required
+hand_on-requires-clause-required g c =
+    let n = c.args.limits.now.limits in
+    let columns = g.C.Columns.columns c.process.new.columns in
+    let now = now_after c.args.best c.in_ok-plan.field-0.plan in
+    let pivots = c.args.effort.now.pivots in
+    let start = c.in_ok-start.start in
+    let end : NodeEnd = ends.Split c.in-Split.choice c.in-Split.why c.in-Split.prices in
+    let zero : PricesProve n start 0 = subst (λ (p : Prices). PricesProve n p 0) (sym c.in_ok-start.ensures) ((c.requires.bound 0 (omega arith)).1 tt) in
+    let earned : Ends n now pivots columns end = subst (λ (e : NodeEnd). Ends n now pivots columns e) c.in-Split.is c.in_ok-plan.ensures.ends in
+    let keeps : KeepsProved n start end = subst (λ (e : NodeEnd). KeepsProved n start e) c.in-Split.is c.in_ok-plan.ensures.as_much in
+    split_required n now pivots columns start c.in-Split.prices c.in-Split.choice c.in-Split.why zero earned.earned keeps

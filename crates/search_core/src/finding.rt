@@ -1,0 +1,121 @@
+// What a step finds in a node.
+ghost use Rattle.std.specs.Prelude.{◌≡◌, ◌≤◌, IfOk};
+ghost use Rattle.crew_terms.specs.Leaf.{IsOnRequired};
+ghost use Rattle.crew_terms.specs.Limits.{tasks_in};
+ghost use Rattle.keyed_steps.specs.States.{DecidesProved};
+ghost use Rattle.label_pricing.specs.Pricing.{HasRoom};
+ghost use Rattle.node_walk.specs.Walks.{IsBack};
+ghost use Rattle.potentials.specs.Prices.{ArePricesOf};
+ghost use Rattle.search_core.specs.Findings.{IsFinding};
+ghost use Rattle.search_terms.specs.Inside.{IsNode};
+ghost use Rattle.search_terms.specs.Search.{Extends};
+ghost use Rattle.search_tree.specs.Ways.{CanTurns, limits_after};
+
+use column_arena::Columns;
+use crew_instance::Plan;
+use crew_terms::Choice;
+use handed_prices::{Handed, hand_on};
+use kept_prices::KeptPrices;
+use label_pricing::Pricer;
+use node_limits::Limits;
+use node_solver::{Effort as NodeEffort, NodeEnd, Step, Why, process};
+use node_walk::{Turn, ascend, descend};
+use std::alloc::{AllocError, Global};
+
+/// How a node ends: closed by prices, or split by a choice for a cause, with what is handed on to its children.
+#[derive(Drop)]
+pub(crate) enum Ending {
+    Closed(KeptPrices),
+    Split {
+        choice: Choice,
+        why: Why,
+        handed: Handed,
+    },
+}
+
+/// A better plan, if the step found one, and how the node ends.
+#[derive(Drop)]
+pub(crate) struct Finding {
+    pub(crate) plan: Option<Plan>,
+    pub(crate) ending: Ending,
+}
+
+/// Takes the step at a node with these limits, whose own prices give this bound. The limits stay as they were. AllocError where
+/// there is no memory: then only the columns may have grown.
+fn examine<C: Columns>(
+    alloc: Global,
+    limits: &mut Limits<'_>,
+    pricer: &mut Pricer,
+    own: &KeptPrices,
+    bound: i128,
+    best: u32,
+    columns: &mut C,
+    effort: &NodeEffort,
+) -> Result<Finding, AllocError>
+    requires node { IsNode limits.old.limits }
+    requires spare { 1 ≤ limits.old.spare }
+    requires own { ArePricesOf limits.old.limits own.now }
+    requires required { IsOnRequired limits.old.limits own.now }
+    requires bound { DecidesProved limits.old.limits own.now bound }
+    requires best { best ≤ tasks_in limits.old.limits }
+    requires room { HasRoom limits.old.limits.instance pricer.old }
+    ensures found { IfOk result (IsFinding limits.old.limits best effort.now.pivots (C.columns columns.old) (C.columns columns.new) own.now) }
+    ensures extends { Extends limits.old.limits (C.columns columns.old) (C.columns columns.new) }
+    ensures limits { limits.new ≡ limits.old }
+    ensures room { pricer.new.places ≡ pricer.old.places }
+{
+    let start = own.prices(alloc, limits)?;
+    let Step { plan, end } = process(alloc, limits, start, best, columns, effort)?;
+    match end {
+        NodeEnd::Closed(prices) => {
+            let kept = KeptPrices::of(alloc, limits, &prices)?;
+            let ending = Ending::Closed(kept);
+            Ok(Finding { plan, ending })
+        }
+        NodeEnd::Split {
+            choice,
+            why,
+            prices,
+        } => {
+            let handed = hand_on(alloc, limits, pricer, choice, own, bound, &prices)?;
+            let ending = Ending::Split {
+                choice,
+                why,
+                handed,
+            };
+            Ok(Finding { plan, ending })
+        }
+    }
+}
+
+/// Takes the step at the node to which the turns lead from these limits, and comes back.
+pub(crate) fn explore<C: Columns>(
+    alloc: Global,
+    limits: &mut Limits<'_>,
+    pricer: &mut Pricer,
+    turns: &[Turn],
+    own: &KeptPrices,
+    bound: i128,
+    best: u32,
+    columns: &mut C,
+    effort: &NodeEffort,
+) -> Result<Finding, AllocError>
+    requires can { CanTurns limits.old.limits turns.now }
+    requires node { IsNode (limits_after limits.old.limits turns.now) }
+    requires own { ArePricesOf (limits_after limits.old.limits turns.now) own.now }
+    requires required { IsOnRequired (limits_after limits.old.limits turns.now) own.now }
+    requires bound { DecidesProved (limits_after limits.old.limits turns.now) own.now bound }
+    requires best { best ≤ tasks_in (limits_after limits.old.limits turns.now) }
+    requires room { HasRoom limits.old.limits.instance pricer.old }
+    ensures found { IfOk result (IsFinding (limits_after limits.old.limits turns.now) best effort.now.pivots
+        (C.columns columns.old) (C.columns columns.new) own.now) }
+    ensures extends { Extends (limits_after limits.old.limits turns.now) (C.columns columns.old) (C.columns columns.new) }
+    ensures back { IsBack limits.new limits.old }
+    ensures room { pricer.new.places ≡ pricer.old.places }
+{
+    limits.reserve(turns.len() + 1)?;
+    descend(limits, turns);
+    let found = examine(alloc, limits, pricer, own, bound, best, columns, effort);
+    ascend(limits, turns.len());
+    found
+}

@@ -1,0 +1,18 @@
+// The search by branch and price: its open nodes are taken in any order, and what it comes to is sound.
+#![tactic(auto)]
+
+mod causes;
+mod effort;
+mod finding;
+mod laws;
+mod searches;
+mod settling;
+mod stepping;
+mod steps;
+
+pub use causes::{Cause, Outcome};
+pub use crew_instance::{Instance, Plan};
+pub use effort::{DAY_EFFORT, Effort};
+pub use laws::key_steps_improve;
+pub use node_solver::{AscentEffort, Why};
+pub use searches::Search;

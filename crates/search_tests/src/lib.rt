@@ -1,0 +1,5 @@
+// Tests of the search over its open leaves.
+#![tactic(auto)]
+
+#[cfg(test)]
+mod orders;

@@ -1,0 +1,19 @@
+use Rattle.std.proofs.Common.{sym, subst, ◌∙◌}
+use Rattle.crew_terms.specs.Limits.{root_limits}
+use Rattle.crew_terms.specs.Plan.{unassigned_count}
+use Rattle.dossier_terms.specs.Dossier.{IsGood}
+use Rattle.written_laws.specs.Proved.{IsProvedTree}
+use Rattle.written_laws.proofs.Trees.{tree_good}
+use Rattle.written_laws.proofs.Parts.{dossier_is, good_parts}
+use Rattle.written_laws.proofs.written_dossiers_are_good.Goals as goal
+
+pub returns : goal.returns
+returns c g d is proved =
+    let root = root_limits g.instance in
+    let u = unassigned_count g.plan in
+    let t = subst (IsProvedTree root g.bound u) (c.one_tree.ensures proved.tree is.tree.tree (sym proved.nodes ∙ is.tree.nodes)) proved.proved in
+    let tree = tree_good c.earnings_fit.ensures.least c.earnings_fit.ensures.worths c.earnings_fit.ensures.bests c.written_prices_are_in_range.ensures
+    c.required_teams_are_listed.ensures c.priced_tasks_are_listed.ensures c.extra_is_written.ensures
+    c.minutes_are_permitted.ensures c.open_tasks_may_begin.ensures c.potential_is_written.ensures c.best_potentials_hold.ensures c.worths_decide.ensures
+    root proved.instance g.bound u is.tree.tree d.tree is.tree.same t in
+    subst IsGood (sym (dossier_is g d is)) (good_parts g d.tree is.tree proved (c.one_tree.ensures proved.tree is.tree.tree (sym proved.nodes ∙ is.tree.nodes)) tree.0 tree.1)

@@ -1,0 +1,45 @@
+-- parts whose dossier is good
+use Rattle.std.specs.Prelude.{◌≡◌, ◌≢◌, ◌≤◌, ◌<◌, ◌+◌, ℕ, length, All, AllPairs}
+use Rattle.crew_terms.specs.Branches.{LeafNode, SplitNode, splits}
+use Rattle.crew_terms.specs.Leaf.{Prices}
+use Rattle.crew_terms.specs.Legal.{IsLegal}
+use Rattle.crew_terms.specs.Limits.{Limits, Route, root_limits}
+use Rattle.crew_terms.specs.Plan.{unassigned_count}
+use Rattle.crew_terms.specs.Rules.{IsInstance}
+use Rattle.crew_terms.specs.Tree.{CanSplit, child}
+use Rattle.crew_terms.specs.declared.Side.TheVariants.{First, Second}
+use Rattle.crew_terms.specs.declared.TheConstants.{MOST_NODES}
+use Rattle.dossier_terms.specs.Dossier.{IsPooled}
+use Rattle.branch_tree.specs.Trees.{BranchTree, closed, preorder}
+use Rattle.branch_tree.specs.declared.tree.LeafState.{LeafState}
+use Rattle.branch_tree.specs.declared.tree.LeafState.TheVariants.{Bare, Open, Closed}
+use Rattle.search_terms.specs.Proven.{PricesProve}
+use Rattle.cert_write.specs.Given.{Given, IsPriced}
+
+-- what a leaf in this state claims of its prices holds: that they prove l and, where it is closed, u too
+abbrev pub IsProvedLeaf : Limits → ℕ → ℕ → LeafState → Prices → Type 0
+IsProvedLeaf n l u Bare p = l ≡ 0
+IsProvedLeaf n l u Open p = PricesProve n p l
+IsProvedLeaf n l u Closed p = PricesProve n p l × PricesProve n p u
+
+-- each split is one of its node, each leaf has prices of its node, and what it claims of them holds
+abbrev pub IsProvedTree : Limits → ℕ → ℕ → BranchTree → Type 0
+IsProvedTree n l u (LeafNode leaf) = IsPriced n leaf.prices × IsProvedLeaf n l u leaf.state leaf.prices
+IsProvedTree n l u (SplitNode choice first second) =
+    CanSplit n choice × IsProvedTree (child n choice First) l u first × IsProvedTree (child n choice Second) l u second
+
+-- the rules of the parts of a good dossier
+pub record IsProvedGiven (g : Given) : Type 0 where
+  pub instance : IsInstance g.instance
+  pub budget : g.nodes ≤ MOST_NODES
+  pub kept : g.kept ≤ length g.columns
+  pub pool_length : length g.columns ≤ 9223372036854775807
+  pub pool : All (IsPooled g.instance) g.columns
+  pub differ : AllPairs (λ (a b : Route). a ≢ b) g.columns
+  pub plan : IsLegal g.instance g.plan
+  pub bound : g.bound ≤ length g.instance.tasks
+  pub tree : BranchTree
+  pub nodes : g.tree ≡ preorder tree
+  pub proved : IsProvedTree (root_limits g.instance) g.bound (unassigned_count g.plan) tree
+  pub within : splits tree + closed tree ≤ g.nodes
+  pub spent : g.bound < unassigned_count g.plan → splits tree + closed tree ≡ g.nodes
