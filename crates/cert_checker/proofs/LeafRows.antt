@@ -60,19 +60,19 @@ is_leaf false leaf = refl
 
 -- the tree with its limits at rest again
 abbrev pub rested : TreeDraft → Rest → TreeDraft
-rested tree rest = moved tree rest tree.walk
+rested tree rest = moved tree rest tree.walk tree.unshown
 
 -- it is what is written back into its box and that of its draft
 pub rested_back : (tree held : TreeDraft) (draft : Held) (rest : Rest) → held ≡ tree → draft ≡ held.draft.value
-    → ◌≡◌ {A = TreeDraft} (record { draft = with_value held.draft (record draft { limits = rest }); claimed = held.claimed; walk = held.walk }) (rested tree rest)
-rested_back tree held draft rest e f = written_back tree held draft rest held.walk e f ∙ ap (λ (t : TreeDraft). moved tree rest t.walk) e
+    → ◌≡◌ {A = TreeDraft} (record { draft = with_value held.draft (record draft { limits = rest }); claimed = held.claimed; walk = held.walk; unshown = held.unshown; sums = held.sums }) (rested tree rest)
+rested_back tree held draft rest e f = written_back tree held draft rest held.walk held.unshown e f ∙ ap (λ (t : TreeDraft). moved tree rest t.walk t.unshown) e
 
 module _ (tree : TreeDraft) (t : Trail) (rest : Rest) (woke : t ≡ trail_over tree.draft.value.base.instance tree.draft.value.limits)
     (back : trail_over t.limits.instance rest ≡ t) (over : IsRestOver t.limits.instance rest) where
   -- the walk stands where it stood
   pub stays : (fs : List Above) → IsAtNode tree fs → IsAtNode (rested tree rest) fs
-  stays fs node = at_node tree t t tree.walk rest woke refl back over refl refl fs fs node
-      (subst (λ x. IsAt (root_limits tree.draft.value.base.instance) x tree.walk fs) (sym woke) node.at)
+  stays fs node = at_node tree t t tree.walk rest woke refl back over refl refl tree.unshown fs fs node
+      (subst (λ x. IsAt (root_limits tree.draft.value.base.instance) x tree.walk fs) (sym woke) node.at) node.unshown
 
   -- the goal is that of the place
   pub goal_at : (is_closed : Bool) (goal : Goal) (fs : List Above) → IsAtNode tree fs → goal.form ≡ tree.draft.value.base.form → goal.bound ≡ tree.draft.value.bound → goal.unassigned ≡ unassigned_count tree.draft.value.plan → goal.is_closed ≡ is_closed
@@ -130,14 +130,14 @@ compared seen held tree same answer read test is = ap (λ (t : TreeDraft). same_
 
 -- the line is read, and the numbers are those that were claimed
 pub ends_whole : (tree : Box TreeDraft) (seen : TreeCounts) (ws : Words) → ws ≡ end_line → same_numbers seen tree.value.claimed ≡ true
-    → (held : TreeDraft) → held ≡ tree.value → IsStep (EndLine tree seen) ws (Whole (record { draft = held.draft; counts = seen }))
+    → (held : TreeDraft) → held ≡ tree.value → IsStep (EndLine tree seen) ws (Whole (record { draft = held.draft; counts = seen; unshown = held.unshown }))
 ends_whole tree seen ws is same held read = λ reading awaited.
     let b = draft_of tree.value.draft.value in
     let claimed = tree.value.claimed in
     let t = awaited.0 in
     let d = whole b t in
     let row : end_row b claimed t ws (Ends d) = Holds is (Holds (counted seen claimed t awaited.1 same) (Finish refl)) in
-    (d, subst (λ r. Says r ws (Ends d)) (sym awaited.2) row, record { tree = t; is = ap (λ (x : TreeDraft). whole (draft_of x.draft.value) t) (sym read); counts = awaited.1 })
+    (d, subst (λ r. Says r ws (Ends d)) (sym awaited.3) row, record { tree = t; is = ap (λ (x : TreeDraft). whole (draft_of x.draft.value) t) (sym read); counts = awaited.1; unshown = ap (λ (x : TreeDraft). x.unshown) read ∙ awaited.2 })
 
 pub ends_miscounted : (tree : Box TreeDraft) (seen : TreeCounts) (ws : Words) → ws ≡ end_line → same_numbers seen tree.value.claimed ≡ false
     → IsStep (EndLine tree seen) ws (No reasons.Count)
@@ -145,4 +145,4 @@ ends_miscounted tree seen ws is differ = λ reading awaited.
     let claimed = tree.value.claimed in
     let t = awaited.0 in
     let row : end_row (draft_of tree.value.draft.value) claimed t ws (Refuses reasons.Count) = Holds is (Fails (not_counted seen claimed t awaited.1 differ) refl) in
-    subst (λ r. Says r ws (Refuses reasons.Count)) (sym awaited.2) row
+    subst (λ r. Says r ws (Refuses reasons.Count)) (sym awaited.3) row

@@ -5,3 +5,4 @@ pub mod PlanRows
 pub mod TreeRows
 pub mod NodeRows
 pub mod LeafRows
+pub mod CauseRows

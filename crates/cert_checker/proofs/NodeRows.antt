@@ -1,5 +1,5 @@
 -- where a walk stands behind a line of a node, and the rows of the table for these lines
-use Rattle.std.proofs.Common.{◌≡◌, ◌≤◌, ◌<◌, ◌+◌, ℕ, List, ◌∷◌, length, Bool, true, false, ap, subst, sym, refl, ◌∙◌, arith}
+use Rattle.std.proofs.Common.{◌≡◌, ◌≤◌, ◌<◌, ◌+◌, ℕ, List, [], ◌∷◌, length, Bool, true, false, ap, subst, sym, refl, ◌∙◌, arith}
 use Rattle.std.specs.Prelude.{if◌then◌else◌, codes}
 use Rattle.std.specs.Global.{Box}
 use Rattle.std.specs.Box.{with_value}
@@ -7,9 +7,11 @@ use Rattle.std.proofs.lemmas.List.{length-map}
 use Rattle.crew_terms.specs.Words.{Words}
 use Rattle.crew_terms.specs.Limits.{Limits, root_limits}
 use Rattle.dossier_terms.specs.declared.Reason.TheVariants as reasons
-use Rattle.dossier_terms.specs.Dossier.{Leaf, Cause, NoCause}
-use Rattle.crew_terms.specs.Branches.{LeafNode, Claim, Bare, InFirst, closed, left_open, frame_sum}
-use Rattle.dossier_terms.specs.Lines.{window_line, pair_line, why_none_line, bare_line, open_line, closed_line}
+use Rattle.dossier_terms.specs.Causes.{Cause, NoCause, Loose, Overflowed, Spent, unshown_in}
+use Rattle.dossier_terms.specs.Counted.{unshown_fits}
+use Rattle.dossier_terms.specs.Dossier.{Leaf, Written, unshown}
+use Rattle.crew_terms.specs.Branches.{LeafNode, SplitNode, Claim, Bare, InFirst, InSecond, splits, closed, left_open, frame_sum}
+use Rattle.dossier_terms.specs.Lines.{window_line, pair_line, bare_line, open_line, closed_line}
 use Rattle.dossier_terms.specs.Reading.{Reading, Answer, More as Goes, No as Refuses, Nodes, Ends, Prices, node_done, split_done, choice_done, limits_below, Begun, Above}
 use Rattle.crew_terms.specs.declared.TreeCounts.{TreeCounts}
 use Rattle.crew_terms.specs.Tree.{CanSplit}
@@ -19,18 +21,16 @@ use Rattle.crew_terms.specs.declared.TheConstants.{LAST_MINUTE}
 use Rattle.dossier_terms.specs.Rules.{Holds, Fails, Spelled, Then, Else, On, Begins}
 use Rattle.dossier_terms.specs.Ranges.{IsCounts}
 use Rattle.dossier_terms.specs.Table.{Says}
-use Rattle.dossier_terms.specs.NodeTable.{node_row, why_row, after_bare, after_leaf, HasSplitRoom, after_split, split_fault}
+use Rattle.dossier_terms.specs.NodeTable.{node_row, after_bare, after_leaf, HasSplitRoom, after_split, split_fault}
 use Rattle.node_limits.specs.Trail.{Trail}
 use Rattle.node_limits.specs.Rest.{Rest, IsRestOver, trail_over}
 use Rattle.tree_walk.specs.Way.{Walked, IsAt, IsLeaf, LeavesLeaf, Enters, branch_of}
 use Rattle.cert_format.specs.Expected.{expect_of}
-use Rattle.cert_format.specs.Lines.{IsFaultOf, IsWhyLine}
-use Rattle.cert_format.specs.declared.kinds.LineKind.{LineKind}
-use Rattle.cert_format.specs.declared.kinds.LineKind.TheVariants as kinds
+use Rattle.cert_format.specs.Lines.{IsFaultOf}
 use Rattle.cert_format.specs.declared.kinds.Expect.TheVariants as expected
 use Rattle.cert_format.specs.declared.kinds.LineFault.{LineFault}
 use Rattle.leaf_check.specs.declared.reader.LeafReader.{LeafReader}
-use Rattle.cert_checker.specs.Due.{Awaits, HasLeafRoom, HasSplitLeft, IsAtNode, IsReaderFor, IsStep, Tells, draft_of}
+use Rattle.cert_checker.specs.Due.{Awaits, HasLeafRoom, HasSplitLeft, IsAtNode, IsReaderFor, IsStep, Tells, draft_of, unshown_above}
 use Rattle.cert_checker.specs.declared.due.BegunDossier.{BegunDossier as Held}
 use Rattle.cert_checker.specs.declared.due.TreeDraft.{TreeDraft}
 use Rattle.cert_checker.specs.declared.due.Due.TheVariants.{Node as NodeDue, End as EndDue}
@@ -39,18 +39,45 @@ use Rattle.cert_checker.proofs.Steps.{tells_row}
 
 -- ---- where a walk stands
 
--- the tree where the walk went on and the limits with it
-abbrev pub moved : TreeDraft → Rest → Walked → TreeDraft
-moved tree rest to = record { draft = with_value tree.draft (record tree.draft.value { limits = rest }); claimed = tree.claimed; walk = to }
+-- the tree where the walk went on and the limits with it, and so many splits have no cause that is shown
+abbrev pub moved : TreeDraft → Rest → Walked → ℕ → TreeDraft
+moved tree rest to unshown = record { draft = with_value tree.draft (record tree.draft.value { limits = rest }); claimed = tree.claimed; walk = to; unshown = unshown; sums = tree.sums }
 
 -- it is what is written back into its box and that of its draft
-pub written_back : (tree held : TreeDraft) (draft : Held) (rest : Rest) (to : Walked) → held ≡ tree → draft ≡ held.draft.value
-    → ◌≡◌ {A = TreeDraft} (record { draft = with_value held.draft (record draft { limits = rest }); claimed = held.claimed; walk = to }) (moved tree rest to)
-written_back tree held draft rest to e f =
-    ap (λ (d : Held). with_draft held d) f ∙ ap (λ (t : TreeDraft). moved t rest to) e
+pub written_back : (tree held : TreeDraft) (draft : Held) (rest : Rest) (to : Walked) (unshown : ℕ) → held ≡ tree → draft ≡ held.draft.value
+    → ◌≡◌ {A = TreeDraft} (record { draft = with_value held.draft (record draft { limits = rest }); claimed = held.claimed; walk = to; unshown = unshown; sums = held.sums }) (moved tree rest to unshown)
+written_back tree held draft rest to unshown e f =
+    ap (λ (d : Held). with_draft held d) f ∙ ap (λ (t : TreeDraft). moved t rest to unshown) e
   where
     with_draft : TreeDraft → Held → TreeDraft
-    with_draft t d = record { draft = with_value t.draft (record d { limits = rest }); claimed = t.claimed; walk = to }
+    with_draft t d = record { draft = with_value t.draft (record d { limits = rest }); claimed = t.claimed; walk = to; unshown = unshown; sums = t.sums }
+
+-- ---- of how many splits no cause is shown
+
+unshown_le : (c : Cause) → unshown_in c ≤ 1
+unshown_le NoCause = omega arith
+unshown_le (Loose now shares) = omega arith
+unshown_le (Overflowed now fault) = omega arith
+unshown_le (Spent now) = omega arith
+
+-- of no more than there are
+pub unshown_few : (fs : List Above) → unshown_above fs ≤ frame_sum splits 1 fs
+unshown_few [] = omega arith
+unshown_few (InFirst split ∷ fs) = let a = unshown_le split.cause in let b = unshown_few fs in omega arith
+unshown_few (InSecond split first ∷ fs) = let a = unshown_le split.cause in let b = unshown_few fs in let c = unshown_fits first in omega arith
+
+-- behind a whole node they are those above it and its own
+nodes_keep : (b : Begun) (c : TreeCounts) (fs : List Above) (t : Written) (gs : List Above) → node_done b c fs t ≡ Nodes b c gs → unshown_above gs ≡ unshown_above fs + unshown t
+nodes_keep b c [] t gs is = absurd (cc)
+nodes_keep b c (InFirst split ∷ above) t gs is =
+    let e : ◌≡◌ {A = List Above} (InSecond split t ∷ above) gs = cc in
+    subst (λ (g : List Above). unshown_above g ≡ unshown_in split.cause + unshown_above above + unshown t) e (omega arith)
+nodes_keep b c (InSecond split first ∷ above) t gs is = let h = nodes_keep b c above (SplitNode split first t) gs is in omega arith
+
+ends_keep : (b : Begun) (c : TreeCounts) (fs : List Above) (t w : Written) → node_done b c fs t ≡ Ends b c w → unshown w ≡ unshown_above fs + unshown t
+ends_keep b c [] t w is = let e : ◌≡◌ {A = Written} t w = cc in subst (λ (x : Written). unshown x ≡ 0 + unshown t) e (omega arith)
+ends_keep b c (InFirst split ∷ above) t w is = absurd (cc)
+ends_keep b c (InSecond split first ∷ above) t w is = let h = ends_keep b c above (SplitNode split first t) w is in omega arith
 
 -- limits that were taken out of the draft woke
 pub taken_woke : (tree held : TreeDraft) (draft : Held) (taken : Rest) (t : Trail) → held ≡ tree → draft ≡ held.draft.value → taken ≡ draft.limits
@@ -65,13 +92,13 @@ IsDueAt tree reader r = (above : List Above) × IsAtNode tree above × IsReaderF
 module _ (tree : TreeDraft) (old new : Trail) (to : Walked) (rest : Rest)
     (woke : old ≡ trail_over tree.draft.value.base.instance tree.draft.value.limits) (same : new.limits.instance ≡ old.limits.instance)
     (back : trail_over new.limits.instance rest ≡ new) (over : IsRestOver new.limits.instance rest)
-    (depth : to.depth ≡ tree.walk.depth) (room : new.spare + length to.above ≡ old.spare + length tree.walk.above) where
+    (depth : to.depth ≡ tree.walk.depth) (room : new.spare + length to.above ≡ old.spare + length tree.walk.above) (unshown : ℕ) where
   of_instance : new.limits.instance ≡ tree.draft.value.base.instance
   of_instance = same ∙ ap (λ (t : Trail). t.limits.instance) woke
 
   -- the limits at rest are those of the node where the walk stands
-  pub at_node : (fs gs : List Above) → IsAtNode tree fs → IsAt (root_limits tree.draft.value.base.instance) new to gs → IsAtNode (moved tree rest to) gs
-  at_node fs gs node at =
+  pub at_node : (fs gs : List Above) → IsAtNode tree fs → IsAt (root_limits tree.draft.value.base.instance) new to gs → unshown ≡ unshown_above gs → IsAtNode (moved tree rest to unshown) gs
+  at_node fs gs node at counted =
       let i = tree.draft.value.base.instance in
       let rested : rest.spare ≡ new.spare = ap (λ (t : Trail). t.spare) back in
       let had : old.spare ≡ tree.draft.value.limits.spare = ap (λ (t : Trail). t.spare) woke in
@@ -80,6 +107,8 @@ module _ (tree : TreeDraft) (old new : Trail) (to : Walked) (rest : Rest)
         claimed = node.claimed;
         depth = depth ∙ node.depth;
         spare = omega arith;
+        unshown = counted;
+        sums = node.sums;
         over = subst (λ x. IsRestOver x rest) of_instance over;
         at = subst (λ t. IsAt (root_limits i) t to gs) (sym (subst (λ x. trail_over x rest ≡ new) of_instance back)) at;
       }
@@ -88,32 +117,38 @@ module _ (tree : TreeDraft) (old new : Trail) (to : Walked) (rest : Rest)
   woken fs node = subst (λ t. IsAt (root_limits tree.draft.value.base.instance) t tree.walk fs) (sym woke) node.at
 
   -- past a leaf the walk stands at the node that is due
-  pub left_at : (box : Box TreeDraft) → box.value ≡ moved tree rest to → (reader : Box LeafReader) (is_closed : Bool) → LeavesLeaf is_closed old tree.walk new to false
+  pub left_at : (box : Box TreeDraft) → box.value ≡ moved tree rest to unshown → unshown ≡ tree.unshown → (reader : Box LeafReader) (is_closed : Bool) → LeavesLeaf is_closed old tree.walk new to false
       → IsReaderFor tree.draft.value.base.instance reader.value → (fs : List Above) (claim : Claim Leaf) → IsAtNode tree fs → IsLeaf is_closed claim
       → Awaits (NodeDue box reader) (node_done (draft_of tree.draft.value) tree.claimed fs (LeafNode claim))
-  left_at box is reader is_closed leaves for_tree fs claim node kind =
+  left_at box is same_unshown reader is_closed leaves for_tree fs claim node kind =
       let p = leaves (root_limits tree.draft.value.base.instance) fs claim (draft_of tree.draft.value) tree.claimed (woken fs node) kind in
-      subst (λ t. IsDueAt t reader (node_done (draft_of tree.draft.value) tree.claimed fs (LeafNode claim))) (sym is) (p.0, at_node fs p.0 node p.2, for_tree, p.1)
+      let kept : unshown_above p.0 ≡ unshown_above fs + 0 = nodes_keep (draft_of tree.draft.value) tree.claimed fs (LeafNode claim) p.0 p.1 in
+      let had = node.unshown in
+      subst (λ t. IsDueAt t reader (node_done (draft_of tree.draft.value) tree.claimed fs (LeafNode claim))) (sym is) (p.0, at_node fs p.0 node p.2 (omega arith), for_tree, p.1)
 
   -- below a split the walk stands in its first child
-  pub entered_at : (box : Box TreeDraft) → box.value ≡ moved tree rest to → (reader : Box LeafReader) (choice : Choice) → Enters choice old tree.walk new to
-      → IsReaderFor tree.draft.value.base.instance reader.value → (fs : List Above) (cause : Cause) → IsAtNode tree fs
+  pub entered_at : (box : Box TreeDraft) → box.value ≡ moved tree rest to unshown → (more : ℕ) → unshown ≡ tree.unshown + more → (reader : Box LeafReader) (choice : Choice) → Enters choice old tree.walk new to
+      → IsReaderFor tree.draft.value.base.instance reader.value → (fs : List Above) (cause : Cause) → IsAtNode tree fs → unshown_in cause ≡ more
       → Awaits (NodeDue box reader) (split_done (draft_of tree.draft.value) tree.claimed fs (record { choice = choice; cause = cause }))
-  entered_at box is reader choice enters for_tree fs cause node =
+  entered_at box is more grown reader choice enters for_tree fs cause node of_cause =
+      let had = node.unshown in
       let gs = InFirst (record { choice = choice; cause = cause }) ∷ fs in
       subst (λ t. IsDueAt t reader (Nodes (draft_of tree.draft.value) tree.claimed gs)) (sym is)
-      (gs, at_node fs gs node (enters (root_limits tree.draft.value.base.instance) fs cause (woken fs node)), for_tree, refl)
+      (gs, at_node fs gs node (enters (root_limits tree.draft.value.base.instance) fs cause (woken fs node)) (omega arith), for_tree, refl)
 
 -- past the last leaf the whole tree is seen
 pub ended_at : (tree : TreeDraft) (old new : Trail) (to : Walked) (rest : Rest) (box : Box TreeDraft) (seen : TreeCounts) (is_closed : Bool)
     → old ≡ trail_over tree.draft.value.base.instance tree.draft.value.limits → LeavesLeaf is_closed old tree.walk new to true
-    → box.value ≡ moved tree rest to → seen ≡ to.seen
+    → box.value ≡ moved tree rest to tree.unshown → seen ≡ to.seen
     → (fs : List Above) (claim : Claim Leaf) → IsAtNode tree fs → IsLeaf is_closed claim
     → Awaits (EndDue box seen) (node_done (draft_of tree.draft.value) tree.claimed fs (LeafNode claim))
 ended_at tree old new to rest box seen is_closed woke leaves is saw fs claim node kind =
     let at : IsAt (root_limits tree.draft.value.base.instance) old tree.walk fs = subst (λ t. IsAt (root_limits tree.draft.value.base.instance) t tree.walk fs) (sym woke) node.at in
     let p = leaves (root_limits tree.draft.value.base.instance) fs claim (draft_of tree.draft.value) tree.claimed at kind in
-    (p.0, saw ∙ p.2.seen, p.1 ∙ ap (λ (t : TreeDraft). Ends (draft_of t.draft.value) t.claimed p.0) (sym is))
+    let kept : unshown p.0 ≡ unshown_above fs + 0 = ends_keep (draft_of tree.draft.value) tree.claimed fs (LeafNode claim) p.0 p.1 in
+    let had = node.unshown in
+    let same : tree.unshown ≡ unshown p.0 = omega arith in
+    (p.0, saw ∙ p.2.seen, ap (λ (t : TreeDraft). t.unshown) is ∙ same, p.1 ∙ ap (λ (t : TreeDraft). Ends (draft_of t.draft.value) t.claimed p.0) (sym is))
 
 -- the limits that woke are those of the node
 pub limits_at : (tree : TreeDraft) (t : Trail) (fs : List Above) → t ≡ trail_over tree.draft.value.base.instance tree.draft.value.limits → IsAtNode tree fs
@@ -163,9 +198,6 @@ module _ (b : Begun) (c : TreeCounts) (fs : List Above) where
       → after_split b c fs choice (Goes next)
   split_more choice n next same room can is = Holds room (Holds (subst (λ m. CanSplit m choice) same can) (On (ap Goes (sym is))))
 
-  pub why_more : (choice : Choice) (ws : Words) → ws ≡ why_none_line → why_row b c fs choice ws (Goes (split_done b c fs (record { choice = choice; cause = NoCause })))
-  why_more choice ws is = Holds is (On refl)
-
   pub bare_no_room : (HasLeafRoomIn c fs false → ⊥) → after_bare b c fs (Refuses reasons.Count)
   bare_no_room broken = Fails broken refl
 
@@ -181,11 +213,6 @@ module _ (b : Begun) (c : TreeCounts) (fs : List Above) where
   pub leaf_more : (is_closed : Bool) → HasLeafRoomIn c fs is_closed
       → after_leaf b c fs is_closed (Goes (Prices (record { begun = b; counts = c; above = fs; is_closed = is_closed })))
   leaf_more is_closed room = Holds room (On refl)
-
--- the line of a cause that is none
-pub why_is : (ws : Words) (kind : LineKind) → IsWhyLine ws kind → ws ≡ why_none_line
-why_is ws kinds.WhyNone h = h
-why_is ws _ h = absurd h
 
 -- ---- the rows of the table
 

@@ -7,7 +7,9 @@ use Rattle.dossier_terms.specs.declared.Reason.{Reason}
 use Rattle.dossier_terms.specs.declared.Reason.TheVariants as reasons
 use Rattle.dossier_terms.specs.Dossier.{Dossier, IsGood, unshown}
 use Rattle.crew_terms.specs.Branches.{splits, closed, left_open}
-use Rattle.dossier_terms.specs.Reading.{Reading, Form, Nodes, Whys, Prices, Extras, Worths, Phis, Ends as EndDue, Answer, More as Goes, Whole as Ends, No as Refuses}
+use Rattle.crew_terms.specs.Limits.{root_limits}
+use Rattle.cause_laws.specs.Shown.{EachStaysOpen}
+use Rattle.dossier_terms.specs.Reading.{Reading, Form, Nodes, Whys, Parts, Spares, Prices, Extras, Worths, Phis, Ends as EndDue, Answer, More as Goes, Whole as Ends, No as Refuses}
 use Rattle.dossier_terms.specs.Table.{Says, Reaches}
 use Rattle.head_check.specs.declared.due.HeadDue.TheVariants as heads
 use Rattle.cert_checker.specs.Due.{Awaits, IsEndOf}
@@ -42,7 +44,9 @@ IsDueAt states.Spent reading = ⊥
 -- a line behind the line `tree` of a dossier is due
 abbrev pub IsPastTree : Reading → Type 0
 IsPastTree (Nodes b c above) = Unit {0}
-IsPastTree (Whys b c above choice) = Unit {0}
+IsPastTree (Whys p) = Unit {0}
+IsPastTree (Parts p now read left from) = Unit {0}
+IsPastTree (Spares p now read) = Unit {0}
 IsPastTree (Prices a) = Unit {0}
 IsPastTree (Extras a leaf j js) = Unit {0}
 IsPastTree (Worths a leaf k) = Unit {0}
@@ -97,11 +101,12 @@ pub record IsJudged (lines : ℕ) (due : Reading) (words : Words) (said : Said) 
   pub stands : StandsAfter (lines + 1) answer new.at
 
 -- a good dossier is what it says: its plan is legal, and every legal plan of its instance leaves at least its bound
--- unassigned
+-- unassigned. No prices could have closed a node whose split has a loose cause
 pub record IsTrueYes (d : Dossier) : Type 0 where
   pub good : IsGood d
   pub legal : IsLegal d.instance d.plan
   pub bound : (p : Plan) → IsLegal d.instance p → d.bound ≤ unassigned_count p
+  pub stays_open : EachStaysOpen (root_limits d.instance) d.tree
 
 -- ---- where no line comes
 

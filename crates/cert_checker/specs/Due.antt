@@ -1,12 +1,15 @@
 -- what the checker keeps stands for what has been read of a dossier
-use Rattle.std.specs.Prelude.{◌≡◌, ◌≤◌, ◌<◌, ◌+◌, List, [], Bool, length}
+use Rattle.std.specs.Prelude.{◌≡◌, ◌≤◌, ◌<◌, ◌+◌, ◌^◌, ℕ, List, [], ◌∷◌, Bool, length, map, All}
 use Rattle.crew_terms.specs.Words.{Words}
 use Rattle.crew_terms.specs.Instance.{Instance}
-use Rattle.crew_terms.specs.Limits.{Limits as NodeLimits, root_limits}
+use Rattle.crew_terms.specs.Limits.{Limits as NodeLimits, Route as TeamRoute, root_limits}
+use Rattle.crew_terms.specs.Branches.{InFirst, InSecond}
 use Rattle.crew_terms.specs.Verdict.{IsPlanOf}
-use Rattle.dossier_terms.specs.Dossier.{Dossier, Written}
-use Rattle.dossier_terms.specs.Reading.{Reading, Answer, More as Goes, Whole as Ends, No as Refuses, whole, limits_of, limits_below, Pools, Routes, Plans, Jobs, Trees, Nodes, Whys, Ends as EndDue, Begun as Read, Above, LeafSite}
-use Rattle.dossier_terms.specs.Ranges.{IsCounts}
+use Rattle.search_terms.specs.Shares.{Share as ShareOf, IsRouteIn}
+use Rattle.dossier_terms.specs.Causes.{Shares, share_of, unshown_in}
+use Rattle.dossier_terms.specs.Dossier.{Dossier, Written, unshown}
+use Rattle.dossier_terms.specs.Reading.{Reading, Answer, More as Goes, Whole as Ends, No as Refuses, whole, limits_of, limits_below, Pools, Routes, Plans, Jobs, Trees, Nodes, Whys, Parts, Spares, Ends as EndDue, Begun as Read, Above, LeafSite, SplitSite}
+use Rattle.dossier_terms.specs.Ranges.{IsCounts, IsNowWord}
 use Rattle.dossier_terms.specs.Table.{Says}
 use Rattle.node_limits.specs.Rest.{Rest, IsRestOver, limits_over, trail_over}
 use Rattle.head_check.specs.Head.{Holds as HoldsHead, IsLineDue, reading_of}
@@ -16,12 +19,14 @@ use Rattle.crew_terms.specs.Tree.{CanSplit}
 use Rattle.crew_terms.specs.declared.Choice.{Choice}
 use Rattle.crew_terms.specs.declared.Choice.TheVariants as choices
 use Rattle.dossier_terms.specs.Lines.{counts_of}
+use Rattle.share_check.specs.Summed.{HasRoom, IsSharesOf}
 use Rattle.tree_walk.specs.Way.{IsAt, leaves_like}
 use Rattle.cert_checker.specs.declared.due.BegunDossier.{BegunDossier}
 use Rattle.cert_checker.specs.declared.due.TreeDraft.{TreeDraft}
 use Rattle.cert_checker.specs.declared.due.EndedDossier.{EndedDossier}
+use Rattle.cert_checker.specs.declared.due.LooseDraft.{LooseDraft}
 use Rattle.cert_checker.specs.declared.due.Due.{Due}
-use Rattle.cert_checker.specs.declared.due.Due.TheVariants.{Head, Pool, Route, Plan, Job, Tree, Node, Why, Leaf, End}
+use Rattle.cert_checker.specs.declared.due.Due.TheVariants.{Head, Pool, Route, Plan, Job, Tree, Node, Why, Share, Spare, Leaf, End}
 use Rattle.cert_checker.specs.declared.due.Step.{Step}
 use Rattle.cert_checker.specs.declared.due.Step.TheVariants.{More, Whole, No}
 
@@ -39,13 +44,22 @@ pub record IsBegun (b : BegunDossier) : Type 0 where
   pub plan : IsPlanOf b.base.instance b.plan
   pub root : IsRoot b.base.instance b.limits
 
--- the walk stands at the node below these splits, the limits are its, and both have room as deep as is claimed
+-- of how many of the splits above a node, and of those in their first children that are whole, no cause is shown
+abbrev pub unshown_above : List Above → ℕ
+unshown_above [] = 0
+unshown_above (InFirst split ∷ above) = unshown_in split.cause + unshown_above above
+unshown_above (InSecond split first ∷ above) = unshown_in split.cause + unshown first + unshown_above above
+
+-- the walk stands at the node below these splits, the limits are its, and both have room as deep as is claimed; the splits so
+-- far of which no cause is shown are counted, and there is room for the shares of one more cause
 pub record IsAtNode (tree : TreeDraft) (above : List Above) : Type 0 where
   pub claimed : IsCounts tree.claimed
   pub over : IsRestOver tree.draft.value.base.instance tree.draft.value.limits
   pub at : IsAt (root_limits tree.draft.value.base.instance) (trail_over tree.draft.value.base.instance tree.draft.value.limits) tree.walk above
   pub depth : tree.walk.depth ≡ tree.claimed.depth
   pub spare : tree.claimed.depth ≤ tree.draft.value.limits.spare + length tree.walk.above
+  pub unshown : tree.unshown ≡ unshown_above above
+  pub sums : HasRoom (root_limits tree.draft.value.base.instance) tree.sums
 
 -- the walk stands at a node
 abbrev pub IsInTree : TreeDraft → Type 0
@@ -70,6 +84,29 @@ pub record MaySplit (tree : TreeDraft) (choice : Choice) (above : List Above) : 
   pub node : IsAtNode tree above
   pub room : HasSplitLeft tree
   pub split : CanSplit (limits_below (root_limits tree.draft.value.base.instance) above) choice
+
+-- where the node below these splits is split so
+abbrev pub split_site : TreeDraft → List Above → Choice → SplitSite
+split_site tree above choice = record { begun = draft_of tree.draft.value; counts = tree.claimed; above = above; choice = choice }
+
+-- the shares that are read of a cause
+abbrev pub shares_in : List TeamRoute → Shares → List ShareOf
+shares_in pool read = map (share_of pool) read.parts
+
+-- so much is read of the loose cause of the node's split: the shares are of routes in the node, before its split, and their
+-- sums are kept
+pub record IsInLoose (tree : TreeDraft) (loose : LooseDraft) (read : Shares) (above : List Above) : Type 0 where
+  pub may : MaySplit tree loose.choice above
+  pub now : IsNowWord (length tree.draft.value.base.instance.tasks) loose.now
+  pub some : 1 ≤ loose.whole
+  pub few : loose.whole < 2 ^ 127
+  pub whole : read.whole ≡ loose.whole
+  pub routes : All (λ (s : ShareOf). IsRouteIn (limits_below (root_limits tree.draft.value.base.instance) above) s.route) (shares_in tree.draft.value.pool read)
+  pub sums : IsSharesOf (limits_below (root_limits tree.draft.value.base.instance) above) loose.whole (shares_in tree.draft.value.pool read) tree.sums
+
+-- the same of some shares
+abbrev pub IsLooseRead : TreeDraft → LooseDraft → Type 0
+IsLooseRead tree loose = (above : List Above) × (read : Shares) × IsInLoose tree loose read above
 
 abbrev pub HasLeafRoom : TreeDraft → Bool → Type 0
 HasLeafRoom tree is_closed = leaves_like is_closed tree.walk.seen < leaves_like is_closed tree.claimed
@@ -96,14 +133,20 @@ Awaits (Job b more from) r = IsBegun b.value × (r ≡ Jobs (draft_of b.value) m
 Awaits (Tree b) r = IsRoot b.value.base.instance b.value.limits × (r ≡ Trees (draft_of b.value))
 Awaits (Node tree reader) r = (above : List Above) × IsAtNode tree.value above × IsReaderFor tree.value.draft.value.base.instance reader.value × (r ≡ Nodes (draft_of tree.value.draft.value) tree.value.claimed above)
 Awaits (Why tree reader choice) r = (above : List Above) × MaySplit tree.value choice above × IsReaderFor tree.value.draft.value.base.instance reader.value
-    × (r ≡ Whys (draft_of tree.value.draft.value) tree.value.claimed above choice)
+    × (r ≡ Whys (split_site tree.value above choice))
+Awaits (Share tree reader loose more from) r = (above : List Above) × (read : Shares) × IsInLoose tree.value loose read above × IsReaderFor tree.value.draft.value.base.instance reader.value
+    × (r ≡ Parts (split_site tree.value above loose.choice) loose.now read more from)
+Awaits (Spare tree reader loose) r = (above : List Above) × (read : Shares) × IsInLoose tree.value loose read above × IsReaderFor tree.value.draft.value.base.instance reader.value
+    × (r ≡ Spares (split_site tree.value above loose.choice) loose.now read)
 Awaits (Leaf tree reader is_closed) r = (above : List Above) × IsInLeaf tree.value reader.value is_closed above r
-Awaits (End tree seen) r = (t : Written) × (seen ≡ counts_of t) × (r ≡ EndDue (draft_of tree.value.draft.value) tree.value.claimed t)
+Awaits (End tree seen) r = (t : Written) × (seen ≡ counts_of t) × (tree.value.unshown ≡ unshown t) × (r ≡ EndDue (draft_of tree.value.draft.value) tree.value.claimed t)
 
 -- the line that is due is one of a tree
 abbrev pub IsOfTree : Due → Type 0
 IsOfTree (Node tree reader) = Unit {0}
 IsOfTree (Why tree reader choice) = Unit {0}
+IsOfTree (Share tree reader loose more from) = Unit {0}
+IsOfTree (Spare tree reader loose) = Unit {0}
 IsOfTree (Leaf tree reader is_closed) = Unit {0}
 IsOfTree (End tree seen) = Unit {0}
 IsOfTree _ = ⊥
@@ -117,6 +160,7 @@ pub record IsEndOf (ended : EndedDossier) (d : Dossier) : Type 0 where
   pub tree : Written
   pub is : d ≡ whole (draft_of ended.draft.value) tree
   pub counts : ended.counts ≡ counts_of tree
+  pub unshown : ended.unshown ≡ unshown tree
 
 -- the step is what these rules say, and what is kept stands for what they lead to
 abbrev pub Tells : (Answer → Type 0) → Step → Type 0

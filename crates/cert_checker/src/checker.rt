@@ -97,8 +97,7 @@ fn whole_verdict(ended: &EndedDossier) -> Verdict
         splits: ended.counts.splits,
         closed: ended.counts.closed,
         left_open: ended.counts.left_open,
-        // So far no split's cause is shown.
-        unshown: ended.counts.splits,
+        unshown: ended.unshown,
     }
 }
 

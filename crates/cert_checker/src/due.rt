@@ -7,6 +7,7 @@ use head_check::{Base, HeadDue};
 use leaf_check::LeafReader;
 use node_limits::Held;
 use route_pool::Pool;
+use share_check::ShareSums;
 use tree_walk::Walk;
 
 /// A dossier without its tree. The routes of the pool and the jobs of the plan may not all be read yet.
@@ -35,6 +36,21 @@ pub struct TreeDraft {
     pub claimed: TreeCounts,
     /// The way to the node that is due, and the numbers of what came before it.
     pub walk: Walk,
+    /// Of how many of the splits so far no cause is shown.
+    pub unshown: u32,
+    /// The sums of the shares of the cause that is being read.
+    pub sums: ShareSums,
+}
+
+/// A loose cause of a split, as its first line has it.
+#[derive(Clone, Copy)]
+pub struct LooseDraft {
+    /// How the node is split.
+    pub choice: Choice,
+    /// How many tasks the plan left unassigned.
+    pub now: u32,
+    /// Of how many parts is one share.
+    pub whole: u128,
 }
 
 /// A whole dossier: all but its tree, of which it has the numbers.
@@ -44,6 +60,8 @@ pub struct EndedDossier {
     pub draft: Box<BegunDossier>,
     /// The numbers of the tree.
     pub counts: TreeCounts,
+    /// Of how many of its splits no cause is shown.
+    pub unshown: u32,
 }
 
 /// The line that is due, with what was read; `more` lines of its kind come after it.
@@ -86,6 +104,21 @@ pub enum Due {
         tree: Box<TreeDraft>,
         reader: Box<LeafReader>,
         choice: Choice,
+    },
+    /// A line `share` of a loose cause.
+    Share {
+        tree: Box<TreeDraft>,
+        reader: Box<LeafReader>,
+        loose: LooseDraft,
+        more: u64,
+        /// The least column that the line may be of: the one after that of the line before.
+        from: u64,
+    },
+    /// The line `spare` of a loose cause.
+    Spare {
+        tree: Box<TreeDraft>,
+        reader: Box<LeafReader>,
+        loose: LooseDraft,
     },
     /// A line of a leaf that has prices: `price`, `extra`, `worth`, and `phi` or `steps`.
     Leaf {

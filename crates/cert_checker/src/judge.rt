@@ -4,9 +4,10 @@ ghost use Rattle.std.specs.Prelude.{IfOk, IsOk};
 ghost use Rattle.head_check.specs.Head.{Holds as HoldsHead, IsLineDue, reading_of};
 ghost use Rattle.cert_checker.specs.Due.{Awaits, IsAwaited, IsOfTree, IsStep};
 
+use crate::cause::{share_line, spare_line, why_line};
 use crate::due::{Due, Step};
 use crate::leaf::{end_line, number_line};
-use crate::node::{node_line, why_line};
+use crate::node::node_line;
 use crate::plan::{job_line, plan_line};
 use crate::pool::{pool_line, route_line};
 use crate::tree::tree_line;
@@ -60,6 +61,18 @@ pub fn judge(alloc: Global, due: Due, words: LineWords<'_>) -> Result<Step, Allo
             reader,
             choice,
         } => Ok(why_line(alloc, tree, reader, choice, words)),
+        Due::Share {
+            tree,
+            reader,
+            loose,
+            more,
+            from,
+        } => Ok(share_line(alloc, tree, reader, loose, more, from, words)),
+        Due::Spare {
+            tree,
+            reader,
+            loose,
+        } => Ok(spare_line(alloc, tree, reader, loose, words)),
         Due::Leaf {
             tree,
             reader,

@@ -58,10 +58,13 @@ pub fn end_line(tree: Box<TreeDraft>, seen: TreeCounts, words: LineWords<'_>) ->
             draft,
             claimed: _,
             walk: _,
+            unshown,
+            sums: _,
         } = Box::into_inner(tree);
         Step::Whole(EndedDossier {
             draft,
             counts: seen,
+            unshown,
         })
     } else {
         Step::No(Reason::Count)

@@ -1,6 +1,7 @@
 // The checker: it is given the lines of dossiers, one after another, and says of each what the table of lines says.
 #![tactic(auto)]
 
+mod cause;
 pub mod checker;
 mod due;
 mod judge;

@@ -1,8 +1,9 @@
-// The lines of nodes: `window`, `pair` and `leaf`, and the line `why` of a split.
-ghost use Rattle.std.specs.Prelude.{◌≡◌, ◌<◌, ◌↔◌, List, IsTrue};
+// The lines of nodes: `window`, `pair` and `leaf`.
+ghost use Rattle.std.specs.Prelude.{◌≡◌, ◌<◌, ◌↔◌, List, IsTrue, if◌then◌else◌};
 ghost use Rattle.crew_terms.specs.Limits.{tasks_in, teams_in};
 ghost use Rattle.crew_terms.specs.Branches.{LeafNode, Claim};
-ghost use Rattle.dossier_terms.specs.Dossier.{Cause, Leaf};
+ghost use Rattle.dossier_terms.specs.Causes.{Cause, unshown_in};
+ghost use Rattle.dossier_terms.specs.Dossier.{Leaf};
 ghost use Rattle.dossier_terms.specs.Reading.{node_done, split_done, Above};
 ghost use Rattle.crew_terms.specs.Tree.{CanSplit, IsFreePair};
 ghost use Rattle.tree_walk.specs.Way.{IsLeaf};
@@ -95,16 +96,24 @@ fn split_fault(choice: Choice) -> Reason
     }
 }
 
-/// What is due behind a split of the node that is due: its first child.
-fn first_child(
+/// 1 of a split whose cause is not shown.
+fn unshown_by(is_shown: bool) -> u32
+    ensures { result ≡ (if is_shown then 0 else 1) }
+{
+    if is_shown { 0 } else { 1 }
+}
+
+/// What is due behind a split of the node that is due, whose cause is shown or not: its first child.
+pub fn first_child(
     alloc: Global,
     mut tree: Box<TreeDraft>,
     reader: Box<LeafReader>,
     choice: Choice,
+    is_shown: bool,
 ) -> Due
     requires split { (fs : List Above) × MaySplit tree.value choice fs }
     requires reader { IsReaderFor tree.value.draft.value.base.instance reader.value }
-    ensures { (fs : List Above) (cause : Cause) → IsAtNode tree.value fs
+    ensures { (fs : List Above) (cause : Cause) → IsAtNode tree.value fs → unshown_in cause ≡ (if is_shown then 0 else 1)
         → Awaits result (split_done (draft_of tree.value.draft.value) tree.value.claimed fs (record { choice = choice; cause = cause })) }
 {
     let held = &mut *tree;
@@ -112,6 +121,7 @@ fn first_child(
     let mut limits = Limits::wake(&draft.base.instance, draft.limits.take(alloc));
     held.walk.enter(&mut limits, choice);
     draft.limits = limits.rest();
+    held.unshown += unshown_by(is_shown);
     Due::Node { tree, reader }
 }
 
@@ -138,31 +148,13 @@ fn split_line(
     }
     draft.limits = limits.rest();
     match form {
-        DossierForm::One => Step::More(first_child(alloc, tree, reader, choice)),
+        DossierForm::One => Step::More(first_child(alloc, tree, reader, choice, false)),
         DossierForm::Two => Step::More(Due::Why {
             tree,
             reader,
             choice,
         }),
     }
-}
-
-/// The line `why` of a node that is split so.
-pub fn why_line(
-    alloc: Global,
-    tree: Box<TreeDraft>,
-    reader: Box<LeafReader>,
-    choice: Choice,
-    words: LineWords<'_>,
-) -> Step
-    requires { IsAwaited (Due.Why tree reader choice) }
-    ensures { IsStep (Due.Why tree reader choice) words.entry result }
-{
-    fault_is_refused();
-    if let Err(fault) = read_line(Expect::Why, words) {
-        return Step::No(fault.reason());
-    }
-    Step::More(first_child(alloc, tree, reader, choice))
 }
 
 /// The line `leaf bare`.

@@ -13,6 +13,7 @@ use dossier_terms::Reason;
 use field_table::LineWords;
 use leaf_check::LeafReader;
 use node_limits::Limits;
+use share_check::ShareSums;
 use std::alloc::{AllocError, Global};
 use tree_walk::Walk;
 
@@ -35,7 +36,7 @@ fn fault_of_tree(draft: &BegunDossier, claimed: TreeCounts) -> Option<Reason>
 }
 
 /// What is due behind the line `tree`: the root of the tree. All memory is taken that the lines of the tree want: for the
-/// splits above a node, as deep as is claimed, and for the numbers of a leaf.
+/// splits above a node, as deep as is claimed, for the numbers of a leaf, and for the sums of a cause's shares.
 fn begin_tree(
     alloc: Global,
     mut draft: Box<BegunDossier>,
@@ -50,6 +51,7 @@ fn begin_tree(
     let mut limits = Limits::wake(&held.base.instance, held.limits.take(alloc));
     limits.reserve(depth)?;
     let opened = LeafReader::open(alloc, &limits)?;
+    let sums = ShareSums::open(alloc, &limits)?;
     held.limits = limits.rest();
     let reader = Box::new(alloc, opened)?;
     let walk = Walk::open(alloc, depth)?;
@@ -57,6 +59,8 @@ fn begin_tree(
         draft,
         claimed,
         walk,
+        unshown: 0,
+        sums,
     };
     let tree = Box::new(alloc, tree)?;
     Ok(Due::Node { tree, reader })

@@ -6,7 +6,7 @@ use Rattle.std.proofs.lemmas.Slice.Eq.{bytes_eq-Decides}
 use Rattle.std.proofs.lemmas.Bool.{cases_Bool}
 use Rattle.crew_terms.specs.Words.{Words}
 use Rattle.dossier_terms.specs.Rules.{Holds, Fails, Unspelled, Then, Else, IsShape, Begins}
-use Rattle.dossier_terms.specs.Reading.{Reading, Answer, No as Refuses, Form, Sizes, Places, Travels, Teams, Tasks, Frozens, Keeps, Pools, Routes, Plans, Jobs, Trees, Nodes, Whys, Prices, Extras, Worths, Phis, Ends, limits_of}
+use Rattle.dossier_terms.specs.Reading.{Reading, Answer, No as Refuses, Form, Sizes, Places, Travels, Teams, Tasks, Frozens, Keeps, Pools, Routes, Plans, Jobs, Trees, Nodes, Whys, Parts, Spares, Prices, Extras, Worths, Phis, Ends, limits_of}
 use Rattle.dossier_terms.specs.declared.DossierForm.{DossierForm}
 use Rattle.dossier_terms.specs.declared.DossierForm.TheVariants.{One, Two}
 use Rattle.dossier_terms.specs.LeafTable.{potentials_row}
@@ -15,10 +15,11 @@ use Rattle.std.specs.List.{flat_map}
 use Rattle.crew_terms.specs.Limits.{Limits}
 use Rattle.crew_terms.specs.Minutes.{minute_count}
 use Rattle.cert_format.specs.Fields.{visit_numbers, run_numbers}
-use Rattle.cert_format.specs.Lines.{IsFaultOf, HasNodeShape, WindowShape, PairShape, BareShape, OpenShape, ClosedShape}
+use Rattle.cert_format.specs.Lines.{IsFaultOf, HasNodeShape, WindowShape, PairShape, BareShape, OpenShape, ClosedShape, HasWhyShape, NoneShape, LooseShape, OverflowShape, SpentShape}
 use Rattle.cert_format.specs.declared.kinds.LineKind.TheVariants as kinds
 use Rattle.cert_format.specs.declared.kinds.LineFault.{LineFault}
 use Rattle.cert_format.specs.declared.kinds.LineFault.TheVariants.{Shape, Number, Name}
+use Rattle.cert_format.proofs.CauseLines.{begins_why, one_why}
 use Rattle.cert_format.specs.Expected.{expect_of, potentials_expect, reason_for}
 
 -- whether a line begins with a word
@@ -123,9 +124,33 @@ fault_says (Nodes b c above) ws Number h = at h.0
     at (OpenShape e) = absurd (h.2 kinds.LeafOpen e)
     at (ClosedShape e) = absurd (h.2 kinds.LeafClosed e)
 fault_says (Nodes b c above) ws Name h = absurd (h.1 tt)
-fault_says (Whys b c above choice) ws Shape h = Fails h refl
-fault_says (Whys b c above choice) ws Number h = absurd (h.2 kinds.WhyNone h.0)
-fault_says (Whys b c above choice) ws Name h = absurd (h.1 tt)
+fault_says (Whys p) ws Shape h = elim (begins_why (codes "loose") ws) [
+  | inl w ↦ Then w (Fails (λ s. h (LooseShape s)) refl)
+  | inr w ↦ Else w (elim (begins_why (codes "overflow") ws) [
+    | inl o ↦ Then o (Fails (λ s. h (OverflowShape s)) refl)
+    | inr o ↦ Else o (elim (begins_why (codes "spent") ws) [
+      | inl s ↦ Then s (Fails (λ z. h (SpentShape z)) refl)
+      | inr s ↦ Else s (Fails (λ e. h (NoneShape e)) refl)
+    ])
+  ])
+]
+fault_says (Whys p) ws Number h = at h.0
+  where
+    at : HasWhyShape ws → Says (Whys p) ws (Refuses (reason_for Number))
+    at (NoneShape e) = absurd (h.2 kinds.WhyNone e)
+    at (LooseShape s) = Then (s.0, s.1) (Holds s (Unspelled (λ z fits is. h.2 (kinds.WhyLoose z.0 z.1 z.2) (fits, is)) refl))
+    at (OverflowShape s) = Else (λ b. one_why (codes "loose") (codes "overflow") ws (λ e. omega arith) b (_, s.4))
+        (Then (_, s.4) (Holds s (Unspelled (λ z fits is. h.2 (kinds.WhyOverflow z.0 z.1) (fits, is)) refl)))
+    at (SpentShape s) = Else (λ b. one_why (codes "loose") (codes "spent") ws (λ e. omega arith) b (s.0, s.1))
+        (Else (λ b. one_why (codes "overflow") (codes "spent") ws (λ e. omega arith) b (s.0, s.1))
+        (Then (s.0, s.1) (Holds s (Unspelled (λ now fits is. h.2 (kinds.WhySpent now) (fits, is)) refl))))
+fault_says (Whys p) ws Name h = absurd (h.1 tt)
+fault_says (Parts p now read left from) ws Shape h = Fails h refl
+fault_says (Parts p now read left from) ws Number h = Holds h.0 (Unspelled (λ part fits is. h.2 (kinds.Share part.column part.parts) (read.whole, refl, record { known = fits.known; some = fits.some; most = fits.most }, is)) refl)
+fault_says (Parts p now read left from) ws Name h = absurd (h.1 tt)
+fault_says (Spares p now read) ws Shape h = Fails h refl
+fault_says (Spares p now read) ws Number h = Holds h.0 (Unspelled (λ spare fits is. h.2 (kinds.Spare spare) (read.whole, refl, fits, is)) refl)
+fault_says (Spares p now read) ws Name h = absurd (h.1 tt)
 fault_says (Prices a) ws Shape h = Fails h refl
 fault_says (Prices a) ws Number h = Holds h.0 (Unspelled (λ vs fits is. h.2 (kinds.Price vs) (fits, is)) refl)
 fault_says (Prices a) ws Name h = absurd (h.1 tt)

@@ -1,4 +1,6 @@
 pub mod Fields
+pub mod WideWords
+pub mod CauseLines
 pub mod Names
 pub mod Rests
 pub mod Visits

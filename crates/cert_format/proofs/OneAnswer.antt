@@ -24,12 +24,13 @@ use Rattle.cert_format.specs.declared.kinds.LineKind.{LineKind}
 use Rattle.cert_format.specs.declared.kinds.LineKind.TheVariants as kinds
 use Rattle.cert_format.specs.declared.kinds.LineFault.{LineFault}
 use Rattle.cert_format.specs.declared.kinds.LineFault.TheVariants.{Shape, Number, Name}
-use Rattle.cert_format.specs.Lines.{IsFormLine, IsSizeLine, IsFrozenLine, IsKeepLine, IsWhyLine, IsStepsOf, IsPlaceLine, IsTimesLine, IsTeamOf, IsTaskOf, IsPoolLine, IsRouteOf, IsPlanLine, IsJobLine, IsTreeLine, IsNodeLine, IsPriceLine, IsExtraLine, IsWorthLine, IsPhiLine, IsEndLine, IsLineOf, WindowShape, PairShape, BareShape, OpenShape, ClosedShape, HasShape, HasNames, IsFaultOf, ReadsLine}
+use Rattle.cert_format.specs.Lines.{IsFormLine, IsSizeLine, IsFrozenLine, IsKeepLine, IsStepsOf, IsPlaceLine, IsTimesLine, IsTeamOf, IsTaskOf, IsPoolLine, IsRouteOf, IsPlanLine, IsJobLine, IsTreeLine, IsNodeLine, IsPriceLine, IsExtraLine, IsWorthLine, IsPhiLine, IsEndLine, IsLineOf, WindowShape, PairShape, BareShape, OpenShape, ClosedShape, HasShape, HasNames, IsFaultOf, ReadsLine}
 use Rattle.cert_format.specs.Fields.{visit_numbers, run_numbers}
 use Rattle.cert_format.specs.Counts.{HasCounts}
 use Rattle.cert_format.proofs.LeafLines.{price_fits, worth_fits}
 use Rattle.cert_format.proofs.Visits.{visits_map}
 use Rattle.cert_format.proofs.Runs.{runs_signed, runs_fit}
+use Rattle.cert_format.proofs.CauseLines.{why_one, share_one, spare_one, why_shape}
 
 -- ---- numbers have one spelling
 
@@ -255,11 +256,6 @@ node_one teams tasks ws kinds.LeafOpen _ some few h g = absurd g
 node_one teams tasks ws kinds.LeafClosed _ some few h g = absurd g
 node_one teams tasks ws _ _ some few h g = absurd h
 
-why_one : (ws : Words) (a b : LineKind) → IsWhyLine ws a → IsWhyLine ws b → a ≡ b
-why_one ws kinds.WhyNone kinds.WhyNone h g = refl
-why_one ws kinds.WhyNone _ h g = absurd g
-why_one ws _ _ h g = absurd h
-
 signed_list : (us vs : List ℤ) → AllByRecursion (FitsSigned w64) us → AllByRecursion (FitsSigned w64) vs → map signed_decimal us ≡ map signed_decimal vs → us ≡ vs
 signed_list [] [] a b e = refl
 signed_list [] (v ∷ vs) a b e = absurd cc
@@ -331,7 +327,9 @@ one_kind (expected.Plan tasks) ws a b few h g = plan_one tasks ws a b (omega ari
 one_kind (expected.Job teams tasks) ws a b few h g = job_one teams tasks ws a b (omega arith) (omega arith) h g
 one_kind expected.Tree ws a b few h g = tree_one ws a b h g
 one_kind (expected.Node teams tasks) ws a b few h g = node_one teams tasks ws a b (omega arith) (omega arith) h g
-one_kind expected.Why ws a b few h g = why_one ws a b h g
+one_kind (expected.Why tasks) ws a b few h g = why_one tasks ws a b (omega arith) h g
+one_kind (expected.Share columns whole) ws a b few h g = share_one columns whole ws a b few.0 few.1 h g
+one_kind (expected.Spare tasks whole) ws a b few h g = spare_one tasks whole ws a b few.1 h g
 one_kind (expected.Price tasks) ws a b few h g = price_one tasks ws a b h g
 one_kind (expected.Extra task count) ws a b few h g = extra_one task count ws a b h g
 one_kind expected.Worth ws a b few h g = worth_one ws a b h g
@@ -411,9 +409,16 @@ node_fits teams tasks ws kinds.LeafOpen is = (OpenShape is, tt)
 node_fits teams tasks ws kinds.LeafClosed is = (ClosedShape is, tt)
 node_fits teams tasks ws _ h = absurd h
 
-why_fits : (ws : Words) (kind : LineKind) → Fits expected.Why ws kind
-why_fits ws kinds.WhyNone h = (h, tt)
-why_fits ws _ h = absurd h
+why_fits : (tasks : ℕ) (ws : Words) (kind : LineKind) → Fits (expected.Why tasks) ws kind
+why_fits tasks ws kind h = (why_shape tasks ws kind h, tt)
+
+share_fits : (columns : ℕ) (whole : ℤ) (ws : Words) (kind : LineKind) → Fits (expected.Share columns whole) ws kind
+share_fits columns whole ws (kinds.Share column parts) (w, e, h, is) = ((_, is, refl), tt)
+share_fits columns whole ws _ h = absurd h
+
+spare_fits : (tasks : ℕ) (whole : ℤ) (ws : Words) (kind : LineKind) → Fits (expected.Spare tasks whole) ws kind
+spare_fits tasks whole ws (kinds.Spare spare) (w, e, h, is) = ((map decimal spare, is, length-map spare decimal ∙ h.count), tt)
+spare_fits tasks whole ws _ h = absurd h
 
 price_line_fits : (tasks : ℕ) (ws : Words) (kind : LineKind) → Fits (expected.Price tasks) ws kind
 price_line_fits tasks ws (kinds.Price vs) (h, is) = ((map signed_decimal vs, is, length-map vs signed_decimal ∙ h.count), tt)
@@ -458,7 +463,9 @@ line_fits (expected.Plan tasks) ws kind = plan_fits tasks ws kind
 line_fits (expected.Job teams tasks) ws kind = job_fits teams tasks ws kind
 line_fits expected.Tree ws kind = tree_fits ws kind
 line_fits (expected.Node teams tasks) ws kind = node_fits teams tasks ws kind
-line_fits expected.Why ws kind = why_fits ws kind
+line_fits (expected.Why tasks) ws kind = why_fits tasks ws kind
+line_fits (expected.Share columns whole) ws kind = share_fits columns whole ws kind
+line_fits (expected.Spare tasks whole) ws kind = spare_fits tasks whole ws kind
 line_fits (expected.Price tasks) ws kind = price_line_fits tasks ws kind
 line_fits (expected.Extra task count) ws kind = extra_fits task count ws kind
 line_fits expected.Worth ws kind = worth_line_fits ws kind

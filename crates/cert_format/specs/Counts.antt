@@ -1,5 +1,5 @@
 -- the counts of the ranges of a line that is due
-use Rattle.std.specs.Prelude.{◌<◌, ◌^◌}
+use Rattle.std.specs.Prelude.{◌<◌, ◌^◌, ◌<ℤ◌, pos}
 use Rattle.cert_format.specs.declared.kinds.Expect.{Expect}
 use Rattle.cert_format.specs.declared.kinds.Expect.TheVariants as expected
 
@@ -19,7 +19,9 @@ HasCounts (expected.Plan tasks) = tasks < 2 ^ 32
 HasCounts (expected.Job teams tasks) = (teams < 2 ^ 32) × (tasks < 2 ^ 32)
 HasCounts expected.Tree = Unit {0}
 HasCounts (expected.Node teams tasks) = (teams < 2 ^ 32) × (tasks < 2 ^ 32)
-HasCounts expected.Why = Unit {0}
+HasCounts (expected.Why tasks) = tasks < 2 ^ 32
+HasCounts (expected.Share columns whole) = (columns < 2 ^ 64) × (whole <ℤ pos 170141183460469231731687303715884105728)
+HasCounts (expected.Spare tasks whole) = (tasks < 2 ^ 32) × (whole <ℤ pos 170141183460469231731687303715884105728)
 HasCounts (expected.Price tasks) = tasks < 2 ^ 32
 HasCounts (expected.Extra task count) = (task < 2 ^ 32) × (count < 2 ^ 32)
 HasCounts expected.Worth = Unit {0}

@@ -1,5 +1,5 @@
 -- the kind of line that is due in each state of the table of lines, and why a line with a fault is refused
-use Rattle.std.specs.Prelude.{ℕ, length}
+use Rattle.std.specs.Prelude.{ℕ, pos, length}
 use Rattle.crew_terms.specs.Limits.{tasks_in}
 use Rattle.dossier_terms.specs.declared.DossierForm.{DossierForm}
 use Rattle.dossier_terms.specs.declared.DossierForm.TheVariants.{One, Two}
@@ -9,7 +9,7 @@ use Rattle.crew_terms.specs.Minutes.{minute_count, required_teams}
 use Rattle.dossier_terms.specs.Reading.{Reading, limits_of}
 use Rattle.dossier_terms.specs.Reading as due
 use Rattle.cert_format.specs.declared.kinds.Expect.{Expect}
-use Rattle.cert_format.specs.declared.kinds.Expect.TheVariants.{Form, Size, Place, Travel, Team, Task, Frozen, Keep, Pool, Route, Plan, Job, Tree, Node, Why, Price, Extra, Worth, Phi, Steps, End}
+use Rattle.cert_format.specs.declared.kinds.Expect.TheVariants.{Form, Size, Place, Travel, Team, Task, Frozen, Keep, Pool, Route, Plan, Job, Tree, Node, Why, Share, Spare, Price, Extra, Worth, Phi, Steps, End}
 use Rattle.cert_format.specs.declared.kinds.LineFault.{LineFault}
 use Rattle.cert_format.specs.declared.kinds.LineFault.TheVariants as faults
 
@@ -34,7 +34,9 @@ expect_of (due.Plans b) = Plan (length b.instance.tasks)
 expect_of (due.Jobs b k from) = Job (length b.instance.teams) (length b.instance.tasks)
 expect_of (due.Trees b) = Tree
 expect_of (due.Nodes b c above) = Node (length b.instance.teams) (length b.instance.tasks)
-expect_of (due.Whys b c above choice) = Why
+expect_of (due.Whys p) = Why (length p.begun.instance.tasks)
+expect_of (due.Parts p now read left from) = Share (length p.begun.pool) (pos read.whole)
+expect_of (due.Spares p now read) = Spare (length p.begun.instance.tasks) (pos read.whole)
 expect_of (due.Prices a) = Price (tasks_in (limits_of a))
 expect_of (due.Extras a leaf j js) = Extra j (length (required_teams (limits_of a) j))
 expect_of (due.Worths a leaf k) = Worth

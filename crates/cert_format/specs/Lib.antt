@@ -1,5 +1,6 @@
 pub mod Fields
 pub mod Numbers
+pub mod WideNumbers
 pub mod Lines
 pub mod Counts
 pub mod Expected

@@ -1,5 +1,5 @@
 -- what a line says where a kind of line is expected
-use Rattle.std.specs.Prelude.{◌≡◌, ◌≤◌, ◌<◌, ℕ, pos, List, Result, Ok, Err, map, codes}
+use Rattle.std.specs.Prelude.{◌≡◌, ◌≤◌, ◌<◌, ℕ, ℤ, pos, List, Result, Ok, Err, map, codes}
 use Rattle.std.specs.List.{flat_map}
 use Rattle.crew_terms.specs.Words.{Words}
 use Rattle.crew_terms.specs.Name.{IsName}
@@ -7,13 +7,14 @@ use Rattle.crew_terms.specs.Leaf.{IsPrice}
 use Rattle.crew_terms.specs.declared.Team.{Team}
 use Rattle.crew_terms.specs.declared.Task.{Task}
 use Rattle.crew_terms.specs.declared.Visit.{Visit}
+use Rattle.dossier_terms.specs.Causes.{Part, IsPartOf}
 use Rattle.dossier_terms.specs.Dossier.{IsWorthNumber, IsSigned}
 use Rattle.dossier_terms.specs.declared.DossierForm.{DossierForm}
 use Rattle.dossier_terms.specs.Runs.{Run}
 use Rattle.crew_terms.specs.declared.TheConstants.{LAST_MINUTE}
 use Rattle.dossier_terms.specs.Rules.{IsShape, IsShapeFrom, Begins}
-use Rattle.dossier_terms.specs.Ranges.{IsSize, IsTravel, IsTeamLine, IsTaskLine, IsRouteLine, IsDoLine, IsCounts, IsStepsLine, AreNumbers, HasName, IsPairs, IsRow, BeginsAt}
-use Rattle.dossier_terms.specs.Lines.{form_line, size_line, place_line, travel_line, team_words, task_words, frozen_line, keep_line, pool_line, route_line, plan_line, do_line, tree_line, window_line, pair_line, why_none_line, bare_line, open_line, closed_line, price_line, extra_line, worth_line, phi_line, steps_line, end_line}
+use Rattle.dossier_terms.specs.Ranges.{IsSize, IsTravel, IsTeamLine, IsTaskLine, IsRouteLine, IsDoLine, IsCounts, IsStepsLine, IsNowWord, IsLooseLine, IsSpareLine, IsOverflowLine, IsWhy, IsWhyOverflow, AreNumbers, HasName, IsPairs, IsRow, BeginsAt}
+use Rattle.dossier_terms.specs.Lines.{form_line, size_line, place_line, travel_line, team_words, task_words, frozen_line, keep_line, pool_line, route_line, plan_line, do_line, tree_line, window_line, pair_line, why_none_line, loose_line, share_line, spare_line, overflow_line, spent_line, bare_line, open_line, closed_line, price_line, extra_line, worth_line, phi_line, steps_line, end_line}
 use Rattle.cert_format.specs.Fields.{visit_numbers, run_numbers}
 use Rattle.cert_format.specs.declared.kinds.Expect.{Expect}
 use Rattle.cert_format.specs.declared.kinds.Expect.TheVariants as expected
@@ -92,9 +93,22 @@ IsNodeLine teams tasks ws kinds.LeafOpen = ws ≡ open_line
 IsNodeLine teams tasks ws kinds.LeafClosed = ws ≡ closed_line
 IsNodeLine teams tasks ws _ = ⊥
 
-abbrev pub IsWhyLine : Words → LineKind → Type 0
-IsWhyLine ws kinds.WhyNone = ws ≡ why_none_line
-IsWhyLine ws _ = ⊥
+abbrev pub IsWhyLine : ℕ → Words → LineKind → Type 0
+IsWhyLine tasks ws kinds.WhyNone = ws ≡ why_none_line
+IsWhyLine tasks ws (kinds.WhyLoose now whole count) = IsLooseLine tasks (now, whole, count) × (ws ≡ loose_line now whole count)
+IsWhyLine tasks ws (kinds.WhyOverflow now fault) = IsOverflowLine tasks (now, fault) × (ws ≡ overflow_line now fault)
+IsWhyLine tasks ws (kinds.WhySpent now) = IsNowWord tasks now × (ws ≡ spent_line now)
+IsWhyLine tasks ws _ = ⊥
+
+abbrev pub IsShareOf : ℕ → ℤ → Words → LineKind → Type 0
+IsShareOf columns whole ws (kinds.Share column parts) =
+    let p : Part = record { column = column; parts = parts } in
+    (w : ℕ) × (whole ≡ pos w) × IsPartOf columns w p × (ws ≡ share_line p)
+IsShareOf columns whole ws _ = ⊥
+
+abbrev pub IsSpareOf : ℕ → ℤ → Words → LineKind → Type 0
+IsSpareOf tasks whole ws (kinds.Spare spare) = (w : ℕ) × (whole ≡ pos w) × IsSpareLine tasks w spare × (ws ≡ spare_line spare)
+IsSpareOf tasks whole ws _ = ⊥
 
 abbrev pub IsPriceLine : ℕ → Words → LineKind → Type 0
 IsPriceLine tasks ws (kinds.Price prices) = AreNumbers IsPrice tasks prices × (ws ≡ price_line prices)
@@ -136,7 +150,9 @@ IsLineOf (expected.Plan tasks) ws kind = IsPlanLine tasks ws kind
 IsLineOf (expected.Job teams tasks) ws kind = IsJobLine teams tasks ws kind
 IsLineOf expected.Tree ws kind = IsTreeLine ws kind
 IsLineOf (expected.Node teams tasks) ws kind = IsNodeLine teams tasks ws kind
-IsLineOf expected.Why ws kind = IsWhyLine ws kind
+IsLineOf (expected.Why tasks) ws kind = IsWhyLine tasks ws kind
+IsLineOf (expected.Share columns whole) ws kind = IsShareOf columns whole ws kind
+IsLineOf (expected.Spare tasks whole) ws kind = IsSpareOf tasks whole ws kind
 IsLineOf (expected.Price tasks) ws kind = IsPriceLine tasks ws kind
 IsLineOf (expected.Extra task count) ws kind = IsExtraLine task count ws kind
 IsLineOf expected.Worth ws kind = IsWorthLine ws kind
@@ -154,6 +170,13 @@ pub data HasNodeShape (ws : Words) : Type 0 where
   OpenShape : (is : ws ≡ open_line) → HasNodeShape ws
   ClosedShape : (is : ws ≡ closed_line) → HasNodeShape ws
 
+-- a cause of one of the four kinds with its number of words, an overflow with an operation
+pub data HasWhyShape (ws : Words) : Type 0 where
+  NoneShape : (is : ws ≡ why_none_line) → HasWhyShape ws
+  LooseShape : (is : IsWhy (codes "loose") 3 ws) → HasWhyShape ws
+  OverflowShape : (is : IsWhyOverflow ws) → HasWhyShape ws
+  SpentShape : (is : IsWhy (codes "spent") 1 ws) → HasWhyShape ws
+
 -- the expected first word and number of words, and those words that are given
 abbrev pub HasShape : Expect → Words → Type 0
 HasShape expected.Form ws = (form : DossierForm) × (ws ≡ form_line form)
@@ -170,7 +193,9 @@ HasShape (expected.Plan tasks) ws = IsShape (codes "plan") 2 ws
 HasShape (expected.Job teams tasks) ws = IsShapeFrom (codes "do") 2 ws
 HasShape expected.Tree ws = IsShape (codes "tree") 4 ws
 HasShape (expected.Node teams tasks) ws = HasNodeShape ws
-HasShape expected.Why ws = ws ≡ why_none_line
+HasShape (expected.Why tasks) ws = HasWhyShape ws
+HasShape (expected.Share columns whole) ws = IsShape (codes "share") 2 ws
+HasShape (expected.Spare tasks whole) ws = IsShape (codes "spare") tasks ws
 HasShape (expected.Price tasks) ws = IsShape (codes "price") tasks ws
 HasShape (expected.Extra task count) ws = IsRow extra_line task count ws
 HasShape expected.Worth ws = IsShape (codes "worth") 1 ws

@@ -3,6 +3,8 @@ ghost use Rattle.std.specs.Prelude.{◌≡◌};
 ghost use Rattle.cert_format.specs.Expected.{reason_for};
 
 use crate::numbers::LineNumbers;
+use crate::wides::WideNumbers;
+use crew_num::Overflow;
 use crew_terms::{Name, TreeCounts};
 use dossier_terms::{DossierForm, Reason, Size};
 
@@ -27,7 +29,11 @@ pub enum Expect {
     /// A line `window`, `pair` or `leaf`.
     Node { teams: u32, tasks: u32 },
     /// The line `why` after a split.
-    Why,
+    Why { tasks: u32 },
+    /// A line `share`: how many columns there are, and of how many parts is one share.
+    Share { columns: u64, whole: i128 },
+    /// The line `spare`: of how many parts is one share.
+    Spare { tasks: u32, whole: i128 },
     Price { tasks: u32 },
     /// The task that is due, and how many of its pairs are required.
     Extra { task: u32, count: u32 },
@@ -116,6 +122,31 @@ pub enum LineKind<'a> {
     },
     /// A line `why none`: no cause of the split is shown.
     WhyNone,
+    /// A line `why loose`: how many tasks the plan left unassigned, of how many parts is one share, and how many columns
+    /// have one.
+    WhyLoose {
+        now: u32,
+        whole: u128,
+        count: u64,
+    },
+    /// A line `why overflow`: how many tasks the plan left unassigned, and an operation whose result may leave i128.
+    WhyOverflow {
+        now: u32,
+        fault: Overflow,
+    },
+    /// A line `why spent`: how many tasks the plan left unassigned.
+    WhySpent {
+        now: u32,
+    },
+    /// A line `share`: a column, and how many parts of it are taken.
+    Share {
+        column: u64,
+        parts: u128,
+    },
+    /// The line `spare`: how many parts of each task are left unassigned.
+    Spare {
+        shares: WideNumbers<'a>,
+    },
     LeafBare,
     LeafOpen,
     LeafClosed,

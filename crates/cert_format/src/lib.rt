@@ -4,6 +4,7 @@
 ghost use Rattle.cert_format.specs.Lines.{ReadsLine};
 
 mod body;
+mod causes;
 mod head;
 pub mod kinds;
 mod laws;
@@ -12,11 +13,14 @@ mod nodes;
 pub mod numbers;
 mod ranges;
 mod shape;
+pub mod wides;
 
+pub use crew_num::{Op, Overflow};
 use field_table::LineWords;
 pub use kinds::{Expect, LineFault, LineKind};
 pub use laws::{fault_is_refused, line_has_one_answer};
 pub use numbers::LineNumbers;
+pub use wides::WideNumbers;
 
 /// Reads a line of the expected kind from its words; it takes no memory. The fault is the first that the
 /// line has: of its shape, then of its name, then of its numbers.
@@ -40,7 +44,9 @@ pub fn read_line<'a>(expect: Expect, words: LineWords<'a>) -> Result<LineKind<'a
         Expect::Job { teams, tasks } => body::read_job(words, teams, tasks),
         Expect::Tree => body::read_tree(words),
         Expect::Node { teams, tasks } => nodes::read_node(words, teams, tasks),
-        Expect::Why => nodes::read_why(words),
+        Expect::Why { tasks } => causes::read_why(words, tasks),
+        Expect::Share { columns, whole } => causes::read_share(words, columns, whole),
+        Expect::Spare { tasks, whole } => causes::read_spare(words, tasks, whole),
         Expect::Price { tasks } => leaves::read_price(words, tasks),
         Expect::Extra { task, count } => leaves::read_extra(words, task, count),
         Expect::Worth => leaves::read_worth(words),

@@ -1,11 +1,11 @@
-// The lines of a node of a tree: each is found by its first word. And the line of a split's cause.
+// The lines of a node of a tree: each is found by its first word.
 ghost use Rattle.std.specs.Prelude.{ℕ, codes};
 ghost use Rattle.dossier_terms.specs.Rules.{Begins};
 ghost use Rattle.cert_format.specs.Lines.{ReadsLine};
 
 use crate::kinds::{Expect, LineFault, LineKind};
 use crate::ranges::MINUTE;
-use crate::shape::{has_shape, is_word};
+use crate::shape::has_shape;
 use field_table::{LineWords, Schema, Words, fields};
 
 /// The first words of the lines of a node.
@@ -88,17 +88,4 @@ pub(crate) fn read_node<'a>(
         1 => read_pair(words, teams, tasks),
         _ => read_leaf(words),
     }
-}
-
-/// Reads the line `why none`.
-pub(crate) fn read_why<'a>(words: LineWords<'a>) -> Result<LineKind<'a>, LineFault>
-    ensures { ReadsLine Expect.Why words.entry result }
-{
-    if !has_shape(&words, b"why", 1) {
-        return Err(LineFault::Shape);
-    }
-    if !is_word(&words, 1, b"none") {
-        return Err(LineFault::Shape);
-    }
-    Ok(LineKind::WhyNone)
 }

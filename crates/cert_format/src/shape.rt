@@ -2,13 +2,13 @@
 ghost use Rattle.std.specs.Prelude.{◌≡◌, ◌≢◌, ◌<◌, [], length, slice_index_or, MatchBool};
 ghost use Rattle.std.specs.Fmt.{decimal};
 ghost use Rattle.dossier_terms.specs.Rules.{IsShape, IsShapeFrom, Begins};
-ghost use Rattle.dossier_terms.specs.Ranges.{IsPairs, BeginsAt};
+ghost use Rattle.dossier_terms.specs.Ranges.{IsPairs, BeginsAt, IsWhy};
 ghost use Rattle.cert_format.specs.Fields.{IsRowOf};
 
 use field_table::{LineWords, Words};
 
 /// Whether two short texts are the same, byte by byte.
-fn is_same(word: &[u8], text: &[u8]) -> bool
+pub(crate) fn is_same(word: &[u8], text: &[u8]) -> bool
     ensures { MatchBool result (word.now ≡ text.now) (word.now ≢ text.now) }
 {
     if word.len() != text.len() {
@@ -69,6 +69,17 @@ pub(crate) fn has_shape_from(words: &LineWords<'_>, first: &[u8], least: usize) 
         return false;
     }
     words.count() - 1 >= least
+}
+
+/// Whether the line is `why`, this kind of cause, and so many words after it.
+pub(crate) fn is_why(words: &LineWords<'_>, kind: &[u8], after: usize) -> bool
+    requires { after < 8 }
+    ensures { MatchBool result (IsWhy kind.now after words.now) (IsWhy kind.now after words.now → ⊥) }
+{
+    if !has_shape(words, b"why", after + 1) {
+        return false;
+    }
+    is_word(words, 1, kind)
 }
 
 /// Whether the line is the word, one word more, and one or more pairs of words.

@@ -14,7 +14,8 @@ use Rattle.crew_terms.specs.declared.Choice.{Choice}
 use Rattle.crew_terms.specs.declared.Choice.TheVariants as choices
 use Rattle.crew_terms.specs.declared.Side.{Side}
 use Rattle.crew_terms.specs.declared.Side.TheVariants.{First, Second}
-use Rattle.dossier_terms.specs.Dossier.{Cause, Dossier, Leaf, Potentials, Written}
+use Rattle.dossier_terms.specs.Causes.{Cause}
+use Rattle.dossier_terms.specs.Dossier.{Dossier, Leaf, Potentials, Written}
 use Rattle.dossier_terms.specs.declared.DossierForm.TheVariants.{Two}
 use Rattle.branch_tree.specs.Trees.{BranchTree}
 use Rattle.branch_tree.specs.declared.tree.LeafState.{LeafState}

@@ -12,7 +12,8 @@ use Rattle.crew_terms.specs.declared.TheConstants.{MOST_NODES}
 use Rattle.crew_io.specs.Puts.{Puts}
 use Rattle.crew_io.specs.Chains.{puts_done, puts_front, puts_nothing, puts_same, puts_then}
 use Rattle.crew_io.specs.declared.sink.Sink.{Ghosts}
-use Rattle.dossier_terms.specs.Dossier.{Cause, Written}
+use Rattle.dossier_terms.specs.Causes.{Cause}
+use Rattle.dossier_terms.specs.Dossier.{Written}
 use Rattle.dossier_terms.specs.Lines.{node_lines, tree_line}
 use Rattle.dossier_terms.specs.declared.DossierForm.TheVariants.{Two}
 use Rattle.branch_tree.specs.Trees.{BranchTree, IsCountIn, closed, counts_of, left_open, preorder}

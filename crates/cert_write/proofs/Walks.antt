@@ -15,7 +15,8 @@ use Rattle.crew_terms.specs.declared.TreeCounts.{TreeCounts}
 use Rattle.crew_io.specs.Puts.{Puts}
 use Rattle.crew_io.specs.declared.sink.Sink.{Ghosts}
 use Rattle.crew_io.specs.Chains.{puts_front, whole_front}
-use Rattle.dossier_terms.specs.Dossier.{Cause, Leaf, Split, Written}
+use Rattle.dossier_terms.specs.Causes.{Cause}
+use Rattle.dossier_terms.specs.Dossier.{Leaf, Split, Written}
 use Rattle.dossier_terms.specs.Lines.{cause_lines, choice_line, claim_lines, node_lines, split_lines}
 use Rattle.dossier_terms.specs.Reading.{Begun, Ends, Nodes, limits_below, node_done}
 use Rattle.dossier_terms.specs.declared.DossierForm.TheVariants.{Two}

@@ -1,5 +1,5 @@
 -- what a cause is that is given
-use Rattle.dossier_terms.specs.Dossier.{Cause, NoCause}
+use Rattle.dossier_terms.specs.Causes.{Cause, NoCause}
 use Rattle.cert_write.specs.declared.causes.Cause.{Cause as GivenCause}
 use Rattle.cert_write.specs.declared.causes.Cause.TheVariants as given
 

@@ -6,7 +6,8 @@ use Rattle.crew_terms.specs.Leaf.{Prices, IsWorth, rho_of}
 use Rattle.crew_terms.specs.Branches.{LeafNode, SplitNode, Claim, Bare, Open, Closed}
 use Rattle.crew_terms.specs.Tree.{child}
 use Rattle.crew_terms.specs.declared.Side.TheVariants.{First, Second}
-use Rattle.dossier_terms.specs.Dossier.{Dossier, Written, Leaf, Potentials, Cause}
+use Rattle.dossier_terms.specs.Causes.{Cause}
+use Rattle.dossier_terms.specs.Dossier.{Dossier, Written, Leaf, Potentials}
 use Rattle.dossier_terms.specs.Lines.{text_of}
 use Rattle.dossier_terms.specs.declared.DossierForm.TheVariants.{Two}
 use Rattle.branch_tree.specs.Trees.{BranchTree, ClaimedLeaf, preorder}

@@ -7,7 +7,7 @@ use Rattle.crew_terms.specs.Leaf.{Prices, IsOnRequired}
 use Rattle.crew_terms.specs.Branches.{LeafNode, SplitNode, splits}
 use Rattle.crew_terms.specs.Tree.{CanSplit, child}
 use Rattle.crew_terms.specs.declared.Side.TheVariants.{First, Second}
-use Rattle.dossier_terms.specs.Dossier.{Cause}
+use Rattle.dossier_terms.specs.Causes.{Cause}
 use Rattle.branch_tree.specs.Trees.{BranchTree, preorder}
 use Rattle.branch_tree.specs.declared.tree.Node.{Node}
 use Rattle.potentials.specs.Prices.{ArePrices, ArePricesOf}

@@ -9,7 +9,8 @@ use Rattle.crew_terms.specs.declared.TheConstants.{MOST_NODES}
 use Rattle.crew_terms.specs.declared.Side.TheVariants.{Second}
 use Rattle.crew_io.specs.Puts.{Puts}
 use Rattle.crew_io.specs.declared.sink.Sink.{Ghosts}
-use Rattle.dossier_terms.specs.Dossier.{Cause, Split, Written}
+use Rattle.dossier_terms.specs.Causes.{Cause}
+use Rattle.dossier_terms.specs.Dossier.{Split, Written}
 use Rattle.dossier_terms.specs.Lines.{node_lines}
 use Rattle.dossier_terms.specs.Reading.{Above, limits_below}
 use Rattle.dossier_terms.specs.declared.DossierForm.TheVariants.{Two}

@@ -12,15 +12,18 @@ use Rattle.day_terms.specs.Rounds.{Round}
 use Rattle.dossier_commands.specs.Says.{SaysNo, ReadsDossiers}
 use Rattle.dossier_commands.specs.declared.read.Ended.{Ended as DossiersEnded}
 use Rattle.dossier_commands.specs.declared.read.Ended.TheVariants as dossiers
-use Rattle.day_commands.specs.Rounds.{DayStop, ComesTo, IsRefusedOutput, IsTooLong, IsStopped, SaysFirstRounds, SaysOutputPart}
+use Rattle.day_commands.specs.Rounds.{Stops, DayStop, ComesTo, IsFineDay, IsRefusedOutput, IsTooLong, IsStopped, SaysFirstRounds, SaysOutputPart}
+use Rattle.day_commands.specs.Outputs.{stops_of, TextsOf}
 use Rattle.day_commands.specs.Fronts.{part_of, first_are_part}
-use Rattle.day_commands.specs.Says.{SaysAt, IsFineDay, ReadsDay}
-use Rattle.day_commands.specs.declared.apply.Ended.{Ended as DayEnded}
-use Rattle.day_commands.specs.declared.apply.Ended.TheVariants as day
+use Rattle.day_commands.specs.Says.{SaysAt, ReadsDay}
+use Rattle.day_commands.specs.declared.ended.DayOutput.{DayOutput}
+use Rattle.day_commands.specs.declared.ended.DayOutput.TheVariants.{Instances, Dossiers}
+use Rattle.day_commands.specs.declared.ended.Ended.{Ended as DayEnded}
+use Rattle.day_commands.specs.declared.ended.Ended.TheVariants as day
 use Rattle.crew_cli.specs.Run.{Answers, AreDossiers, DaySays, DossiersSay, StatusSays, IsFine, day_ends_with, dossiers_end_with}
-use Rattle.crew_cli.specs.Status.{dossiers_status, day_status}
+use Rattle.crew_cli.specs.Status.{dossiers_status, day_status, is_done}
 use Rattle.crew_cli.specs.declared.run.Command.{Command}
-use Rattle.crew_cli.specs.declared.run.Command.TheVariants.{Check, Rosters, Apply}
+use Rattle.crew_cli.specs.declared.run.Command.TheVariants.{Check, Rosters, Apply, Day}
 use Rattle.crew_cli.specs.declared.status.Status.{Status}
 use Rattle.crew_cli.specs.declared.status.Status.TheVariants as status
 
@@ -33,9 +36,9 @@ no_is_not_fine : (text : Dossier → List ℕ) (left got later : Option (List �
 no_is_not_fine text None got later A B C says = tt
 no_is_not_fine text (Some input) got later A B C says = λ fine a b. absurd (says.2.not_accepted fine.0 fine.1)
 
-refused_is_not_fine : (left : Option (List ℕ)) (A B C : Type 0) → IfSome left (λ input. IsFineDay input → ⊥) → IfSome left (λ input. IsFineDay input → A → B → C)
-refused_is_not_fine None A B C says = tt
-refused_is_not_fine (Some input) A B C says = λ fine a b. absurd (says fine)
+refused_is_not_fine : (stops : Stops) (left : Option (List ℕ)) (A B C : Type 0) → IfSome left (λ input. IsFineDay stops input → ⊥) → IfSome left (λ input. IsFineDay stops input → A → B → C)
+refused_is_not_fine stops None A B C says = tt
+refused_is_not_fine stops (Some input) A B C says = λ fine a b. absurd (says fine)
 
 module _ {S K : Type 0} (source : SourceTells S) (sink : SinkTells K) (src later : S) (out new : K) where
   -- the same fault by another name
@@ -94,51 +97,63 @@ module _ {S K : Type 0} (source : SourceTells S) (sink : SinkTells K) (src later
     complete = if_some (source.left src) _ (λ input fine nr nw. inr refl);
   }
 
-  day_part : (ended : DayEnded) → OfBytes (source.left src) (sink.got out) (sink.got new) (SaysAt ended (source.left later)) → OfBytes (source.left src) (sink.got out) (sink.got new) SaysOutputPart
-  day_part ended = of_bytes_weaker (source.left src) (sink.got out) (sink.got new) (SaysAt ended (source.left later)) SaysOutputPart (part_of ended (source.left later))
+  day_part : (output : DayOutput) (ended : DayEnded) → OfBytes (source.left src) (sink.got out) (sink.got new) (SaysAt output ended (source.left later))
+      → OfBytes (source.left src) (sink.got out) (sink.got new) (SaysOutputPart (stops_of output) (TextsOf output))
+  day_part output ended =
+      of_bytes_weaker (source.left src) (sink.got out) (sink.got new) (SaysAt output ended (source.left later)) (SaysOutputPart (stops_of output) (TextsOf output)) (part_of output ended (source.left later))
 
   -- a command over days answers by the status of its end
-  pub day_answers : {E : Type 0} (ended : Result DayEnded E) → ReadsDay source sink src later out new ended
-      → Answers source sink DaySays day_ends_with IsFineDay src later out new (day_status ended)
-  day_answers (Ok day.Done) r = record {
+  pub day_answers : {E : Type 0} (output : DayOutput) (ended : Result DayEnded E) → ReadsDay source sink output src later out new ended
+      → Answers source sink (DaySays output) (day_ends_with output) (IsFineDay (stops_of output)) src later out new (day_status ended)
+  day_answers output (Ok day.Done) r = record {
     says = r.says;
-    part = day_part day.Done r.says;
+    part = day_part output day.Done r.says;
     ends = refl;
-    ended = λ _. r.ended refl;
+    ended = r.ended;
     reads = tells_read r.reads (λ e. absurd (cc)) (λ e. absurd (cc));
     writes = tells_write r.writes (λ e. absurd (cc)) (λ e. absurd (cc));
     complete = if_some (source.left src) _ (λ input fine nr nw. inl refl);
   }
-  day_answers (Ok day.Refused) r = record {
+  day_answers output (Ok day.Unproved) r = record {
     says = r.says;
-    part = day_part day.Refused r.says;
+    part = day_part output day.Unproved r.says;
+    ends = r.ends;
+    ended = r.ended;
+    reads = tells_read r.reads (λ e. absurd (cc)) (λ e. absurd (cc));
+    writes = tells_write r.writes (λ e. absurd (cc)) (λ e. absurd (cc));
+    complete = if_some (source.left src) _ (λ input fine nr nw. inl refl);
+  }
+  day_answers output (Ok day.Refused) r = record {
+    says = r.says;
+    part = day_part output day.Refused r.says;
     ends = refl;
     ended = λ e. absurd (cc);
     reads = tells_read r.reads (λ e. absurd (cc)) (λ e. absurd (cc));
     writes = tells_write r.writes (λ e. absurd (cc)) (λ e. absurd (cc));
-    complete = refused_is_not_fine (source.left src) _ _ _ (r.refused refl);
+    complete = refused_is_not_fine (stops_of output) (source.left src) _ _ _ (r.refused refl);
   }
-  day_answers (Ok day.ReadFault) r = record {
+  day_answers output (Ok day.ReadFault) r = record {
     says = r.says;
-    part = day_part day.ReadFault r.says;
+    part = day_part output day.ReadFault r.says;
     ends = refl;
     ended = λ e. absurd (cc);
     reads = tells_read r.reads (λ _. refl) (λ _. refl);
     writes = tells_write r.writes (λ e. absurd (cc)) (λ e. absurd (cc));
     complete = if_some (source.left src) _ (λ input fine nr nw. absurd (nr (r.reads.cause refl)));
   }
-  day_answers (Ok day.WriteFault) r = record {
+  day_answers output (Ok day.WriteFault) r = record {
     says = r.says;
-    part = r.says;
+    part = day_part output day.WriteFault r.says;
     ends = refl;
     ended = λ e. absurd (cc);
     reads = tells_read r.reads (λ e. absurd (cc)) (λ e. absurd (cc));
     writes = tells_write r.writes (λ _. refl) (λ _. refl);
     complete = if_some (source.left src) _ (λ input fine nr nw. absurd (nw (r.writes.cause refl)));
   }
-  day_answers (Err fault) r = record {
+  day_answers output (Err fault) r = record {
     says = r.memory;
-    part = of_bytes_weaker (source.left src) (sink.got out) (sink.got new) SaysFirstRounds SaysOutputPart first_are_part r.memory;
+    part = of_bytes_weaker (source.left src) (sink.got out) (sink.got new) (SaysFirstRounds (stops_of output) (TextsOf output)) (SaysOutputPart (stops_of output) (TextsOf output))
+        (first_are_part (stops_of output) (TextsOf output)) r.memory;
     ends = refl;
     ended = λ e. absurd (cc);
     reads = tells_read r.reads (λ e. absurd (cc)) (λ e. absurd (cc));
@@ -148,15 +163,15 @@ module _ {S K : Type 0} (source : SourceTells S) (sink : SinkTells K) (src later
 
 -- a day comes to one thing
 abbrev pub ComesToOne : Type 0
-ComesToOne = (text : List ℕ) (rounds others : List Round) (stop other : Option DayStop) → ComesTo text rounds stop → ComesTo text others other → (rounds ≡ others) × (stop ≡ other)
+ComesToOne = (stops : Stops) (text : List ℕ) (rounds others : List Round) (stop other : Option DayStop) → ComesTo stops text rounds stop → ComesTo stops text others other → (rounds ≡ others) × (stop ≡ other)
 
-refused_not_fine : ComesToOne → (text output : List ℕ) → IsRefusedOutput text output → IsFineDay text → ⊥
-refused_not_fine law text output (IsTooLong more is) fine = let b = fine.0 in absurd (omega (arith, more, b))
-refused_not_fine law text output (IsStopped within rounds stop c is) fine = absurd (let e = (law text fine.1.0 rounds None (Some stop) fine.1.1 c).1 in cc)
+refused_not_fine : ComesToOne → (stops : Stops) (Texts : List Round → List ℕ → Type 0) (text written : List ℕ) → IsRefusedOutput stops Texts text written → IsFineDay stops text → ⊥
+refused_not_fine law stops Texts text written (IsTooLong more is) fine = let b = fine.0 in absurd (omega (arith, more, b))
+refused_not_fine law stops Texts text written (IsStopped within rounds stop c lines texts is) fine = absurd (let e = (law stops text fine.1.0 rounds None (Some stop) fine.1.1 c).1 in cc)
 
 -- an input that is fine is not refused
 dossiers_done : (text : Dossier → List ℕ) (answer : Status) (unseen : Option (List ℕ)) (input written : List ℕ) (Full : Type 0) → DossiersSay text answer unseen input written → AreDossiers input
-    → answer ≢ status.ReadFault → (answer ≡ status.WriteFault → Full) → (answer ≡ status.Done) ⊎ (answer ≡ status.Memory) ⊎ ((answer ≡ status.WriteFault) × Full)
+    → answer ≢ status.ReadFault → (answer ≡ status.WriteFault → Full) → IsTrue (is_done answer) ⊎ (answer ≡ status.Memory) ⊎ ((answer ≡ status.WriteFault) × Full)
 dossiers_done text status.Done unseen input written Full says fine read write = inl refl
 dossiers_done text status.No unseen input written Full says fine read write = absurd (says.not_accepted fine.0 fine.1)
 dossiers_done text status.Words unseen input written Full says fine read write = absurd says
@@ -164,16 +179,24 @@ dossiers_done text status.Refused unseen input written Full says fine read write
 dossiers_done text status.ReadFault unseen input written Full says fine read write = absurd (read refl)
 dossiers_done text status.WriteFault unseen input written Full says fine read write = inr (inr (refl, write refl))
 dossiers_done text status.Memory unseen input written Full says fine read write = inr (inl refl)
+dossiers_done text status.Unproved unseen input written Full says fine read write = absurd says
+
+-- nor is a day that is fine
+day_done : ComesToOne → (output : DayOutput) (answer : Status) (unseen : Option (List ℕ)) (input written : List ℕ) (Full : Type 0) → DaySays output answer unseen input written → IsFineDay (stops_of output) input
+    → answer ≢ status.ReadFault → (answer ≡ status.WriteFault → Full) → IsTrue (is_done answer) ⊎ (answer ≡ status.Memory) ⊎ ((answer ≡ status.WriteFault) × Full)
+day_done law output status.Done unseen input written Full says fine read write = inl refl
+day_done law output status.No unseen input written Full says fine read write = absurd says
+day_done law output status.Words unseen input written Full says fine read write = absurd says
+day_done law output status.Refused unseen input written Full says fine read write = absurd (refused_not_fine law (stops_of output) (TextsOf output) input written says fine)
+day_done law output status.ReadFault unseen input written Full says fine read write = absurd (read refl)
+day_done law output status.WriteFault unseen input written Full says fine read write = inr (inr (refl, write refl))
+day_done law output status.Memory unseen input written Full says fine read write = inr (inl refl)
+day_done law output status.Unproved unseen input written Full says fine read write = inl refl
 
 pub fine_is_done : (command : Command) (answer : Status) (unseen : Option (List ℕ)) (input written : List ℕ) (Full : Type 0) → ComesToOne
     → StatusSays command answer unseen input written → IsFine command input → answer ≢ status.ReadFault → (answer ≡ status.WriteFault → Full)
-    → (answer ≡ status.Done) ⊎ (answer ≡ status.Memory) ⊎ ((answer ≡ status.WriteFault) × Full)
+    → IsTrue (is_done answer) ⊎ (answer ≡ status.Memory) ⊎ ((answer ≡ status.WriteFault) × Full)
 fine_is_done Check answer unseen input written Full law says fine read write = dossiers_done _ answer unseen input written Full says fine read write
 fine_is_done Rosters answer unseen input written Full law says fine read write = dossiers_done _ answer unseen input written Full says fine read write
-fine_is_done Apply status.Done unseen input written Full law says fine read write = inl refl
-fine_is_done Apply status.No unseen input written Full law says fine read write = absurd says
-fine_is_done Apply status.Words unseen input written Full law says fine read write = absurd says
-fine_is_done Apply status.Refused unseen input written Full law says fine read write = absurd (refused_not_fine law input written says fine)
-fine_is_done Apply status.ReadFault unseen input written Full law says fine read write = absurd (read refl)
-fine_is_done Apply status.WriteFault unseen input written Full law says fine read write = inr (inr (refl, write refl))
-fine_is_done Apply status.Memory unseen input written Full law says fine read write = inr (inl refl)
+fine_is_done Apply answer unseen input written Full law says fine read write = day_done law Instances answer unseen input written Full says fine read write
+fine_is_done Day answer unseen input written Full law says fine read write = day_done law Dossiers answer unseen input written Full says fine read write

@@ -11,18 +11,22 @@ use Rattle.dossier_terms.specs.Texts.{yes_line}
 use Rattle.dossier_terms.specs.Accepted.{IsAccepted}
 use Rattle.dossier_commands.specs.Outputs.{roster_of}
 use Rattle.dossier_commands.specs.Says.{SaysYes, SaysNo, SaysFront, SaysReadFault, SaysTexts}
-use Rattle.day_commands.specs.Rounds.{SaysRounds, IsRefusedOutput, SaysOutputPart, SaysFirstRounds, SaysNothingRead}
-use Rattle.day_commands.specs.Says.{IsFineDay}
+use Rattle.day_commands.specs.Rounds.{IsFineDay, SaysRounds, IsRefusedOutput, SaysOutputPart, SaysFirstRounds, SaysNothingRead}
+use Rattle.day_commands.specs.Outputs.{stops_of, TextsOf, ProvedOf, UnprovedOf, are_dossiers}
+use Rattle.day_commands.specs.declared.ended.DayOutput.{DayOutput}
+use Rattle.day_commands.specs.declared.ended.DayOutput.TheVariants.{Instances, Dossiers}
+use Rattle.crew_cli.specs.Status.{is_done}
 use Rattle.crew_cli.specs.declared.run.Command.{Command}
-use Rattle.crew_cli.specs.declared.run.Command.TheVariants.{Check, Rosters, Apply}
+use Rattle.crew_cli.specs.declared.run.Command.TheVariants.{Check, Rosters, Apply, Day}
 use Rattle.crew_cli.specs.declared.status.Status.{Status}
-use Rattle.crew_cli.specs.declared.status.Status.TheVariants.{Done, No, Words, Refused, ReadFault, WriteFault, Memory}
+use Rattle.crew_cli.specs.declared.status.Status.TheVariants.{Done, No, Words, Refused, ReadFault, WriteFault, Memory, Unproved}
 
 -- the word of a command
 abbrev pub word_of : Command → List ℕ
 word_of Check = codes "check"
 word_of Rosters = codes "rosters"
 word_of Apply = codes "apply"
+word_of Day = codes "day"
 
 -- the words ask for the command: they are its one word
 abbrev pub AskFor : Command → List (List ℕ) → Type 0
@@ -37,48 +41,54 @@ DossiersSay text WriteFault unseen input written = SaysFront text input written
 DossiersSay text Memory unseen input written = SaysTexts text input written
 DossiersSay text _ unseen input written = ⊥
 
--- what a status says of a command over days; no other status comes
-abbrev pub DaySays : Status → Option (List ℕ) → List ℕ → List ℕ → Type 0
-DaySays Done unseen input written = SaysRounds input written
-DaySays Refused unseen input written = IsRefusedOutput input written
-DaySays ReadFault unseen input written = SaysNothingRead unseen input written
-DaySays WriteFault unseen input written = SaysOutputPart input written
-DaySays Memory unseen input written = SaysFirstRounds input written
-DaySays _ unseen input written = ⊥
+-- what a status says of a command over days, which writes this of each round; no other status comes
+abbrev pub DaySays : DayOutput → Status → Option (List ℕ) → List ℕ → List ℕ → Type 0
+DaySays output Done unseen input written = SaysRounds (stops_of output) (ProvedOf output) input written
+DaySays output Unproved unseen input written = SaysRounds (stops_of output) (UnprovedOf output) input written
+DaySays output Refused unseen input written = IsRefusedOutput (stops_of output) (TextsOf output) input written
+DaySays output ReadFault unseen input written = SaysNothingRead unseen input written
+DaySays output WriteFault unseen input written = SaysOutputPart (stops_of output) (TextsOf output) input written
+DaySays output Memory unseen input written = SaysFirstRounds (stops_of output) (TextsOf output) input written
+DaySays output _ unseen input written = ⊥
 
 -- what a status of a command says of the input, of what its source has left, and of what was written
 abbrev pub StatusSays : Command → Status → Option (List ℕ) → List ℕ → List ℕ → Type 0
 StatusSays Check = DossiersSay yes_line
 StatusSays Rosters = DossiersSay roster_of
-StatusSays Apply = DaySays
+StatusSays Apply = DaySays Instances
+StatusSays Day = DaySays Dossiers
 
 -- the statuses that a command over dossiers can end with
 abbrev pub dossiers_end_with : Status → Bool
 dossiers_end_with Words = false
 dossiers_end_with Refused = false
+dossiers_end_with Unproved = false
 dossiers_end_with _ = true
 
 -- the statuses that a command over days can end with
-abbrev pub day_ends_with : Status → Bool
-day_ends_with Words = false
-day_ends_with No = false
-day_ends_with _ = true
+abbrev pub day_ends_with : DayOutput → Status → Bool
+day_ends_with output Words = false
+day_ends_with output No = false
+day_ends_with output Unproved = are_dossiers output
+day_ends_with output _ = true
 
 -- the statuses that a command can end with
 abbrev pub ends_with : Command → Status → Bool
 ends_with Check = dossiers_end_with
 ends_with Rosters = dossiers_end_with
-ends_with Apply = day_ends_with
+ends_with Apply = day_ends_with Instances
+ends_with Day = day_ends_with Dossiers
 
 -- the bytes are accepted as some dossiers
 abbrev pub AreDossiers : List ℕ → Type 0
 AreDossiers input = (dossiers : List Dossier) × IsAccepted input dossiers
 
--- what a command takes to its end: bytes that are accepted as dossiers, or a day of which no record is refused
+-- what a command takes to its end: bytes that are accepted as dossiers, or a day of which it refuses no record
 abbrev pub IsFine : Command → List ℕ → Type 0
 IsFine Check = AreDossiers
 IsFine Rosters = AreDossiers
-IsFine Apply = IsFineDay
+IsFine Apply = IsFineDay (stops_of Instances)
+IsFine Day = IsFineDay (stops_of Dossiers)
 
 -- a command that has said this, can end with these statuses and takes such input to its end: what its status says, and
 -- what was written whatever the status; what is told of faults; and that input that is fine is done, or memory was
@@ -88,8 +98,8 @@ pub record Answers {S K : Type 0} (source : SourceTells S) (sink : SinkTells K) 
   pub says : OfBytes (source.left src) (sink.got out) (sink.got new) (Says status (source.left later))
   pub part : OfBytes (source.left src) (sink.got out) (sink.got new) (Says WriteFault (source.left later))
   pub ends : IsTrue (can_be status)
-  pub ended : status ≡ Done → HasEnded (source.left later)
+  pub ended : IsTrue (is_done status) → HasEnded (source.left later)
   pub reads : TellsReads source src later (status ≡ ReadFault)
   pub writes : TellsWrites sink out new (status ≡ WriteFault)
   pub complete : IfSome (source.left src) (λ input. Fine input
-      → (Rose (source.faults src) (source.faults later) → ⊥) → (Rose (sink.faults out) (sink.faults new) → ⊥) → (status ≡ Done) ⊎ (status ≡ Memory))
+      → (Rose (source.faults src) (source.faults later) → ⊥) → (Rose (sink.faults out) (sink.faults new) → ⊥) → IsTrue (is_done status) ⊎ (status ≡ Memory))

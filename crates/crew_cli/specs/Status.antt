@@ -1,11 +1,11 @@
 -- how a call ended
-use Rattle.std.specs.Prelude.{ℕ, Result, Ok, Err}
+use Rattle.std.specs.Prelude.{ℕ, Bool, true, false, Result, Ok, Err}
 use Rattle.dossier_commands.specs.declared.read.Ended.{Ended as DossiersEnded}
 use Rattle.dossier_commands.specs.declared.read.Ended.TheVariants as dossiers
-use Rattle.day_commands.specs.declared.apply.Ended.{Ended as DayEnded}
-use Rattle.day_commands.specs.declared.apply.Ended.TheVariants as day
+use Rattle.day_commands.specs.declared.ended.Ended.{Ended as DayEnded}
+use Rattle.day_commands.specs.declared.ended.Ended.TheVariants as day
 use Rattle.crew_cli.specs.declared.status.Status.{Status}
-use Rattle.crew_cli.specs.declared.status.Status.TheVariants.{Done, No, Words, Refused, ReadFault, WriteFault, Memory}
+use Rattle.crew_cli.specs.declared.status.Status.TheVariants.{Done, No, Words, Refused, ReadFault, WriteFault, Memory, Unproved}
 
 -- the exit status of the program
 abbrev pub number_of : Status → ℕ
@@ -16,6 +16,13 @@ number_of Refused = 3
 number_of ReadFault = 4
 number_of WriteFault = 5
 number_of Memory = 6
+number_of Unproved = 7
+
+-- the work was done to the end of the input
+abbrev pub is_done : Status → Bool
+is_done Done = true
+is_done Unproved = true
+is_done _ = false
 
 -- the status of a command over dossiers that ended so, or for which memory was wanting
 abbrev pub dossiers_status : {E : Type 0} → Result DossiersEnded E → Status
@@ -28,6 +35,7 @@ dossiers_status (Err fault) = Memory
 -- the status of a command over days that ended so, or for which memory was wanting
 abbrev pub day_status : {E : Type 0} → Result DayEnded E → Status
 day_status (Ok day.Done) = Done
+day_status (Ok day.Unproved) = Unproved
 day_status (Ok day.Refused) = Refused
 day_status (Ok day.ReadFault) = ReadFault
 day_status (Ok day.WriteFault) = WriteFault

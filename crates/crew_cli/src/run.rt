@@ -3,14 +3,15 @@ ghost use Rattle.std.specs.Prelude.{◌≡◌, ◌≢◌, ◌≤◌, ◌↔◌, 
 ghost use Rattle.crew_io.specs.Io.{HasEnded, Rose};
 ghost use Rattle.crew_io.specs.Bytes.{OfBytes};
 ghost use Rattle.dossier_commands.specs.Outputs.{output_of};
-ghost use Rattle.day_commands.specs.Says.{IsFineDay};
-ghost use Rattle.crew_cli.specs.Status.{dossiers_status, day_status};
+ghost use Rattle.day_commands.specs.Outputs.{stops_of};
+ghost use Rattle.day_commands.specs.Rounds.{IsFineDay};
+ghost use Rattle.crew_cli.specs.Status.{dossiers_status, day_status, is_done};
 ghost use Rattle.crew_cli.specs.Run.{Answers, AskFor, AreDossiers, DaySays, DossiersSay, StatusSays, IsFine, day_ends_with, dossiers_end_with, ends_with};
 
 pub use crate::status::Status;
 use crew_io::sink::Sink;
 use crew_io::source::Source;
-use day_commands::apply_rounds;
+use day_commands::{DayOutput, write_rounds};
 use dossier_commands::{Output, read_dossiers};
 use std::alloc::{AllocError, Global};
 
@@ -23,6 +24,8 @@ pub enum Command {
     Rosters,
     /// `apply`: read a day, and write the instance of each round.
     Apply,
+    /// `day`: read a day, and write a dossier of each round.
+    Day,
 }
 
 /// Whether the words are the one word.
@@ -45,6 +48,9 @@ impl Command {
         }
         if asks_for(words, "apply") {
             return Some(Command::Apply);
+        }
+        if asks_for(words, "day") {
+            return Some(Command::Day);
         }
         None
     }
@@ -69,6 +75,7 @@ fn of_day(ended: Result<day_commands::Ended, AllocError>) -> Status
 {
     match ended {
         Ok(day_commands::Ended::Done) => Status::Done,
+        Ok(day_commands::Ended::Unproved) => Status::Unproved,
         Ok(day_commands::Ended::Refused) => Status::Refused,
         Ok(day_commands::Ended::ReadFault) => Status::ReadFault,
         Ok(day_commands::Ended::WriteFault) => Status::WriteFault,
@@ -89,11 +96,17 @@ fn over_dossiers<S: Source, K: Sink>(
     of_dossiers(read_dossiers(alloc, output, src, out))
 }
 
-/// Reads a day, and writes the instance of each round.
-fn over_day<S: Source, K: Sink>(alloc: Global, src: &mut S, out: &mut K) -> Status
-    ensures { Answers S.Source K.Sink DaySays day_ends_with IsFineDay src.old src.new out.old out.new result }
+/// Reads a day, and writes what is asked for of each round.
+fn over_day<S: Source, K: Sink>(
+    alloc: Global,
+    output: DayOutput,
+    src: &mut S,
+    out: &mut K,
+) -> Status
+    ensures { Answers S.Source K.Sink (DaySays output) (day_ends_with output) (IsFineDay (stops_of output))
+        src.old src.new out.old out.new result }
 {
-    of_day(apply_rounds(alloc, src, out))
+    of_day(write_rounds(alloc, output, src, out))
 }
 
 /// Does what a command asks for, but for the flush.
@@ -104,7 +117,8 @@ fn answer<S: Source, K: Sink>(alloc: Global, command: Command, src: &mut S, out:
     match command {
         Command::Check => over_dossiers(alloc, Output::YesLines, src, out),
         Command::Rosters => over_dossiers(alloc, Output::Rosters, src, out),
-        Command::Apply => over_day(alloc, src, out),
+        Command::Apply => over_day(alloc, DayOutput::Instances, src, out),
+        Command::Day => over_day(alloc, DayOutput::Dossiers, src, out),
     }
 }
 
@@ -112,7 +126,8 @@ fn answer<S: Source, K: Sink>(alloc: Global, command: Command, src: &mut S, out:
 /// counts for each good one; at the first line that is refused it writes a line `no` with its number and the reason,
 /// and ends. With `rosters` it does the same, and writes the roster of each good dossier in place of its line. With
 /// `apply` it reads a day, and writes the instance of each round, up to the first record that is refused, and a line
-/// `refused` for that one. Other words have no form: nothing is read or written.
+/// `refused` for that one. With `day` it does the same, and plans each round: it writes a dossier of it, which `check` says
+/// yes to. Other words have no form: nothing is read or written.
 pub fn run<S: Source, K: Sink>(alloc: Global, words: &[String], src: &mut S, out: &mut K) -> Status
     // Each status tells what the input is and what was written, also at a fault.
     ensures says { (command : Command) → AskFor command (map (λ w. string_bytes w) words.now)
@@ -122,7 +137,7 @@ pub fn run<S: Source, K: Sink>(alloc: Global, words: &[String], src: &mut S, out
     ensures ends { (command : Command) → AskFor command (map (λ w. string_bytes w) words.now) → IsTrue (ends_with command result) }
 
     // What is done was read to its end.
-    ensures ended { result ≡ Status.Done → HasEnded (S.left src.new) }
+    ensures ended { IsTrue (is_done result) → HasEnded (S.left src.new) }
 
     // Without a write fault, all that was written is passed on.
     ensures flushed { result ≢ Status.Words → result ≢ Status.WriteFault → K.held out.new ≡ [] }
@@ -148,7 +163,7 @@ pub fn run<S: Source, K: Sink>(alloc: Global, words: &[String], src: &mut S, out
     // Where no count of faults rises, each input that is fine is done, or memory was wanting.
     ensures complete { (command : Command) → AskFor command (map (λ w. string_bytes w) words.now) → IfSome (S.left src.old) (λ input. IsFine command input
         → (Rose (S.faults src.old) (S.faults src.new) → ⊥) → (Rose (K.faults out.old) (K.faults out.new) → ⊥)
-        → (result ≡ Status.Done) ⊎ (result ≡ Status.Memory)) }
+        → IsTrue (is_done result) ⊎ (result ≡ Status.Memory)) }
 {
     let Some(command) = Command::of(words) else {
         return Status::Words;

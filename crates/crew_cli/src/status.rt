@@ -19,6 +19,9 @@ pub enum Status {
     WriteFault,
     /// Memory was wanting.
     Memory,
+    /// The work was done to the end of the input, and a dossier does not show whether another plan leaves fewer tasks
+    /// unassigned.
+    Unproved,
 }
 
 impl Status {
@@ -34,6 +37,7 @@ impl Status {
             Status::ReadFault => 4,
             Status::WriteFault => 5,
             Status::Memory => 6,
+            Status::Unproved => 7,
         }
     }
 }

@@ -1,7 +1,8 @@
 // The top call over sources and sinks in memory, and over such as do not fail.
-ghost use Rattle.std.specs.Prelude.{◌≡◌, ◌≢◌, ◌≤◌, ◌↔◌, ◌⊎◌, ◌++◌, ℕ, List, Some, [], length, map, string_bytes};
+ghost use Rattle.std.specs.Prelude.{◌≡◌, ◌≢◌, ◌≤◌, ◌↔◌, ◌⊎◌, ◌++◌, ℕ, List, Some, [], length, map, string_bytes, IsTrue};
 ghost use Rattle.crew_io.specs.Io.{Rose};
 ghost use Rattle.crew_cli.specs.Run.{AskFor, StatusSays, IsFine};
+ghost use Rattle.crew_cli.specs.Status.{is_done};
 ghost use Rattle.crew_cli.specs.declared.run.Command.{Command};
 
 use crate::run::{Status, run};
@@ -23,11 +24,11 @@ pub fn run_steady(
 
     // Each input that is fine is done, or memory was wanting.
     ensures complete { (command : Command) → AskFor command (map (λ w. string_bytes w) words.now)
-        → IsFine command src.old.left → (result ≡ Status.Done) ⊎ (result ≡ Status.Memory) }
+        → IsFine command src.old.left → IsTrue (is_done result) ⊎ (result ≡ Status.Memory) }
 
     ensures words { (result ≡ Status.Words) ↔ ((command : Command) → AskFor command (map (λ w. string_bytes w) words.now) → ⊥) }
     ensures untouched { result ≡ Status.Words → src.new ≡ src.old }
-    ensures ended { result ≡ Status.Done → src.new.left ≡ [] }
+    ensures ended { IsTrue (is_done result) → src.new.left ≡ [] }
     ensures reads { result ≢ Status.ReadFault }
     ensures writes { result ≢ Status.WriteFault }
 {
@@ -48,7 +49,7 @@ pub fn run_in_memory(
 
     ensures words { (result ≡ Status.Words) ↔ ((command : Command) → AskFor command (map (λ w. string_bytes w) words.now) → ⊥) }
     ensures untouched { result ≡ Status.Words → (src.new ≡ src.old) × (out.new ≡ out.old) }
-    ensures ended { result ≡ Status.Done → src.new.left ≡ [] }
+    ensures ended { IsTrue (is_done result) → src.new.left ≡ [] }
 
     // No fault is told where no call is due to fail, of the sink while room is left.
     ensures reads { src.old.fails ≡ [] → result ≢ Status.ReadFault }
@@ -57,7 +58,7 @@ pub fn run_in_memory(
     // Then each input that is fine is done, if memory and room last.
     ensures complete { (command : Command) → AskFor command (map (λ w. string_bytes w) words.now) → IsFine command src.old.left
         → src.old.fails ≡ [] → out.old.fails ≡ []
-        → (result ≡ Status.Done) ⊎ (result ≡ Status.Memory) ⊎ ((result ≡ Status.WriteFault) × (length out.new.got ≡ out.new.room)) }
+        → IsTrue (is_done result) ⊎ (result ≡ Status.Memory) ⊎ ((result ≡ Status.WriteFault) × (length out.new.got ≡ out.new.room)) }
 
     // A fault is told only where its count rose in this call, and each that came is told; only that of a read gives way
     // to that of the flush behind it.

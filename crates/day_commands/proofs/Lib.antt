@@ -1,2 +1,5 @@
 pub mod Days
-pub mod Applies
+pub mod Texts
+pub mod Said
+pub mod Applied
+pub mod Planned

@@ -1,5 +1,8 @@
 pub mod Refused
 pub mod Rounds
-pub mod Fronts
+pub mod Instances
+pub mod Dossiers
+pub mod Outputs
 pub mod Says
-pub mod Applied
+pub mod Fronts
+pub mod Taken

@@ -1,18 +1,31 @@
--- what a day comes to, and what is written of it
-use Rattle.std.specs.Prelude.{◌≡◌, ◌≤◌, ◌<◌, ◌+◌, ◌++◌, ℕ, List, [], ◌∷◌, length, take, Option, None, Some}
-use Rattle.std.specs.List.{flat_map}
+-- what a day comes to, and what a command over days writes of it
+use Rattle.std.specs.Prelude.{◌≡◌, ◌≤◌, ◌<◌, ◌+◌, ◌++◌, ℕ, List, [], ◌∷◌, length, take, Option, None, Some, option_map}
 use Rattle.crew_terms.specs.declared.TheConstants.{LONGEST_DAY}
-use Rattle.dossier_terms.specs.Lines.{instance_text}
 use Rattle.day_terms.specs.declared.Entry.{Entry}
 use Rattle.day_terms.specs.declared.Refused.{Refused}
 use Rattle.day_terms.specs.Days.{IsDayOf}
-use Rattle.day_terms.specs.State.{start, state_after}
-use Rattle.day_terms.specs.Refusal.{AreTaken, Refusal, refusal_of}
+use Rattle.day_terms.specs.State.{DayState, start, after_entry, state_after}
+use Rattle.day_terms.specs.Refusal.{refusal_of}
 use Rattle.day_terms.specs.Rounds.{Round, rounds_of}
 use Rattle.flight_changes.specs.Faults.{fault_of}
 use Rattle.day_commands.specs.Refused.{refused_line}
 use Rattle.day_commands.specs.declared.refused.DayFault.{DayFault}
 use Rattle.day_commands.specs.declared.refused.DayFault.TheVariants.{TooLong, InItself, Change}
+
+-- ---- what a day comes to
+
+-- why a command takes no entry in a state, if it takes it not
+abbrev pub Stops : Type 0
+Stops = DayState → Entry → Option DayFault
+
+-- the state refuses the entry
+abbrev pub change_stop : Stops
+change_stop s entry = option_map (λ refusal. Change (fault_of refusal)) (refusal_of s entry)
+
+-- each of the entries is taken by the state that those before it come to
+abbrev pub AreTakenBy : Stops → DayState → List Entry → Type 0
+AreTakenBy stops s [] = Unit {0}
+AreTakenBy stops s (entry ∷ entries) = (stops s entry ≡ None) × AreTakenBy stops (after_entry s entry) entries
 
 -- the record of a day that is refused: its number, from 1, and why
 pub record DayStop : Type 0 where
@@ -20,61 +33,47 @@ pub record DayStop : Type 0 where
   pub cause : DayFault
 
 -- a day's text comes to these rounds: those of its entries before the first record that is refused, in itself or by
--- the state that the entries before it come to; and to that refusal, if there is one
-pub data ComesTo (text : List ℕ) (rounds : List Round) (stop : Option DayStop) : Type 0 where
-  AllTaken : (entries : List Entry) (day : IsDayOf text entries None) (taken : AreTaken start entries)
-      (rounds_are : rounds ≡ rounds_of entries) (is : stop ≡ None) → ComesTo text rounds stop
-  BadRecord : (entries : List Entry) (refused : Refused) (day : IsDayOf text entries (Some refused)) (taken : AreTaken start entries)
-      (rounds_are : rounds ≡ rounds_of entries) (is : stop ≡ Some (record { number = refused.number; cause = InItself refused.cause })) → ComesTo text rounds stop
-  BadChange : (front back : List Entry) (entry : Entry) (later : Option Refused) (day : IsDayOf text (front ++ entry ∷ back) later) (taken : AreTaken start front)
-      (refusal : Refusal) (refused : refusal_of (state_after front) entry ≡ Some refusal)
-      (rounds_are : rounds ≡ rounds_of front) (is : stop ≡ Some (record { number = length front + 1; cause = Change (fault_of refusal) })) → ComesTo text rounds stop
+-- the command in the state that the entries before it come to; and to that refusal, if there is one
+pub data ComesTo (stops : Stops) (text : List ℕ) (rounds : List Round) (stop : Option DayStop) : Type 0 where
+  AllTaken : (entries : List Entry) (day : IsDayOf text entries None) (taken : AreTakenBy stops start entries)
+      (rounds_are : rounds ≡ rounds_of entries) (is : stop ≡ None) → ComesTo stops text rounds stop
+  BadRecord : (entries : List Entry) (refused : Refused) (day : IsDayOf text entries (Some refused)) (taken : AreTakenBy stops start entries)
+      (rounds_are : rounds ≡ rounds_of entries) (is : stop ≡ Some (record { number = refused.number; cause = InItself refused.cause })) → ComesTo stops text rounds stop
+  BadEntry : (front back : List Entry) (entry : Entry) (later : Option Refused) (day : IsDayOf text (front ++ entry ∷ back) later) (taken : AreTakenBy stops start front)
+      (fault : DayFault) (refused : stops (state_after front) entry ≡ Some fault)
+      (rounds_are : rounds ≡ rounds_of front) (is : stop ≡ Some (record { number = length front + 1; cause = fault })) → ComesTo stops text rounds stop
 
--- the instances of rounds, each with its budget, one after another
-abbrev pub rounds_text : List Round → List ℕ
-rounds_text rounds = flat_map (λ r. instance_text r.instance r.nodes) rounds
+-- what is taken to its end: a day of which no record is refused
+abbrev pub IsFineDay : Stops → List ℕ → Type 0
+IsFineDay stops input = (length input ≤ LONGEST_DAY) × ((rounds : List Round) × ComesTo stops input rounds None)
 
--- the line of a refusal, if there is one
-abbrev pub stop_text : Option DayStop → List ℕ
-stop_text None = []
-stop_text (Some stop) = refused_line stop.number stop.cause
+-- ---- what is written of it; `Texts` says which texts are those of some rounds, one for each, in order
 
--- the day is no longer than it may be, none of its records is refused, and the instances of its rounds were written
-pub record SaysRounds (input written : List ℕ) : Type 0 where
+-- the day is no longer than it may be, none of its records is refused, and the texts of its rounds were written
+pub record SaysRounds (stops : Stops) (Texts : List Round → List ℕ → Type 0) (input written : List ℕ) : Type 0 where
   pub within : length input ≤ LONGEST_DAY
   pub rounds : List Round
-  pub comes_to : ComesTo input rounds None
-  pub texts : written ≡ rounds_text rounds
+  pub comes_to : ComesTo stops input rounds None
+  pub texts : Texts rounds written
 
--- the output of a day that is refused: its one line where it is too long, else the instances of the rounds before the
+-- the output of a day that is refused: its one line where it is too long, else the texts of the rounds before the
 -- refused record, and its line
-pub data IsRefusedOutput (input output : List ℕ) : Type 0 where
-  IsTooLong : (more : LONGEST_DAY < length input) (is : output ≡ refused_line 0 TooLong) → IsRefusedOutput input output
-  IsStopped : (within : length input ≤ LONGEST_DAY) (rounds : List Round) (stop : DayStop) (comes_to : ComesTo input rounds (Some stop))
-      (is : output ≡ rounds_text rounds ++ refused_line stop.number stop.cause) → IsRefusedOutput input output
+pub data IsRefusedOutput (stops : Stops) (Texts : List Round → List ℕ → Type 0) (input output : List ℕ) : Type 0 where
+  IsTooLong : (more : LONGEST_DAY < length input) (is : output ≡ refused_line 0 TooLong) → IsRefusedOutput stops Texts input output
+  IsStopped : (within : length input ≤ LONGEST_DAY) (rounds : List Round) (stop : DayStop) (comes_to : ComesTo stops input rounds (Some stop))
+      (text : List ℕ) (texts : Texts rounds text) (is : output ≡ text ++ refused_line stop.number stop.cause) → IsRefusedOutput stops Texts input output
 
--- what `apply` writes of a day in all
-pub data IsOutput (input output : List ℕ) : Type 0 where
-  OfRounds : (says : SaysRounds input output) → IsOutput input output
-  OfRefusal : (says : IsRefusedOutput input output) → IsOutput input output
+-- the texts of the first rounds were written and nothing else, if any
+pub data SaysFirstRounds (stops : Stops) (Texts : List Round → List ℕ → Type 0) (input written : List ℕ) : Type 0 where
+  NoRound : (none : written ≡ []) → SaysFirstRounds stops Texts input written
+  Rounds : (within : length input ≤ LONGEST_DAY) (rounds : List Round) (stop : Option DayStop) (comes_to : ComesTo stops input rounds stop)
+      (n : ℕ) (texts : Texts (take n rounds) written) → SaysFirstRounds stops Texts input written
 
--- a front of it was written: whole instances of the first rounds, and a front of the next or of the refused line
-pub record SaysOutputFront (input written : List ℕ) : Type 0 where
-  pub output : List ℕ
-  pub whole : IsOutput input output
-  pub n : ℕ
-  pub front : written ≡ take n output
-
--- nothing was written, or a front of it
-pub data SaysOutputPart (input written : List ℕ) : Type 0 where
-  NoByte : (none : written ≡ []) → SaysOutputPart input written
-  SomeBytes : (part : SaysOutputFront input written) → SaysOutputPart input written
-
--- the instances of the first rounds were written and nothing else, if any
-pub data SaysFirstRounds (input written : List ℕ) : Type 0 where
-  NoRound : (none : written ≡ []) → SaysFirstRounds input written
-  Rounds : (within : length input ≤ LONGEST_DAY) (rounds : List Round) (stop : Option DayStop) (comes_to : ComesTo input rounds stop)
-      (n : ℕ) (texts : written ≡ rounds_text (take n rounds)) → SaysFirstRounds input written
+-- a front was written: of the texts of the first rounds, so that the last of them may be cut short; or of the output of a day
+-- that is refused
+pub data SaysOutputPart (stops : Stops) (Texts : List Round → List ℕ → Type 0) (input written : List ℕ) : Type 0 where
+  OfRounds : (output : List ℕ) (says : SaysFirstRounds stops Texts input output) (n : ℕ) (front : written ≡ take n output) → SaysOutputPart stops Texts input written
+  OfRefusal : (output : List ℕ) (says : IsRefusedOutput stops Texts input output) (n : ℕ) (front : written ≡ take n output) → SaysOutputPart stops Texts input written
 
 -- nothing was written; the input is what was read, no longer than a day may be, and what was not seen
 pub record SaysNothingRead (unseen : Option (List ℕ)) (input written : List ℕ) : Type 0 where

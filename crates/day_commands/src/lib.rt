@@ -1,8 +1,11 @@
-// The commands over days: `apply`, which writes the instance of each round.
+// The commands over days: `apply`, which writes the instance of each round, and `day`, which writes a dossier of each.
 #![tactic(auto)]
 
-pub mod apply;
+pub mod ended;
+mod entries;
 pub mod laws;
 pub mod refused;
+pub mod rounds;
 
-pub use apply::{Ended, apply_rounds};
+pub use ended::{DayOutput, Ended};
+pub use rounds::write_rounds;

@@ -10,6 +10,7 @@ ghost use Rattle.dossier_terms.specs.Table.{Ended, Reaches};
 ghost use Rattle.cert_checker.specs.Checked.{IsTrueYes};
 ghost use Rattle.dossier_commands.specs.Input.{IsRefusal, text_of_lines};
 
+use cause_laws::loose_splits_stay_open;
 use dossier_laws::{
     good_bounds, good_is_read, one_dossier, read_is_good, says_one_thing, sheet_is_good,
 };
@@ -51,6 +52,7 @@ pub fn whole_is_true()
 {
     read_is_good();
     good_bounds();
+    loose_splits_stay_open();
     text_laws::text_of_lines();
 }
 

@@ -99,6 +99,7 @@ pub fn put_no<K: Sink>(out: &mut K, line: u64, reason: Reason) -> Result<(), Wri
         Reason::Cut => put_word(out, b"no", line, b"Cut"),
         Reason::Pair => put_word(out, b"no", line, b"Pair"),
         Reason::Steps => put_word(out, b"no", line, b"Steps"),
+        Reason::Cause => put_word(out, b"no", line, b"Cause"),
         Reason::Potential(k, j) => {
             put_line(
                 out,

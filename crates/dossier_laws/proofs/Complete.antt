@@ -31,7 +31,7 @@ good_ended d h =
     let head = head_reached d.form d.instance d.budget (record { instance = h.instance; frozen = h.frozen; budget = h.budget }) in
     let pool = pool_reached d.form d.instance d.budget d.kept d.pool h.instance h.kept h.pool_length h.pool h.differ in
     let plan = plan_reached b h.instance h.plan h.bound in
-    let nodes = tree_reached b c t h.instance (h.leaves, h.sound) (record { splits_fit = omega arith; closed_fit = omega arith; open_fit = omega arith; depth_fit = omega arith }) in
+    let nodes = tree_reached b c t h.instance (h.leaves, h.sound, h.causes) (record { splits_fit = omega arith; closed_fit = omega arith; open_fit = omega arith; depth_fit = omega arith }) in
     let ranges : IsCounts c = record { splits = omega (arith, h.within, h.budget); closed = omega (arith, h.within, h.budget); left_open = omega (arith, h.within, h.budget); depth = omega (arith, h.within, h.budget) } in
     ended-append Form (head_lines d.form d.instance d.budget ++ pool_lines d.kept d.pool ++ plan_lines d.plan d.bound) (Trees b) (tree_lines d.form d.instance t) d
     (reaches-append Form (head_lines d.form d.instance d.budget ++ pool_lines d.kept d.pool) plans (plan_lines d.plan d.bound) (Trees b)

@@ -115,8 +115,8 @@ leaf_text front kind price rows tables = simp append_assoc
 done_leaf : (a : LeafSite) (leaf : Leaf) → IsLeafPart a leaf 0 → Proves (bound_of (limits_of a) (prices_of (limits_of a) leaf) (worths_of leaf)) a.begun.bound
     → (closed : Bool) → (closed ≡ true → Proves (bound_of (limits_of a) (prices_of (limits_of a) leaf) (worths_of leaf)) (unassigned_count a.begun.plan))
     → NodeHolds a.begun (limits_of a) (LeafNode (if closed then Closed leaf else Open leaf))
-done_leaf a leaf h low true high = (leaf_written a leaf h, ((leaf_valid a leaf h, low), (leaf_valid a leaf h, high refl)))
-done_leaf a leaf h low false high = (leaf_written a leaf h, (leaf_valid a leaf h, low))
+done_leaf a leaf h low true high = (leaf_written a leaf h, ((leaf_valid a leaf h, low), (leaf_valid a leaf h, high refl)), tt)
+done_leaf a leaf h low false high = (leaf_written a leaf h, (leaf_valid a leaf h, low), tt)
 
 done_text : (front : List Words) (form : DossierForm) (n : Limits) (leaf : Leaf) (closed : Bool)
     → front ++ node_lines form n (LeafNode (if closed then Closed leaf else Open leaf)) ≡ front ++ leaf_line closed ∷ [] ++ price_line leaf.prices ∷ [] ++ rows_lines extra_line (priced n) leaf.extras ++ table_lines form n 0 leaf.tables

@@ -13,14 +13,17 @@ pub mod HeadWrites
 pub mod Pool
 pub mod Plan
 pub mod NodeReads
+pub mod CauseReads
 pub mod LeafPrices
 pub mod Places
 pub mod LeafReads
 pub mod Sound
 pub mod LeafWrites
+pub mod CauseWrites
 pub mod NodeWrites
 pub mod Complete
 pub mod Spellings
+pub mod CauseSpellings
 pub mod Single
 pub mod One
 pub mod Sheet

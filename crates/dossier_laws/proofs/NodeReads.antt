@@ -10,13 +10,14 @@ use Rattle.crew_terms.specs.declared.Side.TheVariants.{First, Second}
 use Rattle.crew_terms.specs.declared.TreeCounts.{TreeCounts}
 use Rattle.dossier_terms.specs.declared.DossierForm.{DossierForm}
 use Rattle.dossier_terms.specs.declared.DossierForm.TheVariants.{One, Two}
-use Rattle.dossier_terms.specs.Dossier.{Written, Split, NoCause, IsGood}
+use Rattle.dossier_terms.specs.Causes.{NoCause}
+use Rattle.dossier_terms.specs.Dossier.{Written, Split, IsGood}
 use Rattle.dossier_terms.specs.Lines.{choice_line, split_lines, tree_line, end_line, node_lines}
-use Rattle.dossier_terms.specs.Reading.{Reading, Answer, More, limits_below, choice_done, node_done, whole, Trees, Nodes, Whys, Ends, Begun, Above}
+use Rattle.dossier_terms.specs.Reading.{Reading, Answer, More, limits_below, choice_done, node_done, whole, Trees, Nodes, Ends, Begun, Above}
 use Rattle.dossier_terms.specs.BodyTable.{tree_row}
-use Rattle.dossier_terms.specs.NodeTable.{node_row, leaf_row, after_split, why_row}
+use Rattle.dossier_terms.specs.NodeTable.{node_row, leaf_row, after_split}
 use Rattle.dossier_terms.specs.Table.{end_row}
-use Rattle.dossier_laws.proofs.SoFar.{IsPlanned, IsTreePart, NodeHolds, FramesHold, IsReading, spelled, Follows, begun_lines, nodes_so_far, frames_lines}
+use Rattle.dossier_laws.proofs.SoFar.{IsPlanned, IsTreePart, NodeHolds, FramesHold, CauseHolds, IsReading, spelled, Follows, begun_lines, nodes_so_far, frames_lines}
 use Rattle.dossier_laws.proofs.Rules.{must_then, when_then, spells_then, goes_then, finish_then}
 
 -- ---- a whole node
@@ -37,7 +38,7 @@ done_reads b c (InFirst split ∷ above) t p h k =
 done_reads b c (InSecond split first ∷ above) t p h k =
     let n = limits_below (root_limits b.instance) above in
     let so_far = tree_line c ∷ frames_lines b.form (root_limits b.instance) above in
-    let a = done_reads b c above (SplitNode split first t) p h.1 ((h.0.1.0, k.0), (h.0.0, h.0.1.1, k.1)) in (
+    let a = done_reads b c above (SplitNode split first t) p h.1 ((h.0.1.0, k.0), (h.0.0.0, h.0.1.1, k.1), (h.0.0.1, h.0.1.2, k.2)) in (
       a.0 ∙ beside (begun_lines b) so_far (split_lines b.form split ++ node_lines b.form (child n split.choice First) first) (node_lines b.form (child n split.choice Second) t),
       a.1,
     )
@@ -56,7 +57,7 @@ tree_follows b ws said r h = must_then s ws said (λ shape g.
     s = Trees b
 
 -- the lines of the first child's split, behind those so far
-split_text : (b : Begun) (c : TreeCounts) (above : List Above) (split : Split) (lines : List Words) → split_lines b.form split ≡ lines → nodes_so_far b c (InFirst split ∷ above) ≡ nodes_so_far b c above ++ lines
+pub split_text : (b : Begun) (c : TreeCounts) (above : List Above) (split : Split) (lines : List Words) → split_lines b.form split ≡ lines → nodes_so_far b c (InFirst split ∷ above) ≡ nodes_so_far b c above ++ lines
 split_text b c above split lines e =
     let so_far = tree_line c ∷ frames_lines b.form (root_limits b.instance) above in
     ap (λ ls. begun_lines b ++ (so_far ++ ls)) e ∙ sym (append_assoc (begun_lines b) so_far lines)
@@ -65,7 +66,8 @@ choice_follows : (b : Begun) (c : TreeCounts) (above : List Above) (choice : Cho
     → CanSplit (limits_below (root_limits b.instance) above) choice → (form : DossierForm) → b.form ≡ form → Follows (Nodes b c above) ws (More (choice_done form b c above choice))
 choice_follows b c above choice ws r e can One f =
     let split : Split = record { choice = choice; cause = NoCause } in
-    (split_text b c above split (ws ∷ []) (ap (λ form. split_lines form split) f ∙ ap (λ w. w ∷ []) (sym e)), (r.0, (can, r.1)))
+    let told : CauseHolds b.form b (limits_below (root_limits b.instance) above) NoCause = subst (λ form. CauseHolds form b (limits_below (root_limits b.instance) above) NoCause) (sym f) refl in
+    (split_text b c above split (ws ∷ []) (ap (λ form. split_lines form split) f ∙ ap (λ w. w ∷ []) (sym e)), (r.0, ((can, told), r.1)))
 choice_follows b c above choice ws r e can Two f = (ap (λ w. nodes_so_far b c above ++ w ∷ []) (sym e), (r.0, r.1, can, f))
 
 split_follows : (b : Begun) (c : TreeCounts) (above : List Above) (choice : Choice) (ws : Words) (said : Answer) → IsTreePart b c × FramesHold b above → ws ≡ choice_line choice
@@ -77,23 +79,10 @@ split_follows b c above choice ws said r e h = must_then s ws said (λ room g.
     s : Reading
     s = Nodes b c above
 
-pub why_follows : (b : Begun) (c : TreeCounts) (above : List Above) (choice : Choice) (ws : Words) (said : Answer) → IsReading (Whys b c above choice)
-    → why_row b c above choice ws said → Follows (Whys b c above choice) ws said
-why_follows b c above choice ws said r h = must_then s ws said (λ e g.
-    let split : Split = record { choice = choice; cause = NoCause } in
-    goes_then s ws said (
-      split_text b c above split (choice_line choice ∷ ws ∷ []) (ap (λ form. split_lines form split) r.3 ∙ ap (λ w. choice_line choice ∷ w ∷ []) (sym e))
-          ∙ sym (append_assoc (nodes_so_far b c above) (choice_line choice ∷ []) (ws ∷ [])),
-      (r.0, (r.2, r.1)),
-    ) g) h
-  where
-    s : Reading
-    s = Whys b c above choice
-
 leaf_follows : (b : Begun) (c : TreeCounts) (above : List Above) (ws : Words) (said : Answer) → IsTreePart b c × FramesHold b above → leaf_row b c above ws said → Follows (Nodes b c above) ws said
 leaf_follows b c above ws said r h = must_then s ws said (λ shape g.
     when_then s ws said (λ e g. must_then s ws said (λ room g. must_then s ws said (λ none g.
-    let done = done_reads b c above (LeafNode Bare) r.0 r.1 (tt, none) in
+    let done = done_reads b c above (LeafNode Bare) r.0 r.1 (tt, none, tt) in
     goes_then s ws said (done.0 ∙ ap (λ w. nodes_so_far b c above ++ w ∷ []) (sym e), done.1) g) g) g) (λ g.
     when_then s ws said (λ e g. must_then s ws said (λ room g.
     goes_then s ws said (ap (λ w. nodes_so_far b c above ++ w ∷ []) (sym e), r) g) g) (λ g.
@@ -128,6 +117,7 @@ end_follows b c t ws said r h = must_then s ws said (λ e g.
       bound = r.0.planned.bound;
       leaves = r.1.0;
       sound = r.1.1;
+      causes = r.1.2;
       within = subst (λ (n : TreeCounts). n.splits + n.closed ≤ b.budget) (sym counted) r.0.within;
       spent = λ l. subst (λ (n : TreeCounts). n.splits + n.closed ≡ b.budget) (sym counted) (r.0.spent l);
     } in

@@ -1,5 +1,5 @@
 -- the lines of a sound tree are read
-use Rattle.std.proofs.Common.{◌≡◌, ◌<◌, ◌≤◌, ◌+◌, ℕ, List, [], ◌∷◌, ◌++◌, length, ap, refl, ◌∙◌, subst, arith, true, false}
+use Rattle.std.proofs.Common.{◌≡◌, ◌<◌, ◌≤◌, ◌+◌, ℕ, List, [], ◌∷◌, ◌++◌, length, ap, sym, refl, ◌∙◌, subst, arith, true, false}
 use Rattle.std.specs.Prelude.{codes, slice_index, slice_index_or}
 use Rattle.crew_terms.specs.Words.{Words}
 use Rattle.crew_terms.specs.Instance.{Instance}
@@ -14,13 +14,15 @@ use Rattle.crew_terms.specs.declared.TreeCounts.{TreeCounts}
 use Rattle.crew_terms.specs.Nodes.{child_instance}
 use Rattle.dossier_terms.specs.declared.DossierForm.{DossierForm}
 use Rattle.dossier_terms.specs.declared.DossierForm.TheVariants.{One, Two}
-use Rattle.dossier_terms.specs.Dossier.{Written, Split, Cause, NoCause}
+use Rattle.dossier_terms.specs.Causes.{Cause, NoCause}
+use Rattle.dossier_terms.specs.Dossier.{Written, Split}
 use Rattle.dossier_terms.specs.Lines.{choice_line, split_lines, node_lines}
-use Rattle.dossier_terms.specs.Reading.{Answer, More, limits_below, choice_done, split_done, node_done, Nodes, Whys, Prices, Begun, Above}
+use Rattle.dossier_terms.specs.Reading.{Answer, More, limits_below, choice_done, split_done, node_done, Nodes, Whys, Prices, Begun, Above, SplitSite}
 use Rattle.dossier_terms.specs.Rules.{Holds, Then, Else, Spelled, On}
 use Rattle.dossier_terms.specs.Table.{Reaches}
 use Rattle.dossier_terms.specs.NodeTable.{HasSplitRoom, node_row, leaf_row}
-use Rattle.dossier_laws.proofs.SoFar.{NodeHolds}
+use Rattle.dossier_laws.proofs.SoFar.{NodeHolds, CauseHolds}
+use Rattle.dossier_laws.proofs.CauseWrites.{cause_reached}
 use Rattle.dossier_laws.proofs.Rules.{reaches-append}
 use Rattle.dossier_laws.proofs.Days.{IsDay, last_minute, root_day, child_day}
 use Rattle.dossier_laws.proofs.LeafWrites.{leaf_reached}
@@ -60,11 +62,18 @@ split_said b c above (choices.Pair k j) same day can fits =
     let task = subst (λ (i : Instance). j < length i.tasks) same can.task in
     Else (λ e. absurd (let a = ap (first_byte 0) e.1 in omega arith)) (Then (_, refl) (Holds (_, refl, refl) (Spelled (k, j) (team, task) refl (Holds fits (Holds can (On refl))))))
 
--- the lines of a split, where its choice is good
+-- the lines of a split, where its choice is good and its cause may be told
 split_reached : (b : Begun) (c : TreeCounts) (above : List Above) (form : DossierForm) (choice : Choice) (cause : Cause) → node_row b c above (choice_line choice) (More (choice_done form b c above choice))
+    → CauseHolds form b (limits_below (root_limits b.instance) above) cause
     → Reaches (Nodes b c above) (split_lines form (record { choice = choice; cause = cause })) (split_done b c above (record { choice = choice; cause = cause }))
-split_reached b c above One choice NoCause said = (split_done b c above (record { choice = choice; cause = NoCause }), said, refl)
-split_reached b c above Two choice NoCause said = (Whys b c above choice, said, (split_done b c above (record { choice = choice; cause = NoCause }), Holds refl (On refl), refl))
+split_reached b c above One choice cause said told = (
+  split_done b c above (record { choice = choice; cause = NoCause }),
+  said,
+  ap (λ (why : Cause). split_done b c above (record { choice = choice; cause = why })) (sym told),
+)
+split_reached b c above Two choice cause said told =
+    let p : SplitSite = record { begun = b; counts = c; above = above; choice = choice } in
+    (Whys p, said, cause_reached p cause told)
 
 leaf_said : (b : Begun) (c : TreeCounts) (above : List Above) (rest : Words) (said : Answer) → leaf_row b c above (codes "leaf" ∷ rest) said → node_row b c above (codes "leaf" ∷ rest) said
 leaf_said b c above rest said h = Else (λ e. absurd (let a = ap (first_byte 0) e.1 in omega arith)) (Else (λ e. absurd (let a = ap (first_byte 0) e.1 in omega arith)) h)
@@ -93,9 +102,9 @@ nodes_reached b c (SplitNode split first second) above same day h f =
     let lines = node_lines b.form (child n choice First) first in
     reaches-append (Nodes b c above) (split_lines b.form split ++ lines) (Nodes b c (InSecond split first ∷ above)) (node_lines b.form (child n choice Second) second) (node_done b c above (SplitNode split first second))
     (reaches-append (Nodes b c above) (split_lines b.form split) (Nodes b c (InFirst split ∷ above)) lines (Nodes b c (InSecond split first ∷ above))
-    (split_reached b c above b.form choice split.cause (split_said b c above choice same day h.1.0 (room c above split first second f)))
-    (nodes_reached b c first (InFirst split ∷ above) (child_instance n choice First ∙ same) (child_day n choice First day h.1.0) (h.0.0, h.1.1) (first_fits c above split first second f)))
-    (nodes_reached b c second (InSecond split first ∷ above) (child_instance n choice Second ∙ same) (child_day n choice Second day h.1.0) (h.0.1, h.1.2) (second_fits c above split first second f))
+    (split_reached b c above b.form choice split.cause (split_said b c above choice same day h.1.0 (room c above split first second f)) h.2.0)
+    (nodes_reached b c first (InFirst split ∷ above) (child_instance n choice First ∙ same) (child_day n choice First day h.1.0) (h.0.0, h.1.1, h.2.1) (first_fits c above split first second f)))
+    (nodes_reached b c second (InSecond split first ∷ above) (child_instance n choice Second ∙ same) (child_day n choice Second day h.1.0) (h.0.1, h.1.2, h.2.2) (second_fits c above split first second f))
 
 pub tree_reached : (b : Begun) (c : TreeCounts) (t : Written) → IsInstance b.instance → NodeHolds b (root_limits b.instance) t → Fits c [] t
     → Reaches (Nodes b c []) (node_lines b.form (root_limits b.instance) t) (node_done b c [] t)

@@ -136,6 +136,7 @@ sheet_good = record {
   bound = omega arith;
   leaves = tt;
   sound = refl;
+  causes = tt;
   within = omega arith;
   spent = λ l. refl;
 }

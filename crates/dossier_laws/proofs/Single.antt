@@ -14,14 +14,16 @@ use Rattle.dossier_terms.specs.Runs.{values_of}
 use Rattle.crew_terms.specs.Limits.{Limits}
 use Rattle.crew_terms.specs.Minutes.{first_minute, minute_count}
 use Rattle.crew_terms.specs.Words.{Words}
-use Rattle.dossier_terms.specs.Reading.{Reading, Answer, No, Form, Sizes, Places, Travels, Teams, Tasks, Frozens, Keeps, Pools, Routes, Plans, Jobs, Trees, Nodes, Whys, Prices, Extras, Worths, Phis, Ends, Begun, Opening, LeafSite, limits_of}
+use Rattle.dossier_terms.specs.Reading.{Reading, Answer, No, Form, Sizes, Places, Travels, Teams, Tasks, Frozens, Keeps, Pools, Routes, Plans, Jobs, Trees, Nodes, Whys, Parts, Spares, Prices, Extras, Worths, Phis, Ends, Begun, Opening, LeafSite, limits_of}
 use Rattle.dossier_terms.specs.Rules.{Must, Holds, Fails, MustEach, HoldsOfAll, FailsAt, MustBy, HoldsBy, FailsBy, When, Then, Else, MustSpell, Spelled, Unspelled, Goes, On}
 use Rattle.dossier_terms.specs.Table.{Says, Finishes, Finish}
 use Rattle.dossier_terms.specs.BodyTable.{BreaksPlan, after_job}
+use Rattle.dossier_terms.specs.CauseTable.{tasks_at}
 use Rattle.dossier_terms.specs.HeadTable.{after_keep}
 use Rattle.dossier_terms.specs.LeafTable.{after_table, after_phi, after_extra, potentials_row}
 use Rattle.dossier_laws.proofs.SoFar.{IsReading}
 use Rattle.dossier_laws.proofs.Spellings.{form_one, size_one, name_one, travel_one, team_one, task_one, pool_one, plan_one, window_one, node_pair_one, tree_one, route_one, do_one, prices_one, signed_one, worth_one, frozen_one, keep_one, steps_one}
+use Rattle.dossier_laws.proofs.CauseSpellings.{loose_one, share_one, spare_one, overflow_one, spent_one}
 use Rattle.dossier_laws.proofs.HeadReads.{parts_whole}
 
 abbrev pub Single : (Answer → Type 0) → Type 0
@@ -126,7 +128,15 @@ says_one verdicts (Nodes b c above) ws r =
     when_one (must_one (spells_one (window_one (length b.instance.tasks) parts.few_tasks) (λ x h. must_one (must_one goes_one))))
     (when_one (must_one (spells_one (node_pair_one (length b.instance.teams) (length b.instance.tasks) parts.few_teams parts.few_tasks) (λ x h. must_one (must_one goes_one))))
     (must_one (when_one (must_one (must_one goes_one)) (when_one (must_one goes_one) (must_one (must_one goes_one))))))
-says_one verdicts (Whys b c above choice) ws r = must_one goes_one
+says_one verdicts (Whys p) ws r =
+    let few = r.0.planned.pool.head.instance.parts.few_tasks in
+    when_one (must_one (spells_one (loose_one (tasks_at p) few) (λ z h. must_one goes_one)))
+    (when_one (must_one (spells_one (overflow_one (tasks_at p) few) (λ z h. must_one (must_one goes_one))))
+    (when_one (must_one (spells_one (spent_one (tasks_at p) few) (λ z h. must_one goes_one)))
+    (must_one goes_one)))
+says_one verdicts (Parts p now read left from) ws r =
+    must_one (spells_one (share_one (length p.begun.pool) read.whole r.site.0.planned.pool.many r.whole) (λ part h. must_one (must_one goes_one)))
+says_one verdicts (Spares p now read) ws r = must_one (spells_one (spare_one (tasks_at p) read.whole r.1.whole) (λ spare h. must_one goes_one))
 says_one verdicts (Prices a) ws r = must_one (spells_one (λ x y h k e. prices_one _ x y h k (tail_is _ _ _ _ e)) (λ x h. extra_one a (record { prices = x; extras = []; tables = [] }) _))
 says_one verdicts (Extras a leaf j js) ws r = must_one (spells_one (λ x y h k e. prices_one _ x y h k (tail_is _ _ _ _ (tail_is _ _ _ _ e))) (λ x h. extra_one a (record leaf { extras = leaf.extras ++ x ∷ [] }) js))
 says_one verdicts (Worths a leaf left) ws r = must_one (spells_one worth_one (λ x h. phi_one a leaf left (record { worth = x; phi = [] }) _))

@@ -19,9 +19,10 @@ use Rattle.crew_terms.specs.declared.TreeCounts.{TreeCounts}
 use Rattle.crew_terms.specs.declared.TheConstants.{MOST_NODES}
 use Rattle.dossier_terms.specs.declared.DossierForm.{DossierForm}
 use Rattle.dossier_terms.specs.declared.DossierForm.TheVariants.{Two}
-use Rattle.dossier_terms.specs.Dossier.{Written, Leaf, Potentials, IsPooled, IsGood, FitsForm, tree_of, AreWritten, AreRows, IsWorthNumber, IsSigned, IsTable, prices_of, phi_in}
-use Rattle.dossier_terms.specs.Lines.{form_line, size_line, size_of, place_line, travel_line, team_line, task_line, frozen_line, keep_line, pool_line, route_line, plan_line, do_line, tree_line, choice_line, split_lines, open_line, closed_line, price_line, extra_line, worth_line, potentials_line, rows_lines, table_lines, node_lines, head_lines, plan_lines, jobs_from, lines_of}
-use Rattle.dossier_terms.specs.Reading.{Reading, Answer, More, Whole, No, Opening, limits_below, limits_of, Form, Sizes, Places, Travels, Teams, Tasks, Frozens, Keeps, Pools, Routes, Plans, Jobs, Trees, Nodes, Whys, Prices, Extras, Worths, Phis, Ends, Begun, Above, LeafSite}
+use Rattle.dossier_terms.specs.Causes.{Cause, Part, Shares, IsNow, IsPartOf, PartsRise, IsCauseOf}
+use Rattle.dossier_terms.specs.Dossier.{Written, Split, Leaf, Potentials, IsPooled, IsGood, FitsForm, tree_of, AreWritten, AreCaused, AreRows, IsWorthNumber, IsSigned, IsTable, prices_of, phi_in}
+use Rattle.dossier_terms.specs.Lines.{form_line, size_line, size_of, place_line, travel_line, team_line, task_line, frozen_line, keep_line, pool_line, route_line, plan_line, do_line, tree_line, choice_line, loose_line, share_line, split_lines, open_line, closed_line, price_line, extra_line, worth_line, potentials_line, rows_lines, table_lines, node_lines, head_lines, plan_lines, jobs_from, lines_of}
+use Rattle.dossier_terms.specs.Reading.{Reading, Answer, More, Whole, No, Opening, limits_below, limits_of, limits_before, Form, Sizes, Places, Travels, Teams, Tasks, Frozens, Keeps, Pools, Routes, Plans, Jobs, Trees, Nodes, Whys, Parts, Spares, Prices, Extras, Worths, Phis, Ends, Begun, Above, LeafSite, SplitSite}
 use Rattle.dossier_terms.specs.Ranges.{IsSize, IsTravel}
 
 -- the lines up to the last task so far
@@ -116,18 +117,39 @@ pub record IsTreePart (b : Begun) (c : TreeCounts) : Type 0 where
   pub within : c.splits + c.closed ≤ b.budget
   pub spent : b.bound < unassigned_count b.plan → c.splits + c.closed ≡ b.budget
 
--- a whole node is sound in its limits
+-- a whole node is sound in its limits, and its splits have causes that may be told
 abbrev pub NodeHolds : Begun → Limits → Written → Type 0
-NodeHolds b n t = AreWritten n t × IsSound (tree_of n t) n b.bound (unassigned_count b.plan)
+NodeHolds b n t = AreWritten n t × IsSound (tree_of n t) n b.bound (unassigned_count b.plan) × AreCaused b.form b.pool n (unassigned_count b.plan) t
+
+-- a cause may be told of a split of the node
+abbrev pub CauseHolds : DossierForm → Begun → Limits → Cause → Type 0
+CauseHolds form b n cause = IsCauseOf form b.pool n (unassigned_count b.plan) cause
+
+-- a split is one of its node
+abbrev pub SplitHolds : Begun → Limits → Split → Type 0
+SplitHolds b n split = CanSplit n split.choice × CauseHolds b.form b n split.cause
 
 -- the split above the node is one of its node, and its first child is sound where that is whole
 abbrev pub FrameHolds : Begun → Limits → Above → Type 0
-FrameHolds b n (InFirst split) = CanSplit n split.choice
-FrameHolds b n (InSecond split first) = CanSplit n split.choice × NodeHolds b (child n split.choice First) first
+FrameHolds b n (InFirst split) = SplitHolds b n split
+FrameHolds b n (InSecond split first) = SplitHolds b n split × NodeHolds b (child n split.choice First) first
 
 abbrev pub FramesHold : Begun → List Above → Type 0
 FramesHold b [] = Unit {0}
 FramesHold b (frame ∷ above) = FrameHolds b (limits_below (root_limits b.instance) above) frame × FramesHold b above
+
+-- the node can be split so, in form 2
+abbrev pub IsSplitSite : SplitSite → Type 0
+IsSplitSite p = IsTreePart p.begun p.counts × FramesHold p.begun p.above × CanSplit (limits_before p) p.choice × (p.begun.form ≡ Two)
+
+-- the shares so far, where this many more come, of columns from `from` on
+pub record ArePartsRead (p : SplitSite) (now : ℕ) (read : Shares) (left from : ℕ) : Type 0 where
+  pub site : IsSplitSite p
+  pub now_known : IsNow (limits_before p) (unassigned_count p.begun.plan) now
+  pub whole : read.whole ≤ 170141183460469231731687303715884105727
+  pub count : length read.parts + left ≤ 9223372036854775807
+  pub parts : AllByRecursion (IsPartOf (length p.begun.pool) read.whole) read.parts
+  pub rise : (more : List Part) → PartsRise from more → PartsRise 0 (read.parts ++ more)
 
 abbrev pub IsLeafSite : LeafSite → Type 0
 IsLeafSite a = IsTreePart a.begun a.counts × FramesHold a.begun a.above
@@ -167,7 +189,9 @@ IsReading (Plans b) = AreRoutes b 0
 IsReading (Jobs b k from) = AreJobs b (suc k) from
 IsReading (Trees b) = IsPlanned b
 IsReading (Nodes b c above) = IsTreePart b c × FramesHold b above
-IsReading (Whys b c above choice) = IsTreePart b c × FramesHold b above × CanSplit (limits_below (root_limits b.instance) above) choice × (b.form ≡ Two)
+IsReading (Whys p) = IsSplitSite p
+IsReading (Parts p now read left from) = ArePartsRead p now read (suc left) from
+IsReading (Spares p now read) = (from : ℕ) × ArePartsRead p now read 0 from
 IsReading (Prices a) = IsLeafSite a
 IsReading (Extras a leaf j js) = IsLeafSite a × AreLeafPrices (limits_of a) leaf (j ∷ js) × (leaf.tables ≡ [])
 IsReading (Worths a leaf left) = IsLeafPart a leaf (suc left)
@@ -200,6 +224,14 @@ begun_lines b = routes_lines b (length b.pool) ++ plan_lines b.plan b.bound
 
 abbrev pub nodes_so_far : Begun → TreeCounts → List Above → List Words
 nodes_so_far b c above = begun_lines b ++ tree_line c ∷ frames_lines b.form (root_limits b.instance) above
+
+-- the lines up to the choice of a split
+abbrev pub split_so_far : SplitSite → List Words
+split_so_far p = nodes_so_far p.begun p.counts p.above ++ choice_line p.choice ∷ []
+
+-- the shares' lines so far, of this many in all
+abbrev pub parts_so_far : SplitSite → ℕ → Shares → ℕ → List Words
+parts_so_far p now read all = split_so_far p ++ loose_line now read.whole all ∷ map share_line read.parts
 
 abbrev pub leaf_line : Bool → Words
 leaf_line is_closed = if is_closed then closed_line else open_line
@@ -236,7 +268,9 @@ spelled (Plans b) = routes_lines b (length b.pool)
 spelled (Jobs b k from) = jobs_lines b (suc k)
 spelled (Trees b) = begun_lines b
 spelled (Nodes b c above) = nodes_so_far b c above
-spelled (Whys b c above choice) = nodes_so_far b c above ++ choice_line choice ∷ []
+spelled (Whys p) = split_so_far p
+spelled (Parts p now read left from) = parts_so_far p now read (length read.parts + suc left)
+spelled (Spares p now read) = parts_so_far p now read (length read.parts)
 spelled (Prices a) = site_so_far a
 spelled (Extras a leaf j js) = prices_so_far a leaf
 spelled (Worths a leaf left) = tables_so_far a leaf

@@ -3,14 +3,15 @@ use Rattle.std.proofs.Common.{◌≡◌, List, [], ◌∷◌, ◌++◌, ap, sym,
 use Rattle.dossier_terms.specs.Dossier.{Dossier, IsGood}
 use Rattle.crew_terms.specs.Words.{Words}
 use Rattle.dossier_terms.specs.Lines.{lines_of}
-use Rattle.dossier_terms.specs.Reading.{Reading, Answer, More, Whole, Form, Sizes, Places, Travels, Teams, Tasks, Frozens, Keeps, Pools, Routes, Plans, Jobs, Trees, Nodes, Whys, Prices, Extras, Worths, Phis, Ends}
+use Rattle.dossier_terms.specs.Reading.{Reading, Answer, More, Whole, Form, Sizes, Places, Travels, Teams, Tasks, Frozens, Keeps, Pools, Routes, Plans, Jobs, Trees, Nodes, Whys, Parts, Spares, Prices, Extras, Worths, Phis, Ends}
 use Rattle.dossier_terms.specs.Table.{Says, Ended}
 use Rattle.dossier_laws.proofs.SoFar.{IsReading, spelled, Follows}
 use Rattle.dossier_laws.proofs.HeadReads.{form_follows, size_follows, place_follows, travel_follows, team_follows, task_follows}
 use Rattle.dossier_laws.proofs.Frozen.{frozen_follows, keep_follows}
 use Rattle.dossier_laws.proofs.Pool.{pool_follows, route_follows}
 use Rattle.dossier_laws.proofs.Plan.{plan_follows, job_follows}
-use Rattle.dossier_laws.proofs.NodeReads.{tree_follows, node_follows, why_follows, end_follows}
+use Rattle.dossier_laws.proofs.NodeReads.{tree_follows, node_follows, end_follows}
+use Rattle.dossier_laws.proofs.CauseReads.{why_follows, share_follows, spare_follows}
 use Rattle.dossier_laws.proofs.LeafReads.{price_follows, extra_follows, worth_follows, table_follows}
 
 pub says_follows : (s : Reading) (ws : Words) (said : Answer) → IsReading s → Says s ws said → Follows s ws said
@@ -28,7 +29,9 @@ says_follows (Plans b) ws said r h = plan_follows b ws said r h
 says_follows (Jobs b k from) ws said r h = job_follows b k from ws said r h
 says_follows (Trees b) ws said r h = tree_follows b ws said r h
 says_follows (Nodes b c above) ws said r h = node_follows b c above ws said r h
-says_follows (Whys b c above choice) ws said r h = why_follows b c above choice ws said r h
+says_follows (Whys p) ws said r h = why_follows p ws said r h
+says_follows (Parts p now read left from) ws said r h = share_follows p now read left from ws said r h
+says_follows (Spares p now read) ws said r h = spare_follows p now read ws said r h
 says_follows (Prices a) ws said r h = price_follows a ws said r h
 says_follows (Extras a leaf j js) ws said r h = extra_follows a leaf j js ws said r h
 says_follows (Worths a leaf left) ws said r h = worth_follows a leaf left ws said r h

@@ -31,11 +31,11 @@ use Rattle.std.proofs.lemmas.List.Elements.{recursion_from_All}
 pub dec : (m n : ℕ) → m < 18446744073709551616 → n < 18446744073709551616 → decimal m ≡ decimal n → m ≡ n
 dec m n a b e = decimal_injective m n (omega arith) (omega arith) e
 
-abbrev read_on : ℕ → List ℕ → ℕ
+abbrev pub read_on : ℕ → List ℕ → ℕ
 read_on n [] = n
 read_on n (c ∷ cs) = read_on (10 * n + (c - 48)) cs
 
-own : IsNumeralModel (λ ds. all_ascii_digits ds ≡ true) (read_on 0)
+pub own : IsNumeralModel (λ ds. all_ascii_digits ds ≡ true) (read_on 0)
 own = numerals_by_fold _ (search rules) read_on (search rules)
 
 no_sign : (n : ℕ) (ds : List ℕ) → n < 18446744073709551616 → decimal n ≡ 45 ∷ ds → ⊥

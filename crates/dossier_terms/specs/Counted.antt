@@ -3,12 +3,14 @@ use Rattle.std.proofs.Common.{◌≡◌, ◌≤◌, ◌+◌, ◌-◌, ◌*◌, �
 use Rattle.std.specs.Prelude.{pos, negsuc, ◌≤ℤ◌}
 use Rattle.std.specs.List.{flat_map}
 use Rattle.std.proofs.lemmas.Int.{ints}
+use Rattle.crew_num.specs.Exact.{FitsI128}
 use Rattle.crew_terms.specs.Branches.{LeafNode, SplitNode, Bare, Open, Closed, splits, closed, left_open, depth, split_of, side_of}
 use Rattle.crew_terms.specs.Leaf.{IsPrice}
 use Rattle.crew_terms.specs.Limits.{Limits, Route}
 use Rattle.crew_terms.specs.Nodes.{child_instance}
 use Rattle.crew_terms.specs.declared.Visit.{Visit}
-use Rattle.dossier_terms.specs.Dossier.{Written, Cause, NoCause, unshown_in, unshown, IsWorthNumber, IsSigned}
+use Rattle.dossier_terms.specs.Dossier.{Written, unshown, IsWorthNumber, IsSigned}
+use Rattle.dossier_terms.specs.Causes.{Cause, NoCause, Loose, Overflowed, Spent, unshown_in}
 use Rattle.dossier_terms.specs.Reading.{Above, limits_below}
 use Rattle.dossier_terms.specs.Runs.{Run}
 use Rattle.dossier_terms.specs.Lines.{visit_words, route_line, run_words, steps_line}
@@ -26,17 +28,20 @@ pub depth_le : (t : Written) → depth t ≤ splits t
 depth_le (LeafNode claim) = omega arith
 depth_le (SplitNode split first second) = let a = depth_le first in let b = depth_le second in omega arith
 
--- so far no cause shows anything
-cause_is_unshown : (c : Cause) → unshown_in c ≡ 1
-cause_is_unshown NoCause = refl
+-- a cause is unshown or not
+unshown_le : (c : Cause) → unshown_in c ≤ 1
+unshown_le NoCause = omega arith
+unshown_le (Loose now shares) = omega arith
+unshown_le (Overflowed now fault) = omega arith
+unshown_le (Spent now) = omega arith
 
--- so the splits that are unshown are all
-pub unshown_is_splits : (t : Written) → unshown t ≡ splits t
-unshown_is_splits (LeafNode claim) = refl
-unshown_is_splits (SplitNode split first second) =
-    let a = unshown_is_splits first in
-    let b = unshown_is_splits second in
-    let c = cause_is_unshown split.cause in
+-- so no more splits are unshown than there are
+pub unshown_fits : (t : Written) → unshown t ≤ splits t
+unshown_fits (LeafNode claim) = omega arith
+unshown_fits (SplitNode split first second) =
+    let a = unshown_fits first in
+    let b = unshown_fits second in
+    let c = unshown_le split.cause in
     omega arith
 
 -- each node is over the instance of the root
@@ -67,7 +72,12 @@ pub record IsWide (z : ℤ) : Type 0 where
   pub least : negsuc 9223372036854775807 ≤ℤ z
   pub most : z ≤ℤ pos 9223372036854775807
 
--- a price does
+-- fits 128 bits, with a sign
+pub record IsVast (z : ℤ) : Type 0 where
+  pub least : negsuc 170141183460469231731687303715884105727 ≤ℤ z
+  pub most : z ≤ℤ pos 170141183460469231731687303715884105727
+
+-- a price fits 64 bits
 pub price_wide : (z : ℤ) → IsPrice z → IsWide z
 price_wide z h = let p = h.least in let q = h.most in record { least = omega (arith, ints); most = omega (arith, ints) }
 
@@ -78,3 +88,7 @@ worth_wide z h = let p = h.least in let q = h.most in record { least = omega (ar
 -- a potential does
 pub signed_wide : (z : ℤ) → IsSigned z → IsWide z
 signed_wide z h = record { least = grind (arith, ints, h); most = grind (arith, ints, h) }
+
+-- an operand fits 128 bits
+pub vast : (z : ℤ) → FitsI128 z → IsVast z
+vast z h = record { least = grind (arith, ints, h); most = grind (arith, ints, h) }

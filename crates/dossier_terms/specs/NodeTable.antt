@@ -10,9 +10,8 @@ use Rattle.crew_terms.specs.declared.TreeCounts.{TreeCounts}
 use Rattle.crew_terms.specs.declared.TheConstants.{LAST_MINUTE}
 use Rattle.dossier_terms.specs.declared.Reason.{Reason}
 use Rattle.dossier_terms.specs.declared.Reason.TheVariants.{Shape, Number, Count, Cut, Pair as BadPair, Bound}
-use Rattle.dossier_terms.specs.Dossier.{NoCause}
-use Rattle.dossier_terms.specs.Lines.{window_line, pair_line, why_none_line, bare_line, open_line, closed_line}
-use Rattle.dossier_terms.specs.Reading.{Answer, Begun, Above, Prices, limits_below, split_done, choice_done, node_done}
+use Rattle.dossier_terms.specs.Lines.{window_line, pair_line, bare_line, open_line, closed_line}
+use Rattle.dossier_terms.specs.Reading.{Answer, Begun, Above, Prices, limits_below, choice_done, node_done}
 use Rattle.dossier_terms.specs.Rules.{Must, When, MustSpell, Goes, IsShape, Begins}
 
 -- there is room for one more split
@@ -41,11 +40,6 @@ abbrev pub pair_row : Begun → TreeCounts → List Above → Words → Answer �
 pair_row b c above ws = Must (IsShape (codes "pair") 2 ws) Shape
     (MustSpell (λ (p : ℕ × ℕ). pair_line p.0 p.1) (λ p. (p.0 < length b.instance.teams) × (p.1 < length b.instance.tasks)) ws Number λ p.
     after_split b c above (choices.Pair p.0 p.1))
-
--- the line `why` of a node that is split so
-abbrev pub why_row : Begun → TreeCounts → List Above → Choice → Words → Answer → Type 0
-why_row b c above choice ws = Must (ws ≡ why_none_line) Shape
-    (Goes (split_done b c above (record { choice = choice; cause = NoCause })))
 
 -- what is said after a leaf without prices
 abbrev pub after_bare : Begun → TreeCounts → List Above → Answer → Type 0

@@ -1,5 +1,5 @@
 -- the ranges of the words of each kind of line, and the shapes of lines
-use Rattle.std.specs.Prelude.{◌≡◌, ◌≤◌, ◌<◌, ◌+◌, ◌*◌, ◌++◌, ℕ, ℤ, List, [], ◌∷◌, length, slice_index_or, All}
+use Rattle.std.specs.Prelude.{◌≡◌, ◌≤◌, ◌<◌, ◌+◌, ◌*◌, ◌++◌, ℕ, ℤ, List, [], ◌∷◌, length, slice_index_or, codes, All}
 use Rattle.std.specs.List.{AllByRecursion}
 use Rattle.std.specs.Fmt.{decimal}
 use Rattle.crew_terms.specs.Words.{Words}
@@ -14,7 +14,11 @@ use Rattle.crew_terms.specs.declared.TreeCounts.{TreeCounts}
 use Rattle.crew_terms.specs.declared.TheConstants.{MOST_PLACES, MOST_TEAMS, MOST_TASKS, SKILLS, LAST_MINUTE, MOST_NODES}
 use Rattle.dossier_terms.specs.declared.Size.{Size}
 use Rattle.dossier_terms.specs.Dossier.{IsSigned}
+use Rattle.crew_num.specs.declared.Op.{Op}
+use Rattle.crew_num.specs.declared.Overflow.{Overflow}
+use Rattle.crew_num.specs.Exact.{FitsI128}
 use Rattle.dossier_terms.specs.Runs.{Run}
+use Rattle.dossier_terms.specs.Lines.{op_word}
 
 -- ---- ranges
 
@@ -82,6 +86,29 @@ pub record IsStepsLine (runs : List Run) : Type 0 where
   pub minutes : AllByRecursion (λ (r : Run). r.from ≤ LAST_MINUTE) runs
   pub numbers : AllByRecursion (λ (r : Run). IsSigned r.value) runs
 
+-- the range of the number of unassigned tasks that a cause tells, where there are n tasks
+pub record IsNowWord (n now : ℕ) : Type 0 where
+  pub some : 1 ≤ now
+  pub known : now ≤ n
+
+-- the ranges of the first line of a loose cause: what the plan left unassigned, the parts of a share, and the columns
+pub record IsLooseLine (n : ℕ) (p : ℕ × ℕ × ℕ) : Type 0 where
+  pub now : IsNowWord n p.0
+  pub some : 1 ≤ p.1
+  pub whole : p.1 ≤ 170141183460469231731687303715884105727
+  pub count : p.2 ≤ 9223372036854775807
+
+-- the ranges of a line `spare`
+pub record IsSpareLine (n whole : ℕ) (spare : List ℕ) : Type 0 where
+  pub count : length spare ≡ n
+  pub most : AllByRecursion (λ z. z ≤ whole) spare
+
+-- the ranges of the line of an overflow
+pub record IsOverflowLine (n : ℕ) (p : ℕ × Overflow) : Type 0 where
+  pub now : IsNowWord n p.0
+  pub a : FitsI128 p.1.a
+  pub b : FitsI128 p.1.b
+
 -- ---- shapes
 
 -- the word behind the first one is a name
@@ -95,6 +122,18 @@ IsPairs ws = (k : ℕ) × (length ws ≡ 4 + 2 * k)
 -- the first word, the task that is due, and this many words
 abbrev pub IsRow : (ℕ → List ℤ → Words) → ℕ → ℕ → Words → Type 0
 IsRow line j n ws = (rest : Words) × (ws ≡ line j [] ++ rest) × (length rest ≡ n)
+
+-- a cause of this kind, and n words more
+abbrev pub IsWhy : List ℕ → ℕ → Words → Type 0
+IsWhy kind n ws = (rest : Words) × (ws ≡ codes "why" ∷ kind ∷ rest) × (length rest ≡ n)
+
+-- a cause of this kind
+abbrev pub BeginsWhy : List ℕ → Words → Type 0
+BeginsWhy kind ws = (rest : Words) × (ws ≡ codes "why" ∷ kind ∷ rest)
+
+-- an overflow of one of the operations, and three numbers
+abbrev pub IsWhyOverflow : Words → Type 0
+IsWhyOverflow ws = (op : Op) × (now a b : List ℕ) × (ws ≡ codes "why" ∷ codes "overflow" ∷ now ∷ op_word op ∷ a ∷ b ∷ [])
 
 -- the first word, and the task that is due
 abbrev pub BeginsAt : List ℕ → ℕ → Words → Type 0

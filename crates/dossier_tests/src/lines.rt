@@ -12,6 +12,15 @@ const NODE: Expect = Expect::Node { teams: 2, tasks: 3 };
 
 const KEEP: Expect = Expect::Keep { teams: 2, tasks: 3 };
 
+const WHY: Expect = Expect::Why { tasks: 2 };
+
+const SHARE: Expect = Expect::Share {
+    columns: 3,
+    whole: 4,
+};
+
+const SPARE: Expect = Expect::Spare { tasks: 2, whole: 4 };
+
 /// A kind of line, and a good line of it.
 type Good = (Expect, &'static [u8]);
 
@@ -20,7 +29,18 @@ const GOOD: &[Good] = &[
     (Expect::Form, b"crew dossier 2"),
     (Expect::Frozen { most: 2 }, b"frozen 2"),
     (KEEP, b"keep 2 2880 0 1"),
-    (Expect::Why, b"why none"),
+    (WHY, b"why none"),
+    (
+        WHY,
+        b"why loose 2 170141183460469231731687303715884105727 0",
+    ),
+    (
+        WHY,
+        b"why overflow 1 sub -170141183460469231731687303715884105728 1",
+    ),
+    (WHY, b"why spent 2"),
+    (SHARE, b"share 2 4"),
+    (SPARE, b"spare 0 4"),
     (
         Expect::Steps { task: 7 },
         b"steps 7 0 -9223372036854775808 2880 9223372036854775807",
@@ -137,9 +157,26 @@ const SECOND_FORM: &[Bad] = &[
     (KEEP, b"keep 3 420", LineFault::Number),
     (KEEP, b"keep 2 2881", LineFault::Number),
     (KEEP, b"keep 2 420 2", LineFault::Number),
-    (Expect::Why, b"why", LineFault::Shape),
-    (Expect::Why, b"why not", LineFault::Shape),
-    (Expect::Why, b"why none 0", LineFault::Shape),
+    (WHY, b"why", LineFault::Shape),
+    (WHY, b"why not", LineFault::Shape),
+    (WHY, b"why none 0", LineFault::Shape),
+    (WHY, b"why loose 1 1", LineFault::Shape),
+    (WHY, b"why loose 3 1 1", LineFault::Number),
+    (WHY, b"why loose 1 0 1", LineFault::Number),
+    (
+        WHY,
+        b"why loose 1 170141183460469231731687303715884105728 1",
+        LineFault::Number,
+    ),
+    (WHY, b"why overflow 1 div 1 1", LineFault::Shape),
+    (WHY, b"why overflow 1 add -0 1", LineFault::Number),
+    (WHY, b"why spent 0", LineFault::Number),
+    (SHARE, b"share 1", LineFault::Shape),
+    (SHARE, b"share 3 1", LineFault::Number),
+    (SHARE, b"share 1 0", LineFault::Number),
+    (SHARE, b"share 1 5", LineFault::Number),
+    (SPARE, b"spare 0", LineFault::Shape),
+    (SPARE, b"spare 0 5", LineFault::Number),
     (STEPS, b"steps 12", LineFault::Shape),
     (STEPS, b"steps 12 420", LineFault::Shape),
     (STEPS, b"steps 12 420 1 421", LineFault::Shape),

@@ -1,11 +1,17 @@
 // Generated days. What is compared was worked out from the generator's published definition, and not by this program.
-ghost use Rattle.std.specs.Prelude.{All, IfOk};
+ghost use Rattle.std.specs.Prelude.{◌≡◌, ◌≤◌, All, IfErr, IfOk, OnOk, fold};
+ghost use Rattle.crew_terms.specs.declared.TheConstants.{MOST_NODES, MOST_TASKS, MOST_TEAMS};
+ghost use Rattle.day_gen.specs.Day.{generated_day};
 ghost use Rattle.day_terms.specs.Ranges.{IsInRange};
+ghost use Rattle.day_terms.specs.Refusal.{AreTaken};
+ghost use Rattle.day_terms.specs.Rounds.{day_instance};
+ghost use Rattle.day_terms.specs.State.{after_entry, state_after};
 
+use crew_instance::Instance;
 use crew_terms::Name;
-use day_gen::{Entry, make};
+use day_gen::{Entry, generated_days_are_taken, make};
 use day_records::read_day;
-use flight_changes::Desk;
+use flight_changes::{ChangeFault, Desk};
 use std::alloc::Global;
 use std::test::Fail;
 
@@ -106,16 +112,49 @@ fn is_what_its_text_says(rt: HostRuntime) -> Result<(), Fail> {
     Ok(())
 }
 
-#[test]
-fn desk_takes_it(rt: HostRuntime) -> Result<(), Fail> {
-    let day = day(rt.alloc())?;
-    let mut desk = Desk::new(rt.alloc());
-    for entry in &day {
+/// Puts entries on a desk that takes them all: only memory can be wanting.
+#[tactic(auto, using(crate::proofs::Taken::next_is_taken, crate::proofs::Taken::next_state))]
+fn put_all(desk: &mut Desk, entries: &[Entry]) -> Result<(), ChangeFault>
+    requires ranges { All IsInRange entries.now }
+    requires taken { AreTaken desk.old entries.now }
+    ensures state { OnOk result (desk.new ≡ fold after_entry desk.old entries.now) }
+    ensures err { IfErr result (λ fault. fault ≡ ChangeFault.OutOfMemory) }
+{
+    for entry in entries {
         desk.apply(entry)?;
     }
-    let instance = desk.instance()?;
-    assert_eq!(rt; instance.places(), 6);
-    assert_eq!(rt; instance.teams(), 8);
-    assert_eq!(rt; instance.tasks(), 40);
+    Ok(())
+}
+
+/// The instance of a generated day. By the law of generated days a new desk takes each entry and lacks no time: only memory
+/// can be wanting.
+fn instance_of(
+    alloc: Global,
+    number: u64,
+    teams: u32,
+    tasks: u32,
+    nodes: u32,
+) -> Result<Instance, ChangeFault>
+    requires teams { teams ≤ MOST_TEAMS }
+    requires tasks { tasks ≤ MOST_TASKS }
+    requires nodes { nodes ≤ MOST_NODES }
+    ensures instance { IfOk result (λ instance. instance ≡ day_instance (state_after (generated_day number teams tasks nodes))) }
+    ensures err { IfErr result (λ fault. fault ≡ ChangeFault.OutOfMemory) }
+{
+    generated_days_are_taken();
+    let entries = make(alloc, number, teams, tasks, nodes)?;
+    let mut desk = Desk::new(alloc);
+    put_all(&mut desk, &entries)?;
+    desk.instance()
+}
+
+#[test]
+fn desk_takes_each_day(rt: HostRuntime) -> Result<(), Fail> {
+    for (teams, tasks) in [(8, 40), (0, 0), (64, 400)] {
+        let instance = instance_of(rt.alloc(), 7, teams, tasks, 20)?;
+        assert_eq!(rt; instance.places(), 6);
+        assert_eq!(rt; instance.teams(), teams as usize);
+        assert_eq!(rt; instance.tasks(), tasks as usize);
+    }
     Ok(())
 }

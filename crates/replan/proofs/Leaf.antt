@@ -12,6 +12,7 @@ use Rattle.crew_terms.specs.Limits.{Limits, Route, root_limits}
 use Rattle.crew_terms.specs.Leaf.{Prices, zero_prices}
 use Rattle.crew_terms.specs.Branches.{LeafNode, SplitNode, Bare, Open, Closed, splits}
 use Rattle.crew_terms.specs.Tree.{Tree, Priced}
+use Rattle.dossier_terms.specs.Causes.{Cause, NoCause}
 use Rattle.dossier_terms.specs.Dossier.{Dossier, IsGood, IsPooled, Leaf, Written, priced_of, tree_of, prices_of}
 use Rattle.dossier_terms.specs.declared.DossierForm.TheVariants.{Two}
 use Rattle.branch_tree.specs.Trees.{BranchTree, preorder, closed}
@@ -130,6 +131,7 @@ module _ (i : Instance) (p : Plan) (keep : IsKeepable i p) (is : IsInstance i) w
     tree = untaken (root_limits i) (unassigned_count p);
     nodes = refl;
     proved = (zero_is_priced (root_limits i), in_state law (unassigned_count p));
+    causes = All-nil (λ (c : Cause). c ≡ NoCause);
     within = omega (arith, none_closed (root_limits i) (unassigned_count p));
     spent = λ _. none_closed (root_limits i) (unassigned_count p);
   }

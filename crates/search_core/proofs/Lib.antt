@@ -3,3 +3,4 @@ pub mod StepLemmas
 pub mod Keeping
 pub mod Sites
 pub mod Starting
+pub mod HandingOut

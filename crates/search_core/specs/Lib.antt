@@ -1,6 +1,7 @@
 pub mod Searching
-pub mod Outline
 pub mod Findings
 pub mod Settled
+pub mod Ordered
+pub mod Solved
 pub mod Steps
 pub mod Kept

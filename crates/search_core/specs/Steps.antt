@@ -1,19 +1,20 @@
 -- steps of a search by their keys, and what it hands out
-use Rattle.std.specs.Prelude.{◌≡◌, ◌≢◌, ◌+◌, ◌-◌, ◌⊎◌, ℕ, List, Option, map, unwrap_or}
+use Rattle.std.specs.Prelude.{◌≡◌, ◌≢◌, ◌+◌, ◌-◌, ◌⊎◌, ℕ, List, Option, All, map, unwrap_or}
 use Rattle.branch_tree.specs.Trees.{preorder}
 use Rattle.crew_terms.specs.Branches.{LeafNode, splits}
 use Rattle.crew_terms.specs.Instance.{Instance}
 use Rattle.crew_terms.specs.Leaf.{Prices}
-use Rattle.crew_terms.specs.Limits.{Route}
+use Rattle.crew_terms.specs.Limits.{Route, root_limits}
 use Rattle.crew_terms.specs.Plan.{Plan}
 use Rattle.keyed_tree.specs.Keyed.{IsKeyed, Keyed}
-use Rattle.search_core.specs.Outline.{handed_out}
 use Rattle.search_core.specs.Searching.{Searching, IsOpenKey, split_cause, state_of, way_to}
 use Rattle.search_core.specs.declared.causes.Cause.{Cause}
 use Rattle.search_core.specs.declared.causes.Outcome.{Outcome}
 use Rattle.search_terms.specs.Search.{IsBound, IsRun, IsSearchRun, IsSearchStep, SearchState, best}
 use Rattle.search_terms.specs.SearchTree.{ClosedLeaf, causes, closed_leaves}
 use Rattle.search_terms.specs.Ways.{replaced}
+use Rattle.tree_outlines.specs.Outline.{handed_out}
+use Rattle.tree_outlines.specs.Visited.{HasPricesOf}
 
 -- steps from the start lead to the state of the search, whatever columns its causes are of; its open leaves wait under keys
 pub record IsSearching (s : Searching) : Type 0 where
@@ -55,6 +56,7 @@ pub record IsOutcome (i : Instance) (held : List Route) (s : SearchState) (o : O
   pub plan : o.plan ≡ s.plan
   pub bound : IsBound i s o.bound
   pub tree : o.tree ≡ preorder (handed_out s)
+  pub prices : All (HasPricesOf (root_limits i)) o.tree
   pub causes : map (split_cause held) o.causes.items ≡ causes s.tree
 
 -- nothing better is possible, or no step is left

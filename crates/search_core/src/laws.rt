@@ -1,11 +1,15 @@
 // Laws of steps by keys.
 ghost use Rattle.std.specs.Prelude.{◌≤◌, ℕ, List};
 ghost use Rattle.crew_terms.specs.Decided.{IsDecided};
+ghost use Rattle.crew_terms.specs.Instance.{Instance};
 ghost use Rattle.crew_terms.specs.Limits.{Route as TeamRoute};
 ghost use Rattle.crew_terms.specs.Rules.{IsInstance};
+ghost use Rattle.crew_terms.specs.Tree.{Tree};
 ghost use Rattle.search_core.specs.Searching.{Searching, limits_of_key, state_of};
-ghost use Rattle.search_core.specs.Steps.{IsClosed, IsKeyStep, IsSearching};
-ghost use Rattle.search_terms.specs.Search.{IsBound, best};
+ghost use Rattle.search_core.specs.Steps.{IsClosed, IsKeyStep, IsOutcome, IsSearching};
+ghost use Rattle.search_core.specs.declared.causes.Outcome.{Outcome};
+ghost use Rattle.search_terms.specs.Search.{IsBound, IsSearchRun, IsSearched, SearchState, best};
+ghost use Rattle.tree_outlines.specs.Outline.{IsPricedAs, handed_out};
 
 use search_laws::{decided_nodes_are_closed, steps_improve};
 
@@ -22,3 +26,10 @@ pub fn key_steps_improve()
     steps_improve();
     decided_nodes_are_closed();
 }
+
+/// What a search comes to is one that it hands out, with any worths and potentials beside the prices of its tree.
+pub fn outcomes_are_searched()
+    ensures { (i : Instance) (budget : ℕ) (kept pool : List TeamRoute) (s : SearchState) (o : Outcome) (t : Tree) →
+        IsSearchRun i budget kept pool s → IsOutcome i pool s o → IsPricedAs (handed_out s) t →
+        IsSearched i budget kept (record { plan = o.plan; tree = t; pool = pool }) s }
+{}

@@ -2,17 +2,20 @@
 #![tactic(auto)]
 
 mod causes;
+mod closing;
 mod effort;
 mod finding;
 mod laws;
 mod searches;
 mod settling;
+mod solving;
 mod stepping;
 mod steps;
 
 pub use causes::{Cause, Outcome};
 pub use crew_instance::{Instance, Plan};
 pub use effort::{DAY_EFFORT, Effort};
-pub use laws::key_steps_improve;
+pub use laws::{key_steps_improve, outcomes_are_searched};
 pub use node_solver::{AscentEffort, Why};
 pub use searches::Search;
+pub use solving::solve;

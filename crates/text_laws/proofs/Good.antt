@@ -18,7 +18,7 @@ all_good d h =
     (rec-append AreLine (head_lines d.form i d.budget) (pool_lines d.kept d.pool) (head_good d.form i d.budget h.instance h.budget)
     (pool_good i d.kept d.pool h.instance h.kept h.pool_length h.pool))
     (plan_good i d.plan d.bound h.instance h.plan h.bound))
-    (tree_good d.form i d.tree d.bound (unassigned_count d.plan) h.instance h.leaves h.sound (omega (arith, h.within, h.budget)))
+    (tree_good d.form d.pool i d.tree d.bound (unassigned_count d.plan) h.instance h.pool_length h.leaves h.sound h.causes (omega (arith, h.within, h.budget)))
 
 pub lines_good : (d : Dossier) → IsGood d → All AreLine (lines_of d)
 lines_good d h = All-from_recursion AreLine (lines_of d) (all_good d h)

@@ -5,6 +5,7 @@ pub mod Short
 pub mod Spellings
 pub mod Heads
 pub mod Plans
+pub mod CauseLines
 pub mod Nodes
 pub mod Good
 pub mod Read

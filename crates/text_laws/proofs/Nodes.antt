@@ -9,7 +9,8 @@ use Rattle.std.proofs.lemmas.List.FromFn.{length-map-range_with_len, get_or-map-
 use Rattle.crew_terms.specs.Instance.{Instance, task_of, team_of, minutes_between}
 use Rattle.crew_terms.specs.Plan.{Job, job_of}
 use Rattle.crew_terms.specs.Rules.{IsInstance}
-use Rattle.crew_terms.specs.Limits.{Limits, tasks_in, teams_in, window_of, pair_of, root_limits, root_window}
+use Rattle.text_laws.proofs.CauseLines.{cause_good}
+use Rattle.crew_terms.specs.Limits.{Limits, Route, tasks_in, teams_in, window_of, pair_of, root_limits, root_window}
 use Rattle.crew_terms.specs.Minutes.{priced, required_teams, open_tasks, first_minute, minute_count, is_free_or_required}
 use Rattle.crew_terms.specs.Leaf.{IsPrice}
 use Rattle.crew_terms.specs.Branches.{LeafNode, SplitNode, Claim, Bare, Open, Closed, splits, closed}
@@ -23,13 +24,14 @@ use Rattle.crew_terms.specs.declared.TheConstants.{LAST_MINUTE, MOST_NODES}
 use Rattle.dossier_terms.specs.declared.DossierForm.{DossierForm}
 use Rattle.dossier_terms.specs.declared.DossierForm.TheVariants.{One, Two}
 use Rattle.dossier_terms.specs.Runs.{Run, runs_after, runs_of}
-use Rattle.dossier_terms.specs.Dossier.{Split, Cause, NoCause, Written, Leaf, Potentials, AreRows, IsSigned, IsWritten, IsWrittenClaim, Tables, AreWritten, tree_of}
-use Rattle.dossier_terms.specs.Lines.{node_lines, claim_lines, choice_line, cause_lines, split_lines, leaf_lines, table_lines, tree_lines, rows_lines, extra_line, potentials_line, end_line, counts_of}
+use Rattle.dossier_terms.specs.Causes.{IsCauseOf}
+use Rattle.dossier_terms.specs.Dossier.{Split, Written, Leaf, Potentials, AreRows, IsSigned, IsWritten, IsWrittenClaim, Tables, AreWritten, AreCaused, tree_of}
+use Rattle.dossier_terms.specs.Lines.{node_lines, claim_lines, choice_line, split_lines, leaf_lines, table_lines, tree_lines, rows_lines, extra_line, potentials_line, end_line, counts_of}
 use Rattle.dossier_terms.specs.Counted.{leaves_of, depth_le, IsWide, price_wide, worth_wide, signed_wide}
 use Rattle.text_laws.specs.Texts.{AreLine}
 use Rattle.text_laws.proofs.Lists.{rec-append, rec_weaker}
 use Rattle.text_laws.proofs.Heads.{picked_few, picked_less, until_day, task_at}
-use Rattle.text_laws.proofs.Spellings.{IsFewRun, why_none_is_line, steps_is_line, tree_is_line, window_is_line, pair_is_line, bare_is_line, open_is_line, closed_is_line, price_is_line, extra_is_line, worth_is_line, phi_is_line, end_is_line}
+use Rattle.text_laws.proofs.Spellings.{IsFewRun, steps_is_line, tree_is_line, window_is_line, pair_is_line, bare_is_line, open_is_line, closed_is_line, price_is_line, extra_is_line, worth_is_line, phi_is_line, end_is_line}
 
 -- ---- windows end within two days
 
@@ -173,30 +175,29 @@ choice_good : (n : Limits) (choice : Choice) → IsInstance n.instance → IsDay
 choice_good n (choices.Window j cut) h day can = let last = day j in window_is_line j cut (omega (arith, can.task, h.parts.few_tasks)) (omega (arith, can.late))
 choice_good n (choices.Pair k j) h day can = pair_is_line k j (omega (arith, can.team, h.parts.few_teams)) (omega (arith, can.task, h.parts.few_tasks))
 
-cause_good : (cause : Cause) → AllByRecursion AreLine (cause_lines cause)
-cause_good NoCause = (why_none_is_line, tt)
+split_good : (form : DossierForm) (pool : List Route) (n : Limits) (u : ℕ) (split : Split) → IsInstance n.instance → length pool ≤ 9223372036854775807 → IsCauseOf form pool n u split.cause
+    → AreLine (choice_line split.choice) → AllByRecursion AreLine (split_lines form split)
+split_good One pool n u split h many told line = (line, tt)
+split_good Two pool n u split h many told line = (line, cause_good pool n u split.cause many h.parts.few_tasks told)
 
-split_good : (form : DossierForm) (split : Split) → AreLine (choice_line split.choice) → AllByRecursion AreLine (split_lines form split)
-split_good One split h = (h, tt)
-split_good Two split h = (h, cause_good split.cause)
-
-nodes_good : (form : DossierForm) (n : Limits) (t : Written) (l u : ℕ) → IsInstance n.instance → IsDay n → AreWritten n t → IsSound (tree_of n t) n l u → AllByRecursion AreLine (node_lines form n t)
-nodes_good form n (LeafNode claim) l u h day w s = claim_good form n claim h day w
-nodes_good form n (SplitNode split first second) l u h day w s =
+nodes_good : (form : DossierForm) (pool : List Route) (n : Limits) (t : Written) (l u : ℕ) → IsInstance n.instance → IsDay n → length pool ≤ 9223372036854775807 → AreWritten n t → IsSound (tree_of n t) n l u
+    → AreCaused form pool n u t → AllByRecursion AreLine (node_lines form n t)
+nodes_good form pool n (LeafNode claim) l u h day many w s told = claim_good form n claim h day w
+nodes_good form pool n (SplitNode split first second) l u h day many w s told =
     let choice = split.choice in
     let lines = node_lines form (child n choice First) first in
     rec-append AreLine (split_lines form split ++ lines) (node_lines form (child n choice Second) second)
-    (rec-append AreLine (split_lines form split) lines (split_good form split (choice_good n choice h day s.0))
-    (nodes_good form (child n choice First) first l u (instance_child n choice First h) (day_child n choice First s.0 day) w.0 s.1))
-    (nodes_good form (child n choice Second) second l u (instance_child n choice Second h) (day_child n choice Second s.0 day) w.1 s.2)
+    (rec-append AreLine (split_lines form split) lines (split_good form pool n u split h many told.0 (choice_good n choice h day s.0))
+    (nodes_good form pool (child n choice First) first l u (instance_child n choice First h) (day_child n choice First s.0 day) many w.0 s.1 told.1))
+    (nodes_good form pool (child n choice Second) second l u (instance_child n choice Second h) (day_child n choice Second s.0 day) many w.1 s.2 told.2)
 
 -- ---- the numbers of a tree
 
-pub tree_good : (form : DossierForm) (i : Instance) (t : Written) (l u : ℕ) → IsInstance i → AreWritten (root_limits i) t → IsSound (tree_of (root_limits i) t) (root_limits i) l u
-    → splits t + closed t ≤ MOST_NODES → AllByRecursion AreLine (tree_lines form i t)
-tree_good form i t l u h w s few =
+pub tree_good : (form : DossierForm) (pool : List Route) (i : Instance) (t : Written) (l u : ℕ) → IsInstance i → length pool ≤ 9223372036854775807 → AreWritten (root_limits i) t
+    → IsSound (tree_of (root_limits i) t) (root_limits i) l u → AreCaused form pool (root_limits i) u t → splits t + closed t ≤ MOST_NODES → AllByRecursion AreLine (tree_lines form i t)
+tree_good form pool i t l u h many w s told few =
     let a = leaves_of t in
     let b = depth_le t in (
       tree_is_line (counts_of t) (omega arith) (omega arith) (omega arith) (omega arith),
-      rec-append AreLine (node_lines form (root_limits i) t) (end_line ∷ []) (nodes_good form (root_limits i) t l u h (root_day i h) w s) (end_is_line, tt),
+      rec-append AreLine (node_lines form (root_limits i) t) (end_line ∷ []) (nodes_good form pool (root_limits i) t l u h (root_day i h) many w s told) (end_is_line, tt),
     )

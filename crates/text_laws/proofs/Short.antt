@@ -7,10 +7,10 @@ use Rattle.std.proofs.Math.Nat.{suc-mul, mul-le-mul_right}
 use Rattle.std.proofs.lemmas.Bool.{ltb-true}
 use Rattle.std.proofs.lemmas.Bool.Decides.{nat_tests}
 use Rattle.std.proofs.lemmas.Int.{ints}
-use Rattle.std.proofs.lemmas.Fmt.{decimal_by_steps, length-decimal-le}
+use Rattle.std.proofs.lemmas.Fmt.{decimal_by_steps, decimal_by_steps_wide, length-decimal-le, length-decimal-le_wide}
 use Rattle.std.proofs.lemmas.List.Elements.{All-weaker, All-append, All-cons, All-nil, All-push, All-from_recursion}
 use Rattle.std.proofs.lemmas.List.Sums.{AllPass-from_list_all}
-use Rattle.dossier_terms.specs.Counted.{IsWide}
+use Rattle.dossier_terms.specs.Counted.{IsWide, IsVast}
 use Rattle.crew_terms.specs.Name.{IsName, name_byte}
 use Rattle.crew_terms.specs.Words.{Words, line_of}
 use Rattle.crew_terms.specs.declared.TheConstants.{LONGEST_LINE}
@@ -86,6 +86,22 @@ signed_number (negsuc n) h =
     let l : suc n < 10000000000000000000 = omega (arith, ints) in
     let a = length-decimal-le 19 (suc n) (omega arith) (omega arith) (omega arith) in
     record { size = omega arith; high = All-cons IsHigh 45 (decimal (suc n)) (omega arith) (high_digits (suc n) (omega arith)) }
+
+-- a number of 128 bits
+pub long_number : (m n : ℕ) → 39 ≤ m → n ≤ 170141183460469231731687303715884105728 → IsShort m (decimal n)
+long_number m n room l =
+    let a = length-decimal-le_wide 39 n (omega arith) (omega arith) (omega arith) in
+    let high : All IsHigh (decimal n) = decimal_by_steps_wide (λ n ds. All IsHigh ds) (λ n l. All-cons IsHigh (48 + n) [] (omega arith) (All-nil IsHigh)) (λ n ds l h. All-push IsHigh ds (48 + n % 10) h (omega arith)) n (omega arith) in
+    record { size = omega arith; high = high }
+
+pub long_signed : (z : ℤ) → IsVast z → IsShort 40 (signed_decimal z)
+long_signed (pos n) h = let p : pos n ≤ℤ pos 170141183460469231731687303715884105727 = h.most in let l : n ≤ 170141183460469231731687303715884105728 = omega (arith, ints) in long_number 40 n (omega arith) l
+long_signed (negsuc n) h =
+    let p : negsuc 170141183460469231731687303715884105727 ≤ℤ negsuc n = h.least in
+    let l : suc n ≤ 170141183460469231731687303715884105728 = omega (arith, ints) in
+    let a = long_number 39 (suc n) (omega arith) l in
+    let size = a.size in
+    record { size = omega arith; high = All-cons IsHigh 45 (decimal (suc n)) (omega arith) a.high }
 
 high_name : (b : ℕ) → name_byte b ≡ true → IsHigh b
 high_name b h = grind (arith, nat_tests)

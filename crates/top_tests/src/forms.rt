@@ -9,6 +9,8 @@ use std::test::Fail;
 
 const YES_FROZEN: &[u8] = b"yes unassigned 1 bound 1 splits 0 closed 1 open 0 unshown 0\n";
 
+const YES_LOOSE: &[u8] = b"yes unassigned 1 bound 1 splits 1 closed 2 open 0 unshown 0\n";
+
 const YES_NO_CAUSE: &[u8] = b"yes unassigned 1 bound 1 splits 1 closed 2 open 0 unshown 1\n";
 
 /// A dossier, the number of a line of it, another line in its place, and what is written then.
@@ -65,6 +67,117 @@ const FROZEN: &[Case] = &[
     (WITH_FROZEN, 13, b"plan 2 1", b"no 13 Plan Frozen 0\n"),
     (WITH_FROZEN, 13, b"plan 3 1", b"no 13 Number\n"),
     (WITH_FROZEN, 18, b"extra 0 0", b"no 21 Bound\n"),
+];
+
+const LOOSE: &[Case] = &[
+    (
+        WITH_NO_CAUSE,
+        17,
+        b"why loose 1 1 2\nshare 0 1\nshare 1 1\nspare 0",
+        YES_LOOSE,
+    ),
+    (
+        WITH_NO_CAUSE,
+        17,
+        b"why loose 1 2 2\nshare 0 2\nshare 1 2\nspare 0",
+        YES_LOOSE,
+    ),
+    // One team alone does half of what the task needs.
+    (
+        WITH_NO_CAUSE,
+        17,
+        b"why loose 1 1 1\nshare 1 1\nspare 0",
+        b"no 19 Cause\n",
+    ),
+    (
+        WITH_NO_CAUSE,
+        17,
+        b"why loose 1 1 2\nshare 0 1\nshare 1 1\nspare 1",
+        b"no 20 Cause\n",
+    ),
+    // Columns rise.
+    (
+        WITH_NO_CAUSE,
+        17,
+        b"why loose 1 1 2\nshare 1 1\nshare 0 1",
+        b"no 19 Cause\n",
+    ),
+    (
+        WITH_NO_CAUSE,
+        17,
+        b"why loose 1 1 2\nshare 0 1\nshare 0 1",
+        b"no 19 Cause\n",
+    ),
+    (
+        WITH_NO_CAUSE,
+        17,
+        b"why loose 1 1 1\nshare 2 1",
+        b"no 18 Number\n",
+    ),
+    (
+        WITH_NO_CAUSE,
+        17,
+        b"why loose 1 1 1\nshare 0 2",
+        b"no 18 Number\n",
+    ),
+    (
+        WITH_NO_CAUSE,
+        17,
+        b"why loose 1 1 0\nspare 2",
+        b"no 18 Number\n",
+    ),
+    (
+        WITH_NO_CAUSE,
+        17,
+        b"why loose 1 1 0\nspare",
+        b"no 18 Shape\n",
+    ),
+    (WITH_NO_CAUSE, 17, b"why loose 1 0 0", b"no 17 Number\n"),
+    (WITH_NO_CAUSE, 17, b"why loose 2 1 0", b"no 17 Number\n"),
+    (WITH_NO_CAUSE, 17, b"why loose 0 1 0", b"no 17 Number\n"),
+    (WITH_NO_CAUSE, 17, b"why loose 1 1", b"no 17 Shape\n"),
+];
+
+const OTHER_CAUSES: &[Case] = &[
+    (
+        WITH_NO_CAUSE,
+        17,
+        b"why overflow 1 mul 2 3",
+        b"no 17 Cause\n",
+    ),
+    (
+        WITH_NO_CAUSE,
+        17,
+        b"why overflow 1 mul 170141183460469231731687303715884105727 2",
+        YES_NO_CAUSE,
+    ),
+    (
+        WITH_NO_CAUSE,
+        17,
+        b"why overflow 1 add 170141183460469231731687303715884105727 0",
+        b"no 17 Cause\n",
+    ),
+    (
+        WITH_NO_CAUSE,
+        17,
+        b"why overflow 1 sub -170141183460469231731687303715884105728 1",
+        YES_NO_CAUSE,
+    ),
+    (
+        WITH_NO_CAUSE,
+        17,
+        b"why overflow 1 add 170141183460469231731687303715884105728 1",
+        b"no 17 Number\n",
+    ),
+    (
+        WITH_NO_CAUSE,
+        17,
+        b"why overflow 1 div 2 3",
+        b"no 17 Shape\n",
+    ),
+    (WITH_NO_CAUSE, 17, b"why spent 1", YES_NO_CAUSE),
+    (WITH_NO_CAUSE, 17, b"why spent 2", b"no 17 Number\n"),
+    (WITH_NO_CAUSE, 17, b"why spent", b"no 17 Shape\n"),
 ];
 
 /// Two frozen jobs that one team can't do both.
@@ -143,7 +256,7 @@ const RUNS: &[Case] = &[
 
 #[test]
 fn frozen_jobs_causes_and_runs(rt: HostRuntime) -> Result<(), Fail> {
-    for table in [GOOD_ONES, FORMS, FROZEN, CAUSES, RUNS] {
+    for table in [GOOD_ONES, FORMS, FROZEN, CAUSES, LOOSE, OTHER_CAUSES, RUNS] {
         for (text, number, line, expected) in table {
             let input = with_line(rt.alloc(), text, *number, line)?;
             let told = check(rt.alloc(), input)?;

@@ -2,7 +2,7 @@
 use Rattle.std.proofs.Common.{◌≡◌, Bool, false, [], ◌∷◌, ◌∙◌}
 use Rattle.crew_terms.specs.Branches.{InFirst}
 use Rattle.crew_terms.specs.declared.Choice.{Choice}
-use Rattle.dossier_terms.specs.Dossier.{NoCause}
+use Rattle.dossier_terms.specs.Causes.{NoCause}
 use Rattle.dossier_terms.specs.declared.DossierForm.TheVariants.{One}
 use Rattle.dossier_terms.specs.Reading.{nothing, Begun}
 use Rattle.crew_terms.specs.declared.TreeCounts.{TreeCounts}

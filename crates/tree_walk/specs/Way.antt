@@ -5,7 +5,8 @@ use Rattle.crew_terms.specs.Branches.{LeafNode, Claim, Bare, Open, Closed, InFir
 use Rattle.crew_terms.specs.Tree.{CanSplit}
 use Rattle.crew_terms.specs.declared.Choice.{Choice}
 use Rattle.crew_terms.specs.declared.TreeCounts.{TreeCounts}
-use Rattle.dossier_terms.specs.Dossier.{Written, Cause, Leaf}
+use Rattle.dossier_terms.specs.Causes.{Cause}
+use Rattle.dossier_terms.specs.Dossier.{Written, Leaf}
 use Rattle.dossier_terms.specs.Lines.{counts_of}
 use Rattle.dossier_terms.specs.Reading.{Reading, Nodes, Ends, node_done, Begun, Above, limits_below}
 use Rattle.node_limits.specs.Trail.{Trail}

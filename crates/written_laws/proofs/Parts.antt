@@ -1,15 +1,18 @@
 -- the parts of a dossier, and their rules
-use Rattle.std.proofs.Common.{◌≡◌, ap, refl, ◌∙◌, arith}
+use Rattle.std.proofs.Common.{◌≡◌, ◌∷◌, [], ◌++◌, ℕ, List, ap, refl, subst, sym, ◌∙◌, arith}
+use Rattle.std.specs.List.{AllByRecursion}
+use Rattle.std.proofs.lemmas.List.Elements.{recursion_from_All}
 use Rattle.crew_terms.specs.Branches.{LeafNode, SplitNode, Claim, Bare, Open, Closed, closed, closed_in, splits}
-use Rattle.crew_terms.specs.Limits.{Limits, root_limits}
+use Rattle.crew_terms.specs.Limits.{Limits, Route, root_limits}
 use Rattle.crew_terms.specs.Plan.{unassigned_count}
 use Rattle.crew_terms.specs.Tree.{IsSound, child}
 use Rattle.crew_terms.specs.declared.Side.TheVariants.{First, Second}
 use Rattle.branch_tree.specs.Trees.{BranchTree, ClaimedLeaf, claim_in, closed as given_closed}
-use Rattle.dossier_terms.specs.Dossier.{AreWritten, Dossier, IsGood, Leaf, Written, tree_of}
+use Rattle.dossier_terms.specs.Causes.{Cause, NoCause, IsCauseIn}
+use Rattle.dossier_terms.specs.Dossier.{AreCaused, AreWritten, Dossier, IsGood, Leaf, Written, tree_of}
 use Rattle.dossier_terms.specs.declared.DossierForm.TheVariants.{Two}
 use Rattle.cert_write.specs.Given.{Given}
-use Rattle.cert_write.specs.Dossiers.{IsDossierOf, IsPricedClaim, IsPricedTree, IsTreeOfGiven}
+use Rattle.cert_write.specs.Dossiers.{IsDossierOf, IsPricedClaim, IsPricedTree, IsTreeOfGiven, causes_of}
 use Rattle.written_laws.specs.Proved.{IsProvedGiven}
 
 -- the dossier of these parts with this tree
@@ -51,6 +54,25 @@ same_closed n (SplitNode choice first second) (SplitNode split low high) is =
     let b = same_closed (child n choice Second) second high is.2 in
     omega (arith, a, b)
 
+-- what holds of each of two lists' elements holds of those of the first, and of the second
+of_first : (P : Cause → Type 0) (xs ys : List Cause) → AllByRecursion P (xs ++ ys) → AllByRecursion P xs
+of_first P [] ys h = tt
+of_first P (x ∷ xs) ys h = (h.0, of_first P xs ys h.1)
+
+of_second : (P : Cause → Type 0) (xs ys : List Cause) → AllByRecursion P (xs ++ ys) → AllByRecursion P ys
+of_second P [] ys h = h
+of_second P (x ∷ xs) ys h = of_second P xs ys h.1
+
+-- that no cause is shown may be told of each split
+uncaused : (pool : List Route) (n : Limits) (u : ℕ) (w : Written) → AllByRecursion (λ (c : Cause). c ≡ NoCause) (causes_of w) → AreCaused Two pool n u w
+uncaused pool n u (LeafNode claim) h = tt
+uncaused pool n u (SplitNode split first second) h =
+    let P = λ (c : Cause). c ≡ NoCause in (
+      subst (IsCauseIn pool n u) (sym h.0) tt,
+      uncaused pool (child n split.choice First) u first (of_first P (causes_of first) (causes_of second) h.1),
+      uncaused pool (child n split.choice Second) u second (of_second P (causes_of first) (causes_of second) h.1),
+    )
+
 pub good_parts : (g : Given) (tree : Written) (is : IsTreeOfGiven g tree) (proved : IsProvedGiven g) → proved.tree ≡ is.tree → AreWritten (root_limits g.instance) tree
     → IsSound (tree_of (root_limits g.instance) tree) (root_limits g.instance) g.bound (unassigned_count g.plan) → IsGood (dossier_with g tree)
 good_parts g tree is proved same leaves sound =
@@ -71,6 +93,8 @@ good_parts g tree is proved same leaves sound =
       bound = proved.bound;
       leaves = leaves;
       sound = sound;
+      causes = uncaused g.columns (root_limits g.instance) (unassigned_count g.plan) tree
+          (subst (AllByRecursion (λ (c : Cause). c ≡ NoCause)) (sym is.causes) (recursion_from_All (λ (c : Cause). c ≡ NoCause) g.causes proved.causes));
       within = omega (arith, s, c, a, b, w);
       spent = λ below. let e = proved.spent below in omega (arith, s, c, a, b, e);
     }

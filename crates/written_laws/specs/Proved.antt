@@ -9,6 +9,7 @@ use Rattle.crew_terms.specs.Rules.{IsInstance}
 use Rattle.crew_terms.specs.Tree.{CanSplit, child}
 use Rattle.crew_terms.specs.declared.Side.TheVariants.{First, Second}
 use Rattle.crew_terms.specs.declared.TheConstants.{MOST_NODES}
+use Rattle.dossier_terms.specs.Causes.{Cause, NoCause}
 use Rattle.dossier_terms.specs.Dossier.{IsPooled}
 use Rattle.branch_tree.specs.Trees.{BranchTree, closed, preorder}
 use Rattle.branch_tree.specs.declared.tree.LeafState.{LeafState}
@@ -28,7 +29,7 @@ IsProvedTree n l u (LeafNode leaf) = IsPriced n leaf.prices × IsProvedLeaf n l 
 IsProvedTree n l u (SplitNode choice first second) =
     CanSplit n choice × IsProvedTree (child n choice First) l u first × IsProvedTree (child n choice Second) l u second
 
--- the rules of the parts of a good dossier
+-- the rules of the parts of a good dossier, of whose splits no cause is shown
 pub record IsProvedGiven (g : Given) : Type 0 where
   pub instance : IsInstance g.instance
   pub budget : g.nodes ≤ MOST_NODES
@@ -41,5 +42,6 @@ pub record IsProvedGiven (g : Given) : Type 0 where
   pub tree : BranchTree
   pub nodes : g.tree ≡ preorder tree
   pub proved : IsProvedTree (root_limits g.instance) g.bound (unassigned_count g.plan) tree
+  pub causes : All (λ (c : Cause). c ≡ NoCause) g.causes
   pub within : splits tree + closed tree ≤ g.nodes
   pub spent : g.bound < unassigned_count g.plan → splits tree + closed tree ≡ g.nodes

@@ -16,3 +16,9 @@ returns-in-Node-clause-step c = subst (λ due. IsStep due c.args.words c.node_li
 
 pub returns-in-Why-clause-step : goal.returns-in-Why-clause-step
 returns-in-Why-clause-step c = subst (λ due. IsStep due c.args.words c.why_line.result) (sym c.in-Why.is) c.why_line.ensures
+
+pub returns-in-Share-clause-step : goal.returns-in-Share-clause-step
+returns-in-Share-clause-step c = subst (λ due. IsStep due c.args.words c.share_line.result) (sym c.in-Share.is) c.share_line.ensures
+
+pub returns-in-Spare-clause-step : goal.returns-in-Spare-clause-step
+returns-in-Spare-clause-step c = subst (λ due. IsStep due c.args.words c.spare_line.result) (sym c.in-Spare.is) c.spare_line.ensures

@@ -6,12 +6,12 @@ use Rattle.crew_terms.specs.declared.Choice.{Choice}
 use Rattle.dossier_terms.specs.declared.DossierForm.{DossierForm}
 use Rattle.dossier_terms.specs.declared.DossierForm.TheVariants.{One, Two}
 use Rattle.leaf_check.specs.declared.reader.LeafReader.{LeafReader}
-use Rattle.dossier_terms.specs.Dossier.{NoCause}
+use Rattle.dossier_terms.specs.Causes.{NoCause}
 use Rattle.dossier_terms.specs.Reading.{Reading, Whys, split_done, choice_done, Above, More as Goes, No as Refuses}
 use Rattle.dossier_terms.specs.NodeTable.{after_split}
 use Rattle.crew_terms.specs.Tree.{CanSplit}
 use Rattle.node_limits.specs.Rest.{trail_over}
-use Rattle.cert_checker.specs.Due.{Awaits, HasSplitLeft, IsAtNode, IsReaderFor, MaySplit, draft_of}
+use Rattle.cert_checker.specs.Due.{Awaits, HasSplitLeft, IsAtNode, IsReaderFor, MaySplit, draft_of, split_site}
 use Rattle.cert_checker.specs.declared.due.BegunDossier.{BegunDossier}
 use Rattle.cert_checker.specs.declared.due.TreeDraft.{TreeDraft}
 use Rattle.cert_checker.proofs.NodeRows.{limits_at, taken_woke, room_above, room_at, split_no_room, split_refused, split_more}
@@ -91,20 +91,20 @@ returns-in-One d = λ fs node.
       next,
       goes_on c fs next node (ap (λ f. choice_done f b tree.claimed fs c.args.choice) (form_is c One d.in-One.is)),
       subst (λ (t : TreeDraft). Awaits d.first_child.result (split_done (draft_of t.draft.value) t.claimed fs (record { choice = c.args.choice; cause = NoCause }))) (written_is c)
-          (d.first_child.ensures fs NoCause here),
+          (d.first_child.ensures fs NoCause here refl),
     )
 
 -- the line `why` of this node is due
 abbrev IsWhyDue : Box LeafReader → Choice → List Above → Reading → TreeDraft → Type 0
 IsWhyDue reader choice fs next t = (above : List Above) × MaySplit t choice above × IsReaderFor t.draft.value.base.instance reader.value
-    × (next ≡ Whys (draft_of t.draft.value) t.claimed above choice)
+    × (next ≡ Whys (split_site t above choice))
 
 pub returns-in-Two : goal.returns-in-Two
 returns-in-Two d = λ fs node.
     let c = (goal.at.returns-in-Two d).After-rest in
     let tree = c.args.tree.value in
     let b = draft_of tree.draft.value in
-    let next = Whys b tree.claimed fs c.args.choice in (
+    let next = Whys (split_site tree fs c.args.choice) in (
       next,
       goes_on c fs next node (ap (λ f. choice_done f b tree.claimed fs c.args.choice) (form_is c Two d.in-Two.is)),
       subst (IsWhyDue c.args.reader c.args.choice fs next) (sym (written_is c)) (fs, may c fs node, c.requires.reader, refl),

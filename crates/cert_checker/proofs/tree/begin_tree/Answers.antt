@@ -1,10 +1,11 @@
-use Rattle.std.proofs.Common.{◌≡◌, ◌≤◌, ◌+◌, List, [], length, ap, subst, sym, ◌∙◌, arith}
+use Rattle.std.proofs.Common.{◌≡◌, ◌≤◌, ◌+◌, List, [], length, ap, subst, sym, refl, ◌∙◌, arith}
 use Rattle.std.specs.Box.{with_value}
 use Rattle.node_limits.specs.Rest.{trail_over}
 use Rattle.node_limits.specs.Trail.{Trail}
 use Rattle.crew_terms.specs.Limits.{Limits}
 use Rattle.crew_terms.specs.declared.TreeCounts.{TreeCounts}
 use Rattle.dossier_terms.specs.Reading.{Begun, Nodes, Above}
+use Rattle.share_check.specs.Summed.{HasRoom}
 use Rattle.leaf_check.specs.Reader.{IsReady}
 use Rattle.leaf_check.specs.declared.reader.LeafReader.{LeafReader}
 use Rattle.cert_checker.specs.Due.{IsAtNode, IsReaderFor, IsRoot, draft_of}
@@ -37,13 +38,15 @@ returns c =
     let root = rest_is_root i t rest limits past c.rest.ensures.same c.rest.ensures.over in
     let rested : rest.spare ≡ t.spare = ap (λ (x : Trail). x.spare) c.rest.ensures.same in
     let walk = c.in_ok-walk.walk in
-    let draft : TreeDraft = record { draft = with_value c.args.draft (record held { limits = rest }); claimed = claimed; walk = walk } in
+    let draft : TreeDraft = record { draft = with_value c.args.draft (record held { limits = rest }); claimed = claimed; walk = walk; unshown = 0; sums = c.in_ok-sums.sums } in
     let node : IsAtNode draft [] = record {
       claimed = c.requires.counts;
       over = root.over;
       at = at_root i rest walk root c.in_ok-walk.ensures.root;
       depth = c.in_ok-walk.ensures.depth;
       spare = omega arith;
+      unshown = refl;
+      sums = subst (λ n. HasRoom n c.in_ok-sums.sums) limits c.in_ok-sums.ensures;
     } in
     let reader = c.in_ok-reader.reader.value in
     let ready : IsReady t.limits reader = subst (λ (r : LeafReader). IsReady t.limits r) (sym c.in_ok-reader.ensures.ok) c.in_ok-opened.ensures.ready in

@@ -17,3 +17,8 @@ pub returns-in-Apply : goal.returns-in-Apply
 returns-in-Apply g c =
     subst (λ (a : Command). Answers g.S.Source g.K.Sink (StatusSays a) (ends_with a) (IsFine a) c.args.src.now c.over_day.new.src c.args.out.now c.over_day.new.out c.over_day.result)
     (sym c.in-Apply.is) c.over_day.ensures
+
+pub returns-in-Day : goal.returns-in-Day
+returns-in-Day g c =
+    subst (λ (a : Command). Answers g.S.Source g.K.Sink (StatusSays a) (ends_with a) (IsFine a) c.args.src.now c.over_day-in-Day.new.src c.args.out.now c.over_day-in-Day.new.out c.over_day-in-Day.result)
+    (sym c.in-Day.is) c.over_day-in-Day.ensures

@@ -1,5 +1,5 @@
 use Rattle.crew_io.specs.Chains.{puts_same}
-use Rattle.day_commands.proofs.Applies.{missing_line}
+use Rattle.day_commands.proofs.Applied.{missing_line}
 use Rattle.day_commands.proofs.refused.put_change.Goals as goal
 
 pub returns-in-MissingTravel : goal.returns-in-MissingTravel

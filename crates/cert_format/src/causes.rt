@@ -1,0 +1,149 @@
+// The lines of the cause of a split.
+ghost use Rattle.std.specs.Prelude.{◌≡◌, ◌≢◌, ◌≤◌, ◌<◌, ◌+◌, ◌^◌, ◌<ℤ◌, ℕ, pos, MatchOption, codes};
+ghost use Rattle.crew_num.specs.declared.Op.{Op};
+ghost use Rattle.dossier_terms.specs.Lines.{op_word};
+ghost use Rattle.dossier_terms.specs.Ranges.{IsWhy};
+ghost use Rattle.cert_format.specs.Lines.{ReadsLine};
+
+use crate::kinds::{Expect, LineFault, LineKind};
+use crate::shape::{has_shape, is_same, is_why};
+use crate::wides::{read_natural, read_naturals, read_signed};
+use crew_num::{Op, Overflow};
+use field_table::{LineWords, Words};
+
+/// One more than the most parts of which a share is one: 2^127.
+const PAST_WHOLE: u128 = 1 << 127;
+
+/// One more than the most columns of a cause: 2^63.
+const PAST_COUNT: u128 = 1 << 63;
+
+/// The operation that the word names.
+fn op_of(word: &[u8]) -> Option<Op>
+    ensures { MatchOption result ((op : Op) → word.now ≢ op_word op) (λ op. word.now ≡ op_word op) }
+{
+    if is_same(word, b"add") {
+        return Some(Op::Add);
+    }
+    if is_same(word, b"sub") {
+        return Some(Op::Sub);
+    }
+    if is_same(word, b"mul") {
+        return Some(Op::Mul);
+    }
+    None
+}
+
+/// Reads a line `why loose`.
+fn read_loose<'a>(words: LineWords<'a>, tasks: u32) -> Result<LineKind<'a>, LineFault>
+    requires { IsWhy (codes "loose") 3 words }
+    ensures { ReadsLine (Expect.Why tasks) words.entry result }
+{
+    let now = read_natural(&words, 2, 1, tasks as u128 + 1)?;
+    let whole = read_natural(&words, 3, 1, PAST_WHOLE)?;
+    let count = read_natural(&words, 4, 0, PAST_COUNT)?;
+    Ok(LineKind::WhyLoose {
+        now: now as u32,
+        whole,
+        count: count as u64,
+    })
+}
+
+/// Reads a line `why overflow`.
+fn read_overflow<'a>(words: LineWords<'a>, tasks: u32) -> Result<LineKind<'a>, LineFault>
+    requires { IsWhy (codes "overflow") 4 words }
+    ensures { ReadsLine (Expect.Why tasks) words.entry result }
+{
+    let Some(op) = op_of(words.word(3)) else {
+        return Err(LineFault::Shape);
+    };
+    let Ok(now) = read_natural(&words, 2, 1, tasks as u128 + 1) else {
+        return Err(LineFault::Number);
+    };
+    let Ok(a) = read_signed(&words, 4) else {
+        return Err(LineFault::Number);
+    };
+    let Ok(b) = read_signed(&words, 5) else {
+        return Err(LineFault::Number);
+    };
+    Ok(LineKind::WhyOverflow {
+        now: now as u32,
+        fault: Overflow { op, a, b },
+    })
+}
+
+/// Reads a line `why spent`.
+fn read_spent<'a>(words: LineWords<'a>, tasks: u32) -> Result<LineKind<'a>, LineFault>
+    requires { IsWhy (codes "spent") 1 words }
+    ensures { ReadsLine (Expect.Why tasks) words.entry result }
+{
+    let now = read_natural(&words, 2, 1, tasks as u128 + 1)?;
+    Ok(LineKind::WhySpent { now: now as u32 })
+}
+
+/// Reads a line `why` of an instance with so many tasks.
+pub(crate) fn read_why<'a>(words: LineWords<'a>, tasks: u32) -> Result<LineKind<'a>, LineFault>
+    ensures { ReadsLine (Expect.Why tasks) words.entry result }
+{
+    if is_why(&words, b"none", 0) {
+        return Ok(LineKind::WhyNone);
+    }
+    if is_why(&words, b"loose", 3) {
+        return read_loose(words, tasks);
+    }
+    if is_why(&words, b"overflow", 4) {
+        return read_overflow(words, tasks);
+    }
+    if is_why(&words, b"spent", 1) {
+        return read_spent(words, tasks);
+    }
+    Err(LineFault::Shape)
+}
+
+/// One more than the most parts, where there are so many in a whole: none where this is below 0.
+fn past_parts(whole: i128) -> u128
+    ensures past { result ≤ 2 ^ 127 }
+    ensures whole { (w : ℕ) → whole ≡ pos w → result ≡ w + 1 }
+    ensures none { whole <ℤ pos 0 → result ≡ 0 }
+{
+    if whole < 0 {
+        return 0;
+    }
+    whole.unsigned_abs() + 1
+}
+
+/// Reads a line `share` of so many columns, with so many parts in a whole.
+pub(crate) fn read_share<'a>(
+    words: LineWords<'a>,
+    columns: u64,
+    whole: i128,
+) -> Result<LineKind<'a>, LineFault>
+    ensures { ReadsLine (Expect.Share columns whole) words.entry result }
+{
+    if !has_shape(&words, b"share", 2) {
+        return Err(LineFault::Shape);
+    }
+    let column = read_natural(&words, 1, 0, columns as u128)?;
+    let parts = read_natural(&words, 2, 1, past_parts(whole))?;
+    Ok(LineKind::Share {
+        column: column as u64,
+        parts,
+    })
+}
+
+/// Reads the line `spare` of an instance with so many tasks, with so many parts in a whole.
+pub(crate) fn read_spare<'a>(
+    words: LineWords<'a>,
+    tasks: u32,
+    whole: i128,
+) -> Result<LineKind<'a>, LineFault>
+    ensures { ReadsLine (Expect.Spare tasks whole) words.entry result }
+{
+    if !has_shape(&words, b"spare", tasks as usize) {
+        return Err(LineFault::Shape);
+    }
+    if whole < 0 {
+        return Err(LineFault::Number);
+    }
+    let shares = read_naturals(words, 1, past_parts(whole))?;
+    Ok(LineKind::Spare { shares })
+}

@@ -1,0 +1,102 @@
+use Rattle.std.proofs.Common.{◌≡◌, None, Result, Ok, subst, ap, refl, ◌∙◌}
+use Rattle.std.proofs.lemmas.Result.{IfOk-from_err}
+use Rattle.crew_terms.specs.declared.TheConstants.{LONGEST_DAY}
+use Rattle.crew_io.specs.Text.{ReadsText}
+use Rattle.crew_io.specs.declared.text.Text.{Text}
+use Rattle.crew_io.specs.declared.text.Text.TheVariants as text_is
+use Rattle.crew_io.specs.Chains.{writes_none, writes_then}
+use Rattle.crew_io.specs.Draws.{reads_none, reads_then}
+use Rattle.day_commands.specs.Outputs.{TextsOf, stops_of}
+use Rattle.day_commands.specs.Rounds.{IsFineDay, SaysFirstRounds}
+use Rattle.day_commands.specs.Says.{SaysAt}
+use Rattle.day_commands.specs.Taken.{Wrote}
+use Rattle.day_commands.proofs.Said.{on_err, err_is_not_ok, same_ok, refused_not_whole, refused_no_fault, refused_can_end, of_text_no_fault, of_text_can_end, whole_ended, whole_says, whole_memory, whole_not_fine, none_memory, long_says, long_not_fine, fault_says}
+use Rattle.day_commands.proofs.rounds.write_rounds.Goals as goal
+
+not_fault : {E : Type 0} (x y : Text) → x ≡ y → (y ≡ text_is.ReadFault → ⊥) → ◌≡◌ {A = Result Text E} (Ok x) (Ok text_is.ReadFault) → ⊥
+not_fault x y is apart e = apart (let f : x ≡ text_is.ReadFault = cc in cc)
+
+pub returns-in_err-text : goal.returns-in_err-text
+returns-in_err-text g c =
+    let r = c.from_residual.result in
+    let is = c.from_residual.ensures.0 in
+    record {
+      says = IfOk-from_err r _ is;
+      memory = on_err r _ (none_memory c.args.output (g.S.Source.left c.args.src.now) (g.K.Sink.got c.args.out.now));
+      ends = IfOk-from_err r _ is;
+      refused = λ e. absurd (err_is_not_ok r _ is e);
+      ended = IfOk-from_err r _ is;
+      reads = reads_then g.S.Source _ _ _ (λ fault. fault) (reads_none g.S.Source c.args.src.now) c.in_err-text.ensures.tells (λ e. absurd (err_is_not_ok r _ is e)) (λ e. absurd (cc));
+      writes = writes_then g.K.Sink _ _ _ (λ fault. fault) (writes_none g.K.Sink c.args.out.now) (writes_none g.K.Sink c.args.out.now) (λ e. absurd (err_is_not_ok r _ is e)) (λ fault. absurd fault);
+    }
+
+pub returns-in_err-ended-in-Whole : goal.returns-in_err-ended-in-Whole
+returns-in_err-ended-in-Whole g c =
+    let left = g.S.Source.left c.args.src.now in
+    let later = g.S.Source.left c.read_text.new.src in
+    let got = g.K.Sink.got c.args.out.now in
+    let new = g.K.Sink.got c.over_text.new.out in
+    let o = c.args.output in
+    let read = subst (λ t. ReadsText LONGEST_DAY left t later) c.in-Whole.is c.in_ok-text.ensures.reads in
+    let r = c.from_residual-in_err-ended-in-Whole.result in
+    let is = c.from_residual-in_err-ended-in-Whole.ensures.0 in
+    record {
+      says = IfOk-from_err r _ is;
+      memory = on_err r _ (whole_memory o left later got new c.in-Whole.text read (subst (λ t. Wrote got new (SaysFirstRounds (stops_of o) (TextsOf o) t)) c.as_slice.ensures c.in_err-ended-in-Whole.ensures.memory));
+      ends = IfOk-from_err r _ is;
+      refused = λ e. absurd (err_is_not_ok r _ is e);
+      ended = IfOk-from_err r _ is;
+      reads = reads_then g.S.Source _ _ _ (λ fault. fault) (reads_none g.S.Source c.args.src.now) c.in_ok-text.ensures.tells (λ e. absurd (err_is_not_ok r _ is e)) (λ e. absurd (not_fault _ _ c.in-Whole.is (λ f. cc) e));
+      writes = writes_then g.K.Sink _ _ _ (λ fault. fault) (writes_none g.K.Sink c.args.out.now) c.in_err-ended-in-Whole.ensures.tells (λ e. absurd (err_is_not_ok r _ is e)) (λ e. absurd (cc));
+    }
+
+pub returns-in_ok-ended-in-Whole : goal.returns-in_ok-ended-in-Whole
+returns-in_ok-ended-in-Whole g c =
+    let left = g.S.Source.left c.args.src.now in
+    let later = g.S.Source.left c.read_text.new.src in
+    let got = g.K.Sink.got c.args.out.now in
+    let new = g.K.Sink.got c.over_text.new.out in
+    let o = c.args.output in
+    let read = subst (λ t. ReadsText LONGEST_DAY left t later) c.in-Whole.is c.in_ok-text.ensures.reads in
+    let e = c.in_ok-ended-in-Whole.ensures in
+    record {
+      says = whole_says o left later got new c.in-Whole.text c.in_ok-ended-in-Whole.ended read e.others (subst (λ t. Wrote got new (SaysAt o c.in_ok-ended-in-Whole.ended None t)) c.as_slice.ensures e.says);
+      memory = tt;
+      ends = of_text_can_end o c.in_ok-ended-in-Whole.ended e.others;
+      refused = λ is. whole_not_fine o left later c.in-Whole.text read (subst (λ t. IsFineDay (stops_of o) t → ⊥) c.as_slice.ensures (e.refused is));
+      ended = λ _. whole_ended left later c.in-Whole.text read;
+      reads = reads_then g.S.Source _ _ _ (λ fault. fault) (reads_none g.S.Source c.args.src.now) c.in_ok-text.ensures.tells (λ is. absurd (of_text_no_fault o _ e.others (same_ok is))) (λ is. absurd (not_fault _ _ c.in-Whole.is (λ f. cc) is));
+      writes = e.tells;
+    }
+
+pub returns-in-TooLong : goal.returns-in-TooLong
+returns-in-TooLong g c =
+    let left = g.S.Source.left c.args.src.now in
+    let later = g.S.Source.left c.read_text.new.src in
+    let o = c.args.output in
+    let read = subst (λ t. ReadsText LONGEST_DAY left t later) c.in-TooLong.is c.in_ok-text.ensures.reads in
+    let e = c.refuse.ensures in
+    record {
+      says = long_says o left later (g.K.Sink.got c.args.out.now) (g.K.Sink.got c.refuse.new.out) c.refuse.result read e.refused e.part e.others;
+      memory = tt;
+      ends = refused_can_end o c.refuse.result e.others;
+      refused = λ _. long_not_fine o left later read;
+      ended = λ is. absurd (refused_not_whole c.refuse.result e.others is);
+      reads = reads_then g.S.Source _ _ _ (λ fault. fault) (reads_none g.S.Source c.args.src.now) c.in_ok-text.ensures.tells (λ is. absurd (refused_no_fault _ e.others (same_ok is))) (λ is. absurd (not_fault _ _ c.in-TooLong.is (λ f. cc) is));
+      writes = writes_then g.K.Sink _ _ _ (λ fault. fault) (writes_none g.K.Sink c.args.out.now) e.tells (λ is. same_ok is) (λ is. ap Ok is);
+    }
+
+pub returns-in-ReadFault : goal.returns-in-ReadFault
+returns-in-ReadFault g c =
+    let left = g.S.Source.left c.args.src.now in
+    let later = g.S.Source.left c.read_text.new.src in
+    let o = c.args.output in
+    record {
+      says = fault_says o left later (g.K.Sink.got c.args.out.now) (subst (λ t. ReadsText LONGEST_DAY left t later) c.in-ReadFault.is c.in_ok-text.ensures.reads);
+      memory = tt;
+      ends = refl;
+      refused = λ e. absurd (cc);
+      ended = λ e. absurd (cc);
+      reads = reads_then g.S.Source _ _ _ (λ fault. fault) (reads_none g.S.Source c.args.src.now) c.in_ok-text.ensures.tells (λ _. ap Ok c.in-ReadFault.is) (λ _. refl);
+      writes = writes_then g.K.Sink _ _ _ (λ fault. fault) (writes_none g.K.Sink c.args.out.now) (writes_none g.K.Sink c.args.out.now) (λ e. absurd (cc)) (λ fault. absurd fault);
+    }

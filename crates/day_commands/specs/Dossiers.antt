@@ -1,0 +1,53 @@
+-- what `day` writes of the rounds of a day: a dossier of each
+use Rattle.std.specs.Prelude.{◌≡◌, ◌<◌, ℕ, zero, suc, List, [], Option, None, Some, All, Any}
+use Rattle.std.specs.List.{flat_map}
+use Rattle.crew_terms.specs.Plan.{unassigned_count}
+use Rattle.dossier_terms.specs.Dossier.{Dossier}
+use Rattle.dossier_terms.specs.Lines.{text_of}
+use Rattle.day_terms.specs.declared.Entry.{Entry}
+use Rattle.day_terms.specs.declared.Entry.TheVariants.{Plan}
+use Rattle.day_terms.specs.State.{DayState}
+use Rattle.day_terms.specs.Rounds.{Round}
+use Rattle.replan.specs.Rounds.{AreRoundDossiers}
+use Rattle.day_commands.specs.Rounds.{Stops, change_stop}
+use Rattle.day_commands.specs.declared.refused.DayFault.{DayFault}
+use Rattle.day_commands.specs.declared.refused.DayFault.TheVariants.{Later}
+
+-- the entry begins a round with a budget of nodes, which none is planned with yet
+abbrev pub later_stop : Entry → Option DayFault
+later_stop (Plan (suc nodes)) = Some Later
+later_stop _ = None
+
+-- the first of two faults
+abbrev pub first_fault : Option DayFault → Option DayFault → Option DayFault
+first_fault (Some fault) other = Some fault
+first_fault None other = other
+
+-- the state refuses the entry, or it comes later
+abbrev pub planning_stop : Stops
+planning_stop s entry = first_fault (change_stop s entry) (later_stop entry)
+
+-- the text is that of these dossiers of the rounds, the first of which is handed no routes
+pub record AreTextsOf (rounds : List Round) (text : List ℕ) (dossiers : List Dossier) : Type 0 where
+  pub dossiers_are : AreRoundDossiers [] rounds dossiers
+  pub texts : text ≡ flat_map text_of dossiers
+
+-- the dossier's plan leaves as few tasks unassigned as any
+abbrev pub IsProved : Dossier → Type 0
+IsProved d = d.bound ≡ unassigned_count d.plan
+
+-- the dossier does not show whether another plan leaves fewer
+abbrev pub IsUnproved : Dossier → Type 0
+IsUnproved d = d.bound < unassigned_count d.plan
+
+-- the text is that of a dossier for each round
+abbrev pub AreDossiers : List Round → List ℕ → Type 0
+AreDossiers rounds text = (dossiers : List Dossier) × AreTextsOf rounds text dossiers
+
+-- each of them is proved
+abbrev pub AreProved : List Round → List ℕ → Type 0
+AreProved rounds text = (dossiers : List Dossier) × AreTextsOf rounds text dossiers × All IsProved dossiers
+
+-- some of them is not
+abbrev pub AreUnproved : List Round → List ℕ → Type 0
+AreUnproved rounds text = (dossiers : List Dossier) × AreTextsOf rounds text dossiers × Any IsUnproved dossiers

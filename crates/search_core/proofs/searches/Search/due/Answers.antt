@@ -1,0 +1,32 @@
+use Rattle.std.proofs.Common.{◌≡◌, ◌∙◌, ◌⊎◌, inl, inr, [], ℕ, Option, None, Some, sym, subst, arith, rules}
+use Rattle.std.specs.Prelude.{IfNone}
+use Rattle.std.proofs.lemmas.Grind.{common_steps}
+use Rattle.crew_terms.specs.Plan.{unassigned_count}
+use Rattle.search_core.specs.Kept.{searching}
+use Rattle.search_core.specs.Searching.{Searching, cause_at, price_at, state_of}
+use Rattle.search_core.specs.Steps.{IsDone}
+use Rattle.search_terms.specs.Search.{IsBound}
+use Rattle.search_core.proofs.searches.Search.due.Goals as goal
+
+none_follows : {X : Type 0} {A B : Type 0} (o : Option X) → (A → B) → IfNone o A → IfNone o B
+none_follows None f a = f a
+none_follows (Some x) f a = tt
+
+pub returns-then-self-eq0-clause-done : goal.returns-then-self-eq0-clause-done
+returns-then-self-eq0-clause-done c = λ columns.
+    let a = c.self.inside in
+    let spent : a.left ≡ 0 = first_of (search rules, grind (arith, common_steps)) in
+    subst (λ (s : Searching). IsDone s.instance (state_of columns s)) c.self.view_is (inr spent)
+
+pub returns-then-bound-best-clause-done : goal.returns-then-bound-best-clause-done
+returns-then-bound-best-clause-done c = λ columns.
+    let same : c.bound.result ≡ c.best.result = first_of (search rules, grind (arith, common_steps)) in
+    inl (subst (λ (b : ℕ). IsBound c.args.self.now.instance (state_of columns c.args.self.now) b) (same ∙ c.best.ensures columns) (c.bound.ensures columns))
+
+pub returns-clause-done : goal.returns-clause-done
+returns-clause-done c = λ columns.
+    let a = c.self.inside in
+    let i = a.limits.limits.instance in
+    subst (λ (s : Searching). IfNone c.least.result (IsDone s.instance (state_of columns s))) c.self.view_is
+    (none_follows c.least.result (λ (none : a.keyed.waits ≡ []). inl (c.least_bounds.ensures.none i a.left (price_at a.prices.items)
+    (cause_at columns a.causes.items) a.plan a.keyed c.len.ensures.keyed none)) c.least.ensures.none)

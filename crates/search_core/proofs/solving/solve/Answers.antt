@@ -1,0 +1,59 @@
+use Rattle.std.proofs.Common.{◌≡◌, ◌∙◌, ◌++◌, [], List, Result, Ok, Err, ap, sym, subst, arith, rules, append_assoc}
+use Rattle.std.specs.Prelude.{IfOk}
+use Rattle.std.proofs.lemmas.Grind.{common_steps}
+use Rattle.std.proofs.lemmas.List.{append-nil}
+use Rattle.crew_terms.specs.Instance.{Instance}
+use Rattle.crew_terms.specs.Limits.{Route}
+use Rattle.search_core.specs.Searching.{state_of, way_to}
+use Rattle.search_core.specs.Steps.{IsDone, IsOutcome, IsSolved}
+use Rattle.search_core.specs.declared.causes.Outcome.{Outcome}
+use Rattle.search_terms.specs.Search.{Goes, IsSearchRun, IsSearchStep, Starts}
+use Rattle.search_terms.specs.declared.TheConstants.{PIVOTS}
+use Rattle.search_core.proofs.solving.solve.Goals as goal
+
+ok_follows : {X E : Type 0} {A B : X → Type 0} (r : Result X E) → ((x : X) → A x → B x) → IfOk r A → IfOk r B
+ok_follows (Ok x) f a = f x a
+ok_follows (Err e) f a = tt
+
+pub loop-key-init : goal.loop-key-init
+loop-key-init g c = record {
+  run = λ held. Starts (state_of held c.in_ok-search.search) (c.in_ok-search.ensures.start held);
+  instance = c.in_ok-search.ensures.instance;
+  grown = record { added = []; all = sym (append-nil (g.C.Columns.columns c.args.columns.now)) };
+}
+
+pub loop-key-preserved : goal.loop-key-preserved
+loop-key-preserved g c =
+    let inv = c.loop-key.invariant in
+    let was = g.C.Columns.columns c.loop-key.columns in
+    let pool = g.C.Columns.columns c.step.new.columns in
+    let s = c.loop-key.search in
+    let t = c.step.new.self in
+    let way = way_to s c.in-Some.key in
+    let step = c.in_ok-step.ensures.ok in
+    let more = c.in_ok-step.ensures.columns in
+    record {
+      run = λ held. Goes was pool (state_of held s) (state_of held t) way (inv.run held)
+          (subst (λ (i : Instance). IsSearchStep i way PIVOTS was pool (state_of held s) (state_of held t)) inv.instance (step.step held));
+      instance = step.instance ∙ inv.instance;
+      grown = record {
+        added = inv.grown.added ++ more.added;
+        all = more.all ∙ ap (λ (xs : List Route). xs ++ more.added) inv.grown.all
+            ∙ append_assoc (g.C.Columns.columns c.args.columns.now) inv.grown.added more.added;
+      };
+    }
+
+pub returns-clause-outcome : goal.returns-clause-outcome
+returns-clause-outcome g c =
+    let inv = c.loop-key.invariant in
+    let s = c.loop-key.search in
+    let kept = g.C.Columns.columns c.args.columns.now in
+    let pool = g.C.Columns.columns c.loop-key.columns in
+    let done : IsDone s.instance (state_of pool s) = first_of (search rules, grind (arith, common_steps, c.due.ensures.done pool)) in
+    subst (λ (i : Instance). IfOk c.close.result (IsSolved i c.args.nodes kept pool)) inv.instance
+    (ok_follows c.close.result (λ (o : Outcome) (is : IsOutcome s.instance pool (state_of pool s) o). record {
+      state = state_of pool s;
+      run = subst (λ (i : Instance). IsSearchRun i c.args.nodes kept pool (state_of pool s)) (sym inv.instance) (inv.run pool);
+      outcome = is;
+      done = done;
+    }) (c.close.ensures pool))

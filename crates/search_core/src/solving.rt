@@ -1,0 +1,56 @@
+// Searches from their start to their end.
+ghost use Rattle.std.specs.Prelude.{◌≤◌, ◌<◌, List, IfNone, IfOk, IfSome};
+ghost use Rattle.crew_terms.specs.Limits.{Route as TeamRoute, root_limits};
+ghost use Rattle.crew_terms.specs.declared.TheConstants.{MOST_NODES};
+ghost use Rattle.search_core.specs.Searching.{IsOpenKey, state_of};
+ghost use Rattle.search_core.specs.Solved.{IsGrown};
+ghost use Rattle.search_core.specs.Steps.{IsDone, IsSolved};
+
+use crate::causes::Outcome;
+use crate::effort::Effort;
+use crate::searches::Search;
+use column_arena::Columns;
+use crew_instance::Instance;
+use keyed_steps::least_bounds;
+use std::alloc::{AllocError, Global};
+
+impl<'i> Search<'i> {
+    /// The oldest open leaf of least bound, where a step is left and a better plan is not ruled out yet.
+    pub fn due(&self) -> Option<usize>
+        ensures leaf { IfSome result (IsOpenKey self.now) }
+        ensures left { IfSome result (λ _. 0 < self.now.left) }
+        ensures done { (columns : List TeamRoute) → IfNone result (IsDone self.now.instance (state_of columns self.now)) }
+    {
+        least_bounds();
+        // What always holds of the tree is known from here on.
+        let _ = self.keyed.len();
+        if self.left == 0 {
+            return None;
+        }
+        if self.bound() == self.best() {
+            return None;
+        }
+        self.keyed.least()
+    }
+}
+
+/// Searches the instance with so many steps, each at the oldest open leaf of least bound, until no better plan is possible or
+/// no step is left. The columns are used, and routes of the instance may be added to them. AllocError where there is no
+/// memory.
+pub fn solve<C: Columns>(
+    alloc: Global,
+    instance: &Instance,
+    nodes: u32,
+    columns: &mut C,
+    effort: Effort,
+) -> Result<Outcome, AllocError>
+    requires { nodes ≤ MOST_NODES }
+    ensures outcome { IfOk result (IsSolved instance.now nodes (C.columns columns.old) (C.columns columns.new)) }
+    ensures columns { IsGrown (C.columns columns.old) (C.columns columns.new) }
+{
+    let mut search = Search::new(alloc, instance, nodes, effort)?;
+    while let Some(key) = search.due() {
+        search.step(key, columns)?;
+    }
+    search.close()
+}

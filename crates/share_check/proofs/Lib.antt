@@ -1,0 +1,4 @@
+pub mod Added
+pub mod Routes
+pub mod Parts
+pub mod Loose

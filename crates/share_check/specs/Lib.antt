@@ -1,0 +1,2 @@
+pub mod CellSums
+pub mod Summed
