@@ -46,3 +46,18 @@ fn keys_stand_by_age(rt: HostRuntime) -> Result<(), Fail> {
     same(&rt, &queue.key(2), &fourth);
     Ok(())
 }
+
+/// The key of what is taken may come again, and does not make its new node older.
+#[test]
+fn ties_go_by_age(rt: HostRuntime) -> Result<(), Fail> {
+    let mut queue = Queue::new(rt.alloc());
+    let first = queue.put(5, 1)?;
+    let second = queue.put(3, 2)?;
+    queue.put(3, 3)?;
+    same(&rt, &queue.least(), &Some(second));
+    same(&rt, &queue.take(first), &Some((5, 1)));
+    same(&rt, &queue.take(first), &None);
+    queue.put(3, 4)?;
+    same(&rt, &queue.least(), &Some(second));
+    Ok(())
+}

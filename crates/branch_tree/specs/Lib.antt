@@ -1,3 +1,4 @@
 pub mod Trees
+pub mod Entries
 pub mod Levels
 pub mod Kept

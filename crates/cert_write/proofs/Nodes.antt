@@ -29,7 +29,7 @@ use Rattle.cert_write.specs.Given.{AreWritable, Given, IsWritable}
 use Rattle.cert_write.specs.Dossiers.{IsTreeOfGiven, causes_of}
 use Rattle.cert_write.specs.Walks.{Due, GoesOn, IsAmid, IsDue, Place, Stands, Whole, lines_to_come, nodes_to_come}
 use Rattle.cert_write.proofs.Texts.{front_of, text}
-use Rattle.cert_write.proofs.Whole.{same_depth, same_splits}
+use Rattle.cert_write.specs.Counted.{same_depth, same_splits}
 
 -- the number that is counted is that of this tree
 pub counted_of : (f : BranchTree → ℕ) (tree : List Node) (n : ℕ) (given : BranchTree) → ((t u : BranchTree) → preorder t ≡ preorder u → t ≡ u) → tree ≡ preorder given → IsCountIn f tree n → n ≡ f given

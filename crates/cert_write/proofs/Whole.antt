@@ -1,71 +1,18 @@
 -- the parts of a dossier, one after another
-use Rattle.std.proofs.Common.{◌≡◌, ◌+◌, ◌++◌, ◌∷◌, [], ℕ, List, max, ap, sym, refl, ◌∙◌, append_assoc, append-nil, arith}
+use Rattle.std.proofs.Common.{◌≡◌, ◌++◌, ◌∷◌, [], ℕ, List, ap, sym, refl, ◌∙◌, append_assoc, append-nil}
 use Rattle.std.proofs.lemmas.List.Concat.{flat_map-append}
-use Rattle.crew_terms.specs.Branches.{LeafNode, SplitNode, Claim, Bare, Open, Closed, closed_in, left_open_in, depth, splits, leaf_sum}
 use Rattle.crew_terms.specs.Instance.{Instance}
-use Rattle.crew_terms.specs.Limits.{Limits, root_limits}
-use Rattle.crew_terms.specs.Tree.{child}
+use Rattle.crew_terms.specs.Limits.{root_limits}
 use Rattle.crew_terms.specs.Words.{line_text}
-use Rattle.crew_terms.specs.declared.Side.TheVariants.{First, Second}
-use Rattle.dossier_terms.specs.Dossier.{Dossier, Leaf, Written}
+use Rattle.dossier_terms.specs.Dossier.{Dossier, Written}
 use Rattle.dossier_terms.specs.Lines.{counts_of, end_line, form_line, frozen_lines, head_lines, instance_lines, instance_text, node_lines, plan_lines, pool_lines, text_of, tree_line, tree_lines}
 use Rattle.dossier_terms.specs.declared.DossierForm.TheVariants.{Two}
-use Rattle.branch_tree.specs.Trees.{BranchTree, ClaimedLeaf, claim_in, counts_of as tree_counts}
-use Rattle.crew_terms.specs.declared.TreeCounts.{TreeCounts}
+use Rattle.branch_tree.specs.Trees.{BranchTree, counts_of as tree_counts}
 use Rattle.cert_write.specs.Given.{Given}
-use Rattle.cert_write.specs.Dossiers.{IsDossierOf, IsPricedClaim, IsPricedTree}
+use Rattle.cert_write.specs.Counted.{same_counts}
+use Rattle.cert_write.specs.Dossiers.{IsDossierOf, IsPricedTree}
 use Rattle.crew_io.specs.Fronts.{IsFront}
 use Rattle.cert_write.proofs.Texts.{front_of, front_1, front_2, text}
-
--- ---- numbers of a tree
-
-pub same_splits : (n : Limits) (t : BranchTree) (w : Written) → IsPricedTree n t w → splits t ≡ splits w
-same_splits n (LeafNode given) (LeafNode claim) is = refl
-same_splits n (LeafNode given) (SplitNode split low high) is = absurd is
-same_splits n (SplitNode choice first second) (LeafNode claim) is = absurd is
-same_splits n (SplitNode choice first second) (SplitNode split low high) is =
-    let a = same_splits (child n choice First) first low is.1 in
-    let b = same_splits (child n choice Second) second high is.2 in
-    omega (arith, a, b)
-
-pub same_depth : (n : Limits) (t : BranchTree) (w : Written) → IsPricedTree n t w → depth t ≡ depth w
-same_depth n (LeafNode given) (LeafNode claim) is = refl
-same_depth n (LeafNode given) (SplitNode split low high) is = absurd is
-same_depth n (SplitNode choice first second) (LeafNode claim) is = absurd is
-same_depth n (SplitNode choice first second) (SplitNode split low high) is =
-    ap (λ m. max m (depth second) + 1) (same_depth (child n choice First) first low is.1)
-    ∙ ap (λ m. max (depth low) m + 1) (same_depth (child n choice Second) second high is.2)
-
-closed_same : (n : Limits) (given : ClaimedLeaf) (claim : Claim Leaf) → IsPricedClaim n given claim → closed_in (claim_in given.state) ≡ closed_in claim
-closed_same n given Bare is = ap (λ s. closed_in (claim_in s)) is
-closed_same n given (Open leaf) is = ap (λ s. closed_in (claim_in s)) is.0
-closed_same n given (Closed leaf) is = ap (λ s. closed_in (claim_in s)) is.0
-
-open_same : (n : Limits) (given : ClaimedLeaf) (claim : Claim Leaf) → IsPricedClaim n given claim → left_open_in (claim_in given.state) ≡ left_open_in claim
-open_same n given Bare is = ap (λ s. left_open_in (claim_in s)) is
-open_same n given (Open leaf) is = ap (λ s. left_open_in (claim_in s)) is.0
-open_same n given (Closed leaf) is = ap (λ s. left_open_in (claim_in s)) is.0
-
-same_leaves : (f : ClaimedLeaf → ℕ) (h : Claim Leaf → ℕ) → ((n : Limits) (given : ClaimedLeaf) (claim : Claim Leaf) → IsPricedClaim n given claim → f given ≡ h claim)
-    → (n : Limits) (t : BranchTree) (w : Written) → IsPricedTree n t w → leaf_sum f t ≡ leaf_sum h w
-same_leaves f h one n (LeafNode given) (LeafNode claim) is = one n given claim is
-same_leaves f h one n (LeafNode given) (SplitNode split low high) is = absurd is
-same_leaves f h one n (SplitNode choice first second) (LeafNode claim) is = absurd is
-same_leaves f h one n (SplitNode choice first second) (SplitNode split low high) is =
-    let a = same_leaves f h one (child n choice First) first low is.1 in
-    let b = same_leaves f h one (child n choice Second) second high is.2 in
-    omega (arith, a, b)
-
-counts_from : (a b c d e f g h : ℕ) → a ≡ e → b ≡ f → c ≡ g → d ≡ h
-    → (let x : TreeCounts = record { splits = a; closed = b; left_open = c; depth = d } in let y : TreeCounts = record { splits = e; closed = f; left_open = g; depth = h } in x ≡ y)
-counts_from a b c d e f g h p q r s =
-    ap (λ x. record { splits = x; closed = b; left_open = c; depth = d }) p ∙ ap (λ x. record { splits = e; closed = x; left_open = c; depth = d }) q
-    ∙ ap (λ x. record { splits = e; closed = f; left_open = x; depth = d }) r ∙ ap (λ x. record { splits = e; closed = f; left_open = g; depth = x }) s
-
-pub same_counts : (n : Limits) (t : BranchTree) (w : Written) → IsPricedTree n t w → tree_counts t ≡ counts_of w
-same_counts n t w is = counts_from _ _ _ _ _ _ _ _ (same_splits n t w is)
-    (same_leaves (λ (given : ClaimedLeaf). closed_in (claim_in given.state)) closed_in closed_same n t w is)
-    (same_leaves (λ (given : ClaimedLeaf). left_open_in (claim_in given.state)) left_open_in open_same n t w is) (same_depth n t w is)
 
 -- ---- texts
 

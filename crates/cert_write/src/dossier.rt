@@ -38,7 +38,7 @@ pub struct Parts<'a, C: Columns> {
     pub bound: u32,
     pub tree: &'a Tree,
     /// Why each split was made, in the order of the nodes.
-    pub causes: &'a [Cause],
+    pub causes: &'a [Cause<'a>],
 }
 
 /// The first line, and the lines of the instance with its frozen jobs.

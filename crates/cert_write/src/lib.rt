@@ -18,5 +18,6 @@ mod words;
 pub use causes::Cause;
 pub use dossier::{Parts, write_dossier};
 pub use faults::PutFault;
+pub use frac_master::Share;
 pub use instance::write_instance;
 pub use laws::parts_have_one_dossier;

@@ -41,7 +41,7 @@ fn put_choice<K: Sink>(out: &mut K, choice: Choice) -> Result<(), WriteFault>
 }
 
 /// The lines of a split.
-fn put_split<K: Sink>(out: &mut K, choice: Choice, cause: &Cause) -> Result<(), WriteFault>
+fn put_split<K: Sink>(out: &mut K, choice: Choice, cause: &Cause<'_>) -> Result<(), WriteFault>
     ensures { Puts K.Sink (flat_map line_text (choice_line choice ∷ cause_lines (cause_of cause.now))) out.old out.new result }
 {
     put_choice(out, choice)?;
@@ -65,7 +65,7 @@ fn put_node<K: Sink>(
     walk: &mut Walk,
     room: &mut Room,
     node: &Node,
-    causes: &[Cause],
+    causes: &[Cause<'_>],
 ) -> Result<usize, WriteFault>
     requires due { (root : NodeLimits) × (whole : Written) × (nodes : List TreeNode) × (place : Place) ×
         Stands root whole (node.now ∷ nodes) (map cause_of causes.now) limits.old walk.old place }
@@ -92,7 +92,7 @@ fn put_node<K: Sink>(
 }
 
 /// The causes from this one on.
-fn causes_from(causes: &[Cause], n: usize) -> &[Cause]
+fn causes_from<'a, 'b>(causes: &'a [Cause<'b>], n: usize) -> &'a [Cause<'b>]
     requires { n ≤ length causes.now }
     ensures { result.now ≡ drop n causes.now }
 {
@@ -107,7 +107,7 @@ fn put_nodes<K: Sink>(
     room: &mut Room,
     instance: &Instance,
     tree: &Tree,
-    causes: &[Cause],
+    causes: &[Cause<'_>],
 ) -> Result<(), WriteFault>
     requires due { (given : BranchTree) × (written : Written) × IsDue (root_limits instance.now) tree.now (map cause_of causes.now) given written }
     requires ready { AreReady instance.now tree.now limits.old walk.old room.old }
@@ -150,7 +150,7 @@ pub(crate) fn put_tree<K: Sink>(
     room: &mut Room,
     instance: &Instance,
     tree: &Tree,
-    causes: &[Cause],
+    causes: &[Cause<'_>],
 ) -> Result<(), WriteFault>
     requires due { (given : BranchTree) × (written : Written) × IsDue (root_limits instance.now) tree.now (map cause_of causes.now) given written }
     requires ready { AreReady instance.now tree.now limits.old walk.old room.old }

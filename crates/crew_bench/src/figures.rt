@@ -30,6 +30,23 @@ pub enum Figures {
         pivots: u32,
         ending: Ending,
     },
+    /// What a search's plan leaves unassigned and what its tree proves unassigned, its splits and closed leaves, and how many of
+    /// the splits have each cause.
+    Search {
+        unassigned: u32,
+        bound: u32,
+        splits: u32,
+        closed: usize,
+        causes: Causes,
+    },
+}
+
+/// How many splits of a search have each cause.
+#[derive(Clone, Copy, Debug, Default)]
+pub struct Causes {
+    pub loose: usize,
+    pub overflow: usize,
+    pub spent: usize,
 }
 
 impl fmt::Display for Figures {
@@ -53,6 +70,17 @@ impl fmt::Display for Figures {
                 pivots,
                 ending,
             } => write!(f, "columns {columns} pivots {pivots} {ending:?}"),
+            Figures::Search {
+                unassigned,
+                bound,
+                splits,
+                closed,
+                causes,
+            } => write!(
+                f,
+                "unassigned {unassigned} bound {bound} splits {splits} closed {closed} loose {} overflow {} spent {}",
+                causes.loose, causes.overflow, causes.spent
+            ),
         }
     }
 }

@@ -5,6 +5,7 @@
 mod days;
 mod errors;
 mod figures;
+mod searches;
 mod tasks;
 mod words;
 

@@ -7,6 +7,7 @@ ghost use Rattle.potentials.specs.Prices.{ArePricesOf};
 use crate::days::instance_of;
 use crate::errors::BenchError;
 use crate::figures::{Ending, Figures};
+use crate::searches::searched;
 use crate::words::{Kind, Work};
 use column_arena::{Columns, VecColumns};
 use crew_instance::{Instance, Plan, unassigned};
@@ -145,6 +146,7 @@ pub fn done(alloc: Global, work: &Work) -> Result<Figures, BenchError> {
         Kind::Pricing => pricing(alloc, &limits, work.count)?,
         Kind::Ascent => ascent(alloc, &limits, work.count)?,
         Kind::Master => run(alloc, &limits, work.count)?,
+        Kind::Solve => searched(alloc, &instance, work.count)?,
     };
     Ok(figures)
 }

@@ -16,6 +16,8 @@ pub enum Kind {
     Ascent,
     /// The run of the master over routes of an ascent.
     Master,
+    /// A search by branch and price.
+    Solve,
 }
 
 /// What is done, over the generated day with this number and so many teams and tasks, and how often or how long.
@@ -37,6 +39,7 @@ fn kind_of(word: &str) -> Option<Kind> {
         "pricing" => Some(Kind::Pricing),
         "ascent" => Some(Kind::Ascent),
         "master" => Some(Kind::Master),
+        "solve" => Some(Kind::Solve),
         _ => None,
     }
 }

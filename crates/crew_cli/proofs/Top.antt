@@ -12,8 +12,8 @@ use Rattle.day_terms.specs.Rounds.{Round}
 use Rattle.dossier_commands.specs.Says.{SaysNo, ReadsDossiers}
 use Rattle.dossier_commands.specs.declared.read.Ended.{Ended as DossiersEnded}
 use Rattle.dossier_commands.specs.declared.read.Ended.TheVariants as dossiers
-use Rattle.day_commands.specs.Rounds.{Stops, DayStop, ComesTo, IsFineDay, IsRefusedOutput, IsTooLong, IsStopped, SaysFirstRounds, SaysOutputPart}
-use Rattle.day_commands.specs.Outputs.{stops_of, TextsOf}
+use Rattle.day_commands.specs.Rounds.{Stops, DayStop, ComesTo, IsFineDay, IsRefusedOutput, IsTooLong, IsStopped, SaysFirstRounds, SaysOutputPart, change_stop}
+use Rattle.day_commands.specs.Outputs.{TextsOf}
 use Rattle.day_commands.specs.Fronts.{part_of, first_are_part}
 use Rattle.day_commands.specs.Says.{SaysAt, ReadsDay}
 use Rattle.day_commands.specs.declared.ended.DayOutput.{DayOutput}
@@ -98,13 +98,13 @@ module _ {S K : Type 0} (source : SourceTells S) (sink : SinkTells K) (src later
   }
 
   day_part : (output : DayOutput) (ended : DayEnded) → OfBytes (source.left src) (sink.got out) (sink.got new) (SaysAt output ended (source.left later))
-      → OfBytes (source.left src) (sink.got out) (sink.got new) (SaysOutputPart (stops_of output) (TextsOf output))
+      → OfBytes (source.left src) (sink.got out) (sink.got new) (SaysOutputPart change_stop (TextsOf output))
   day_part output ended =
-      of_bytes_weaker (source.left src) (sink.got out) (sink.got new) (SaysAt output ended (source.left later)) (SaysOutputPart (stops_of output) (TextsOf output)) (part_of output ended (source.left later))
+      of_bytes_weaker (source.left src) (sink.got out) (sink.got new) (SaysAt output ended (source.left later)) (SaysOutputPart change_stop (TextsOf output)) (part_of output ended (source.left later))
 
   -- a command over days answers by the status of its end
   pub day_answers : {E : Type 0} (output : DayOutput) (ended : Result DayEnded E) → ReadsDay source sink output src later out new ended
-      → Answers source sink (DaySays output) (day_ends_with output) (IsFineDay (stops_of output)) src later out new (day_status ended)
+      → Answers source sink (DaySays output) (day_ends_with output) (IsFineDay change_stop) src later out new (day_status ended)
   day_answers output (Ok day.Done) r = record {
     says = r.says;
     part = day_part output day.Done r.says;
@@ -130,7 +130,7 @@ module _ {S K : Type 0} (source : SourceTells S) (sink : SinkTells K) (src later
     ended = λ e. absurd (cc);
     reads = tells_read r.reads (λ e. absurd (cc)) (λ e. absurd (cc));
     writes = tells_write r.writes (λ e. absurd (cc)) (λ e. absurd (cc));
-    complete = refused_is_not_fine (stops_of output) (source.left src) _ _ _ (r.refused refl);
+    complete = refused_is_not_fine change_stop (source.left src) _ _ _ (r.refused refl);
   }
   day_answers output (Ok day.ReadFault) r = record {
     says = r.says;
@@ -152,8 +152,8 @@ module _ {S K : Type 0} (source : SourceTells S) (sink : SinkTells K) (src later
   }
   day_answers output (Err fault) r = record {
     says = r.memory;
-    part = of_bytes_weaker (source.left src) (sink.got out) (sink.got new) (SaysFirstRounds (stops_of output) (TextsOf output)) (SaysOutputPart (stops_of output) (TextsOf output))
-        (first_are_part (stops_of output) (TextsOf output)) r.memory;
+    part = of_bytes_weaker (source.left src) (sink.got out) (sink.got new) (SaysFirstRounds change_stop (TextsOf output)) (SaysOutputPart change_stop (TextsOf output))
+        (first_are_part change_stop (TextsOf output)) r.memory;
     ends = refl;
     ended = λ e. absurd (cc);
     reads = tells_read r.reads (λ e. absurd (cc)) (λ e. absurd (cc));
@@ -182,12 +182,12 @@ dossiers_done text status.Memory unseen input written Full says fine read write 
 dossiers_done text status.Unproved unseen input written Full says fine read write = absurd says
 
 -- nor is a day that is fine
-day_done : ComesToOne → (output : DayOutput) (answer : Status) (unseen : Option (List ℕ)) (input written : List ℕ) (Full : Type 0) → DaySays output answer unseen input written → IsFineDay (stops_of output) input
+day_done : ComesToOne → (output : DayOutput) (answer : Status) (unseen : Option (List ℕ)) (input written : List ℕ) (Full : Type 0) → DaySays output answer unseen input written → IsFineDay change_stop input
     → answer ≢ status.ReadFault → (answer ≡ status.WriteFault → Full) → IsTrue (is_done answer) ⊎ (answer ≡ status.Memory) ⊎ ((answer ≡ status.WriteFault) × Full)
 day_done law output status.Done unseen input written Full says fine read write = inl refl
 day_done law output status.No unseen input written Full says fine read write = absurd says
 day_done law output status.Words unseen input written Full says fine read write = absurd says
-day_done law output status.Refused unseen input written Full says fine read write = absurd (refused_not_fine law (stops_of output) (TextsOf output) input written says fine)
+day_done law output status.Refused unseen input written Full says fine read write = absurd (refused_not_fine law change_stop (TextsOf output) input written says fine)
 day_done law output status.ReadFault unseen input written Full says fine read write = absurd (read refl)
 day_done law output status.WriteFault unseen input written Full says fine read write = inr (inr (refl, write refl))
 day_done law output status.Memory unseen input written Full says fine read write = inr (inl refl)

@@ -11,8 +11,8 @@ use Rattle.dossier_terms.specs.Texts.{yes_line}
 use Rattle.dossier_terms.specs.Accepted.{IsAccepted}
 use Rattle.dossier_commands.specs.Outputs.{roster_of}
 use Rattle.dossier_commands.specs.Says.{SaysYes, SaysNo, SaysFront, SaysReadFault, SaysTexts}
-use Rattle.day_commands.specs.Rounds.{IsFineDay, SaysRounds, IsRefusedOutput, SaysOutputPart, SaysFirstRounds, SaysNothingRead}
-use Rattle.day_commands.specs.Outputs.{stops_of, TextsOf, ProvedOf, UnprovedOf, are_dossiers}
+use Rattle.day_commands.specs.Rounds.{IsFineDay, SaysRounds, IsRefusedOutput, SaysOutputPart, SaysFirstRounds, SaysNothingRead, change_stop}
+use Rattle.day_commands.specs.Outputs.{TextsOf, ProvedOf, UnprovedOf, are_dossiers}
 use Rattle.day_commands.specs.declared.ended.DayOutput.{DayOutput}
 use Rattle.day_commands.specs.declared.ended.DayOutput.TheVariants.{Instances, Dossiers}
 use Rattle.crew_cli.specs.Status.{is_done}
@@ -43,12 +43,12 @@ DossiersSay text _ unseen input written = ⊥
 
 -- what a status says of a command over days, which writes this of each round; no other status comes
 abbrev pub DaySays : DayOutput → Status → Option (List ℕ) → List ℕ → List ℕ → Type 0
-DaySays output Done unseen input written = SaysRounds (stops_of output) (ProvedOf output) input written
-DaySays output Unproved unseen input written = SaysRounds (stops_of output) (UnprovedOf output) input written
-DaySays output Refused unseen input written = IsRefusedOutput (stops_of output) (TextsOf output) input written
+DaySays output Done unseen input written = SaysRounds change_stop (ProvedOf output) input written
+DaySays output Unproved unseen input written = SaysRounds change_stop (UnprovedOf output) input written
+DaySays output Refused unseen input written = IsRefusedOutput change_stop (TextsOf output) input written
 DaySays output ReadFault unseen input written = SaysNothingRead unseen input written
-DaySays output WriteFault unseen input written = SaysOutputPart (stops_of output) (TextsOf output) input written
-DaySays output Memory unseen input written = SaysFirstRounds (stops_of output) (TextsOf output) input written
+DaySays output WriteFault unseen input written = SaysOutputPart change_stop (TextsOf output) input written
+DaySays output Memory unseen input written = SaysFirstRounds change_stop (TextsOf output) input written
 DaySays output _ unseen input written = ⊥
 
 -- what a status of a command says of the input, of what its source has left, and of what was written
@@ -87,8 +87,8 @@ AreDossiers input = (dossiers : List Dossier) × IsAccepted input dossiers
 abbrev pub IsFine : Command → List ℕ → Type 0
 IsFine Check = AreDossiers
 IsFine Rosters = AreDossiers
-IsFine Apply = IsFineDay (stops_of Instances)
-IsFine Day = IsFineDay (stops_of Dossiers)
+IsFine Apply = IsFineDay change_stop
+IsFine Day = IsFineDay change_stop
 
 -- a command that has said this, can end with these statuses and takes such input to its end: what its status says, and
 -- what was written whatever the status; what is told of faults; and that input that is fine is done, or memory was

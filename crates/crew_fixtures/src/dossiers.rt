@@ -274,6 +274,39 @@ pub const WITH_NO_CAUSE: Lines = &[
     b"end",
 ];
 
+/// In form 2: one team, and two tasks at one minute. The pair with the first is split, and below it that with the second, in
+/// the node in which the first is forbidden and in that in which it is required. No split shows its cause, and all leaves are
+/// bare.
+pub const TWO_LEVELS: Lines = &[
+    b"crew dossier 2",
+    b"size 1 2 2 3",
+    b"place BASE",
+    b"place G1",
+    b"travel 0 10",
+    b"travel 10 0",
+    b"team T1 0 360 840",
+    b"task A 1 420 420 30 1",
+    b"task B 1 420 420 30 1",
+    b"frozen 0",
+    b"pool 0 2",
+    b"route 0 0 420",
+    b"route 0 1 420",
+    b"plan 1 0",
+    b"do 0 420 0",
+    b"tree 3 0 4 2",
+    b"pair 0 0",
+    b"why none",
+    b"pair 0 1",
+    b"why none",
+    b"leaf bare",
+    b"leaf bare",
+    b"pair 0 1",
+    b"why none",
+    b"leaf bare",
+    b"leaf bare",
+    b"end",
+];
+
 /// In form 2: one team, and two tasks of which it can do one. The first has a frozen job.
 pub const WITH_FROZEN: Lines = &[
     b"crew dossier 2",

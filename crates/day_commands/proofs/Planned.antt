@@ -18,57 +18,22 @@ use Rattle.day_terms.specs.Rounds.{Round, round_at}
 use Rattle.flight_changes.specs.Faults.{fault_of}
 use Rattle.flight_changes.specs.declared.faults.ChangeFault.{ChangeFault}
 use Rattle.replan.specs.Rounds.{IsRoundDossier, AreRoundDossiers, handed_on}
-use Rattle.replan.specs.Planning.{Planning, IsEntered, IsDossierAt, IsLater}
+use Rattle.replan.specs.Planning.{Planning, IsEntered, IsDossierAt}
+use Rattle.replan.specs.declared.counts.Counts.{Counts}
 use Rattle.replan.specs.declared.faults.SessionFault.{SessionFault}
 use Rattle.replan.specs.declared.faults.SessionFault.TheVariants as faults
 use Rattle.replan.specs.declared.session.Done.{Done}
 use Rattle.replan.specs.declared.session.Done.TheVariants.{Changed, Round as HasRound}
-use Rattle.day_commands.specs.Dossiers.{later_stop, planning_stop, first_fault, IsProved, IsUnproved}
+use Rattle.day_commands.specs.Dossiers.{IsProved, IsUnproved}
 use Rattle.day_commands.specs.Rounds.{change_stop}
 use Rattle.day_commands.specs.Taken.{AreDossiersFrom, IsTakenSo, TellsProved, handed_after}
 use Rattle.day_commands.specs.declared.ended.DayOutput.TheVariants.{Dossiers}
 use Rattle.day_commands.specs.declared.entries.Taken.{Taken}
 use Rattle.day_commands.specs.declared.entries.Taken.TheVariants.{Whole, Refused as IsRefused, WriteFault}
 use Rattle.day_commands.specs.declared.refused.DayFault.{DayFault}
-use Rattle.day_commands.specs.declared.refused.DayFault.TheVariants.{Change, Later}
+use Rattle.day_commands.specs.declared.refused.DayFault.TheVariants.{Change}
 use Rattle.replan.specs.Entries.{told_is_no_want}
 use Rattle.day_commands.proofs.Applied.{stop_of_none}
-
--- ---- rounds with a budget
-
-later_none : (entry : Entry) → (IsLater entry → ⊥) → later_stop entry ≡ None
-later_none (Place name) f = refl
-later_none (Travel from to minutes) f = refl
-later_none (RouteTime from to minutes) f = refl
-later_none (DefaultTravel minutes) f = refl
-later_none (Team name home from until skills) f = refl
-later_none (Task name place earliest latest minutes teams skills) f = refl
-later_none (Cancel task) f = refl
-later_none (Move task earliest latest) f = refl
-later_none (Longer task minutes) f = refl
-later_none (Needs task teams) f = refl
-later_none (Sick team) f = refl
-later_none (Shift team from until) f = refl
-later_none (Skill team skill) f = refl
-later_none (Unskill team skill) f = refl
-later_none (Plan zero) f = refl
-later_none (Plan (suc n)) f = absurd (f (suc n, refl, omega arith))
-
-later_some : (entry : Entry) → IsLater entry → later_stop entry ≡ Some Later
-later_some entry l = subst (λ x. later_stop x ≡ Some Later) (sym l.1) (of l.0 l.2)
-  where
-    of : (nodes : ℕ) → 1 ≤ nodes → later_stop (Plan nodes) ≡ Some Later
-    of zero some = absurd (omega (arith, some))
-    of (suc n) some = refl
-
-none_later : (s : DayState) (entry : Entry) → round_at s entry ≡ [] → IsLater entry → ⊥
-none_later s entry none l = let e = subst (λ x. round_at s x ≡ []) l.1 none in absurd (cc)
-
-planning_none : (s : DayState) (entry : Entry) → refusal_of s entry ≡ None → (IsLater entry → ⊥) → planning_stop s entry ≡ None
-planning_none s entry none f = ap (λ x. first_fault x (later_stop entry)) (stop_of_none s entry none) ∙ later_none entry f
-
-planning_later : (s : DayState) (entry : Entry) → refusal_of s entry ≡ None → IsLater entry → planning_stop s entry ≡ Some Later
-planning_later s entry none l = ap (λ x. first_fault x (later_stop entry)) (stop_of_none s entry none) ∙ later_some entry l
 
 -- an entry that begins a round changes nothing
 state_stays : (s : DayState) (entry : Entry) (r : Round) → round_at s entry ≡ r ∷ [] → after_entry s entry ≡ s
@@ -118,7 +83,7 @@ one_dossier s entry d q at tells = record {
 
 pub changed_so : (s new : Planning) (entry : Entry) (got later : Option (List ℕ)) → s.failed ≡ None → IsEntered s entry (Ok Changed) new got later → IsTakenSo Dossiers s entry (Whole true) new got later
 changed_so s new entry got later open_yet e = (
-  planning_none s.day entry e.0 (none_later s.day entry e.1),
+  stop_of_none s.day entry e.0,
   ap (λ (x : Planning). x.day) e.2,
   ap (λ (x : Planning). x.failed) e.2 ∙ open_yet,
   (
@@ -134,49 +99,48 @@ changed_so s new entry got later open_yet e = (
   ),
 )
 
-pub round_so : (s new : Planning) (entry : Entry) (got later : Option (List ℕ)) (unassigned bound : ℕ) (q : Bool) → s.failed ≡ None → IsEntered s entry (Ok (HasRound unassigned bound)) new got later
-    → (q ≡ true → bound ≡ unassigned) → (q ≡ false → bound ≢ unassigned) → IsTakenSo Dossiers s entry (Whole q) new got later
-round_so s new entry got later unassigned bound q open_yet e equal apart_so =
+pub round_so : (s new : Planning) (entry : Entry) (got later : Option (List ℕ)) (counts : Counts) (q : Bool) → s.failed ≡ None → IsEntered s entry (Ok (HasRound counts)) new got later
+    → (q ≡ true → counts.bound ≡ counts.unassigned) → (q ≡ false → counts.bound ≢ counts.unassigned) → IsTakenSo Dossiers s entry (Whole q) new got later
+round_so s new entry got later counts q open_yet e equal apart_so =
     let at = e.1.1 in
     let d = e.1.0 in (
-      planning_none s.day entry e.0 e.2,
-      ap (λ (x : Planning). x.day) e.1.4 ∙ sym (state_stays s.day entry at.round at.begins),
-      ap (λ (x : Planning). x.failed) e.1.4 ∙ open_yet,
+      stop_of_none s.day entry e.0,
+      ap (λ (x : Planning). x.day) e.1.3 ∙ sym (state_stays s.day entry at.round at.begins),
+      ap (λ (x : Planning). x.failed) e.1.3 ∙ open_yet,
       (
         text_of d,
-        subst (λ h. AreDossiersFrom s.handed (round_at s.day entry) (text_of d) q h) (sym (ap (λ (x : Planning). x.handed) e.1.4)) (one_dossier s entry d q at (by q equal apart_so)),
-        e.1.5,
+        subst (λ h. AreDossiersFrom s.handed (round_at s.day entry) (text_of d) q h) (sym (ap (λ (x : Planning). x.handed) e.1.3)) (one_dossier s entry d q at (by q equal apart_so)),
+        e.1.4,
       ),
     )
   where
-    by : (q : Bool) → (q ≡ true → bound ≡ unassigned) → (q ≡ false → bound ≢ unassigned) → TellsProved q (e.1.0 ∷ [])
-    by true equal apart_so = tells_proved e.1.0 (sym e.1.3 ∙ equal refl ∙ e.1.2)
+    bound_is : counts.bound ≡ e.1.0.bound
+    bound_is = ap (λ (c : Counts). c.bound) e.1.2
+
+    left_is : counts.unassigned ≡ unassigned_count e.1.0.plan
+    left_is = ap (λ (c : Counts). c.unassigned) e.1.2
+
+    by : (q : Bool) → (q ≡ true → counts.bound ≡ counts.unassigned) → (q ≡ false → counts.bound ≢ counts.unassigned) → TellsProved q (e.1.0 ∷ [])
+    by true equal apart_so = tells_proved e.1.0 (sym bound_is ∙ equal refl ∙ left_is)
     by false equal apart_so =
-        let most = at_most s.handed e.1.1.round e.1.0 e.1.1.dossier in
-        let b = e.1.3 in
-        let u = e.1.2 in
-        let apart : (bound ≡ unassigned) → ⊥ = apart_so refl in
-        tells_unproved e.1.0 (less (cases_lt e.1.0.bound (unassigned_count e.1.0.plan)) apart b u most)
+        tells_unproved e.1.0 (less (cases_lt e.1.0.bound (unassigned_count e.1.0.plan)) (apart_so refl) bound_is left_is (at_most s.handed e.1.1.round e.1.0 e.1.1.dossier))
       where
-        less : ((e.1.0.bound < unassigned_count e.1.0.plan) ⊎ (unassigned_count e.1.0.plan ≤ e.1.0.bound)) → (bound ≡ unassigned → ⊥) → bound ≡ e.1.0.bound → unassigned ≡ unassigned_count e.1.0.plan
-            → e.1.0.bound ≤ unassigned_count e.1.0.plan → e.1.0.bound < unassigned_count e.1.0.plan
+        less : ((e.1.0.bound < unassigned_count e.1.0.plan) ⊎ (unassigned_count e.1.0.plan ≤ e.1.0.bound)) → (counts.bound ≡ counts.unassigned → ⊥) → counts.bound ≡ e.1.0.bound
+            → counts.unassigned ≡ unassigned_count e.1.0.plan → e.1.0.bound ≤ unassigned_count e.1.0.plan → e.1.0.bound < unassigned_count e.1.0.plan
         less (inl l) apart b u most = l
         less (inr m) apart b u most = absurd (apart (omega (arith, m, b, u, most)))
 
 pub change_so : (s new : Planning) (entry : Entry) (got later : Option (List ℕ)) (fault : ChangeFault) → IsEntered s entry (Err (faults.Change fault)) new got later → IsTakenSo Dossiers s entry (IsRefused (Change fault)) new got later
 change_so s new entry got later fault e =
     let r = e.0 in (
-      ap (λ x. first_fault x (later_stop entry)) (ap (λ told. option_map (λ refusal. Change (fault_of refusal)) told) r.1 ∙ ap (λ f. Some (Change f)) (sym r.2)),
+      ap (λ told. option_map (λ refusal. Change (fault_of refusal)) told) r.1 ∙ ap (λ f. Some (Change f)) (sym r.2),
       (λ same. told_is_no_want r.0 (let f : fault ≡ _ = cc in sym r.2 ∙ f)),
       e.2,
     )
-
-pub later_so : (s new : Planning) (entry : Entry) (got later : Option (List ℕ)) → IsEntered s entry (Err faults.Later) new got later → IsTakenSo Dossiers s entry (IsRefused Later) new got later
-later_so s new entry got later e = (planning_later s.day entry e.0 e.1, (λ same. absurd (cc)), e.3)
 
 pub fault_so : (s new : Planning) (entry : Entry) (got later : Option (List ℕ)) → IsEntered s entry (Err faults.WriteFault) new got later → IsTakenSo Dossiers s entry WriteFault new got later
 fault_so s new entry got later e =
     let f = e.2 in
     let d = f.0 in
     let t = proved_or_not d (at_most s.handed f.1.round d f.1.dossier) in
-    (planning_none s.day entry e.0 e.3, (text_of d, t.0, handed_on d, one_dossier s entry d t.0 f.1 t.1, f.2))
+    (stop_of_none s.day entry e.0, (text_of d, t.0, handed_on d, one_dossier s entry d t.0 f.1 t.1, f.2))

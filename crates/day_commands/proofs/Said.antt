@@ -16,8 +16,8 @@ use Rattle.day_terms.specs.State.{DayState, start, after_entry, state_after}
 use Rattle.day_terms.specs.Rounds.{Round, round_at, rounds_of}
 use Rattle.replan.specs.Planning.{Planning}
 use Rattle.day_commands.specs.Refused.{refused_line}
-use Rattle.day_commands.specs.Rounds.{Stops, AreTakenBy, DayStop, ComesTo, AllTaken, BadRecord, BadEntry, IsFineDay, IsRefusedOutput, IsTooLong, IsStopped, SaysOutputPart, OfRounds, OfRefusal, SaysFirstRounds, NoRound, Rounds}
-use Rattle.day_commands.specs.Outputs.{stops_of, TextsOf}
+use Rattle.day_commands.specs.Rounds.{Stops, AreTakenBy, DayStop, ComesTo, AllTaken, BadRecord, BadEntry, IsFineDay, IsRefusedOutput, IsTooLong, IsStopped, SaysOutputPart, OfRounds, OfRefusal, SaysFirstRounds, NoRound, Rounds, change_stop}
+use Rattle.day_commands.specs.Outputs.{TextsOf}
 use Rattle.day_commands.specs.Says.{SaysAt, whole_end, is_refused_or_write_fault, is_of_text, is_whole, can_end}
 use Rattle.day_commands.specs.Taken.{AreTextsFrom, IsFrontFrom, IsTakenSo, IsDay, Wrote}
 use Rattle.day_commands.specs.Fronts.{take_front}
@@ -56,22 +56,22 @@ front_behind xs ys n = sym (take_past xs ys n)
 pub record SoFar (output : DayOutput) (entries : List Entry) (proved : Bool) (s : Planning) (got later : Option (List ℕ)) : Type 0 where
   pub state : s.day ≡ state_after entries
   pub open_yet : s.failed ≡ None
-  pub taken : AreTakenBy (stops_of output) start entries
+  pub taken : AreTakenBy change_stop start entries
   pub text : List ℕ
   pub texts : AreTextsFrom output [] (rounds_of entries) text proved s.handed
   pub wrote : Appended got later text
 
 -- the rounds of entries that are taken are the first of those that the day comes to
 first_rounds : (output : DayOutput) (text : List ℕ) (front back : List Entry) (last : Option Refused) (written : List ℕ) → length text ≤ LONGEST_DAY → IsDayOf text (front ++ back) last
-    → AreTakenBy (stops_of output) start front → TextsOf output (rounds_of front) written → SaysFirstRounds (stops_of output) (TextsOf output) text written
+    → AreTakenBy change_stop start front → TextsOf output (rounds_of front) written → SaysFirstRounds change_stop (TextsOf output) text written
 first_rounds output text front back last written within day taken texts =
-    let g = goes_on (stops_of output) text front back last day taken in
+    let g = goes_on change_stop text front back last day taken in
     Rounds within (rounds_of front ++ g.rest) g.stop g.comes_to (length (rounds_of front))
     (subst (λ rounds. TextsOf output rounds written) (sym (take_front (rounds_of front) g.rest)) texts)
 
 -- memory was wanting behind entries that are taken
 pub says_first : (output : DayOutput) (text : List ℕ) (front back : List Entry) (last : Option Refused) (proved : Bool) (s : Planning) (got later : Option (List ℕ)) → length text ≤ LONGEST_DAY → IsDayOf text (front ++ back) last
-    → SoFar output front proved s got later → Wrote got later (SaysFirstRounds (stops_of output) (TextsOf output) text)
+    → SoFar output front proved s got later → Wrote got later (SaysFirstRounds change_stop (TextsOf output) text)
 says_first output text front back last proved s got later within day so =
     (so.text, so.wrote, first_rounds output text front back last so.text within day so.taken (texts_are output (rounds_of front) so.text proved s.handed so.texts))
 
@@ -91,7 +91,7 @@ says_rounds output text entries false s got later within day so = (
 
 -- a record is refused
 pub says_stop : (output : DayOutput) (text : List ℕ) (rounds : List Round) (stop : DayStop) (written : List ℕ) (got mid later : Option (List ℕ)) (answer : Ended) → length text ≤ LONGEST_DAY
-    → ComesTo (stops_of output) text rounds (Some stop) → TextsOf output rounds written → Appended got mid written
+    → ComesTo change_stop text rounds (Some stop) → TextsOf output rounds written → Appended got mid written
     → (answer ≡ ended.Refused → Appended mid later (refused_line stop.number stop.cause)) → AppendedPart mid later (refused_line stop.number stop.cause)
     → IsTrue (is_refused_or_write_fault answer) → Wrote got later (SaysAt output answer None text)
 says_stop output text rounds stop written got mid later ended.Done within c texts wrote all part others = absurd (cc)
@@ -127,7 +127,7 @@ module _ (output : DayOutput) (text : List ℕ) (entries : List Entry) (n : ℕ)
       let front = take n entries in
       let entry = get_or entries n d in
       let p = subst (λ x. IsTakenSo output s entry x new mid held) is comes in
-      let refused : stops_of output (state_after front) entry ≡ Some fault = subst (λ x. stops_of output x entry ≡ Some fault) so.state p.0 in
+      let refused : change_stop (state_after front) entry ≡ Some fault = subst (λ x. change_stop x entry ≡ Some fault) so.state p.0 in
       let number : n + 1 ≡ length front + 1 = omega (arith, length-take n entries, below) in
       let stop : DayStop = record { number = n + 1; cause = fault } in
       let stop_is : Some stop ≡ Some (record { number = length front + 1; cause = fault }) = ap (λ k. Some (record { number = k; cause = fault })) number in
@@ -137,8 +137,8 @@ module _ (output : DayOutput) (text : List ℕ) (entries : List Entry) (n : ℕ)
       (λ e. subst (λ x. Appended x later (refused_line (n + 1) fault)) p.2 (all e)) (subst (λ x. AppendedPart x later (refused_line (n + 1) fault)) p.2 part) others
 
   -- it is taken
-  more_taken : (d : Entry) → n < length entries → SoFar output (take n entries) proved s got mid → stops_of output s.day (get_or entries n d) ≡ None → AreTakenBy (stops_of output) start (take n entries ++ get_or entries n d ∷ [])
-  more_taken d below so none = taken_more (stops_of output) (take n entries) (get_or entries n d) so.taken (subst (λ x. stops_of output x (get_or entries n d) ≡ None) so.state none)
+  more_taken : (d : Entry) → n < length entries → SoFar output (take n entries) proved s got mid → change_stop s.day (get_or entries n d) ≡ None → AreTakenBy change_stop start (take n entries ++ get_or entries n d ∷ [])
+  more_taken d below so none = taken_more change_stop (take n entries) (get_or entries n d) so.taken (subst (λ x. change_stop x (get_or entries n d) ≡ None) so.state none)
 
   more_texts : (d : Entry) (ys : List ℕ) (q : Bool) (handed : List NamedRoute) (so : SoFar output (take n entries) proved s got mid)
       → AreTextsFrom output s.handed (round_at s.day (get_or entries n d)) ys q handed
@@ -167,9 +167,9 @@ module _ (output : DayOutput) (text : List ℕ) (entries : List Entry) (n : ℕ)
       (so.text ++ take w.0 f.0, w.2, OfRounds (so.text ++ f.0) whole (length so.text + w.0) (front_behind so.text f.0 w.0))
 
   -- memory was wanting for it
-  pub at_memory : (later : Option (List ℕ)) → IsDay text entries last → SoFar output (take n entries) proved s got mid → later ≡ mid → Wrote got later (SaysFirstRounds (stops_of output) (TextsOf output) text)
+  pub at_memory : (later : Option (List ℕ)) → IsDay text entries last → SoFar output (take n entries) proved s got mid → later ≡ mid → Wrote got later (SaysFirstRounds change_stop (TextsOf output) text)
   at_memory later day so same =
-      subst (λ x. Wrote got x (SaysFirstRounds (stops_of output) (TextsOf output) text)) (sym same)
+      subst (λ x. Wrote got x (SaysFirstRounds change_stop (TextsOf output) text)) (sym same)
       (says_first output text (take n entries) (drop n entries) last proved s got mid day.within (subst (λ es. IsDayOf text es last) (sym (take-append-drop n entries)) day.day) so)
 
   pub at_taken : (d : Entry) (new : Planning) (taken : Taken) (q : Bool) (later : Option (List ℕ)) → n < length entries → SoFar output (take n entries) proved s got mid
@@ -240,14 +240,14 @@ whole_says output None later got new bytes answer read of_day wrote = tt
 whole_says output (Some input) later got new bytes answer read of_day wrote = (wrote.0, wrote.1, says_any output answer later input wrote.0 of_day (subst (λ x. SaysAt output answer None x wrote.0) read.0 wrote.2))
 
 pub whole_memory : (output : DayOutput) (left later got new : Option (List ℕ)) (bytes : List ℕ) → ReadsText LONGEST_DAY left (text_is.Whole bytes) later
-    → Wrote got new (SaysFirstRounds (stops_of output) (TextsOf output) bytes) → OfBytes left got new (SaysFirstRounds (stops_of output) (TextsOf output))
+    → Wrote got new (SaysFirstRounds change_stop (TextsOf output) bytes) → OfBytes left got new (SaysFirstRounds change_stop (TextsOf output))
 whole_memory output None later got new bytes read wrote = tt
-whole_memory output (Some input) later got new bytes read wrote = (wrote.0, wrote.1, subst (λ x. SaysFirstRounds (stops_of output) (TextsOf output) x wrote.0) read.0 wrote.2)
+whole_memory output (Some input) later got new bytes read wrote = (wrote.0, wrote.1, subst (λ x. SaysFirstRounds change_stop (TextsOf output) x wrote.0) read.0 wrote.2)
 
-pub whole_not_fine : (output : DayOutput) (left later : Option (List ℕ)) (bytes : List ℕ) → ReadsText LONGEST_DAY left (text_is.Whole bytes) later → (IsFineDay (stops_of output) bytes → ⊥)
-    → IfSome left (λ input. IsFineDay (stops_of output) input → ⊥)
+pub whole_not_fine : (output : DayOutput) (left later : Option (List ℕ)) (bytes : List ℕ) → ReadsText LONGEST_DAY left (text_is.Whole bytes) later → (IsFineDay change_stop bytes → ⊥)
+    → IfSome left (λ input. IsFineDay change_stop input → ⊥)
 whole_not_fine output None later bytes read not = tt
-whole_not_fine output (Some input) later bytes read not = subst (λ x. IsFineDay (stops_of output) x → ⊥) read.0 not
+whole_not_fine output (Some input) later bytes read not = subst (λ x. IsFineDay change_stop x → ⊥) read.0 not
 
 -- and nothing is left
 pub whole_ended : (left later : Option (List ℕ)) (bytes : List ℕ) → ReadsText LONGEST_DAY left (text_is.Whole bytes) later → HasEnded later
@@ -295,7 +295,7 @@ whole_of_text Dossiers entries true s got later so = refl
 whole_of_text Dossiers entries false s got later so = refl
 
 -- nothing was written, and memory was wanting
-pub none_memory : (output : DayOutput) (left got : Option (List ℕ)) → OfBytes left got got (SaysFirstRounds (stops_of output) (TextsOf output))
+pub none_memory : (output : DayOutput) (left got : Option (List ℕ)) → OfBytes left got got (SaysFirstRounds change_stop (TextsOf output))
 none_memory output None got = tt
 none_memory output (Some input) got = ([], appended_none got, NoRound refl)
 
@@ -312,7 +312,7 @@ long_says output (Some input) later got new ended.WriteFault read all part other
     let w = piece_front got got new [] line (appended_none got) part in
     (take w.0 line, w.2, OfRefusal line (IsTooLong read.0 refl) w.0 refl)
 
-pub long_not_fine : (output : DayOutput) (left later : Option (List ℕ)) → ReadsText LONGEST_DAY left text_is.TooLong later → IfSome left (λ input. IsFineDay (stops_of output) input → ⊥)
+pub long_not_fine : (output : DayOutput) (left later : Option (List ℕ)) → ReadsText LONGEST_DAY left text_is.TooLong later → IfSome left (λ input. IsFineDay change_stop input → ⊥)
 long_not_fine output None later read = tt
 long_not_fine output (Some input) later read = λ fine. let a = read.0 in let b = fine.0 in absurd (omega arith)
 
@@ -335,9 +335,9 @@ fault_says output (Some input) later got took = (
 -- what is refused is not fine
 pub refused_not_fine : (output : DayOutput) (text written : List ℕ)
     → ((text : List ℕ) (entries others : List Entry) (stop last : Option Refused) → IsDayOf text entries stop → IsDayOf text others last → (entries ≡ others) × (stop ≡ last))
-    → IsRefusedOutput (stops_of output) (TextsOf output) text written → IsFineDay (stops_of output) text → ⊥
+    → IsRefusedOutput change_stop (TextsOf output) text written → IsFineDay change_stop text → ⊥
 refused_not_fine output text written law (IsTooLong more is) fine = let b = fine.0 in absurd (omega arith)
-refused_not_fine output text written law (IsStopped within rounds stop c lines texts is) fine = one_end (stops_of output) text fine.1.0 rounds stop law fine.1.1 c
+refused_not_fine output text written law (IsStopped within rounds stop c lines texts is) fine = one_end change_stop text fine.1.0 rounds stop law fine.1.1 c
 
 pub whole_no_fault : {E : Type 0} (q : Bool) (answer : Ended) → answer ≡ whole_end q → ◌≡◌ {A = Result Ended E} (Ok answer) (Ok ended.WriteFault) → ⊥
 whole_no_fault true answer is e = let f : ended.Done ≡ ended.WriteFault = sym is ∙ same_ok e in absurd (cc)

@@ -1,31 +1,11 @@
 -- what `day` writes of the rounds of a day: a dossier of each
-use Rattle.std.specs.Prelude.{◌≡◌, ◌<◌, ℕ, zero, suc, List, [], Option, None, Some, All, Any}
+use Rattle.std.specs.Prelude.{◌≡◌, ◌<◌, ℕ, List, [], All, Any}
 use Rattle.std.specs.List.{flat_map}
 use Rattle.crew_terms.specs.Plan.{unassigned_count}
 use Rattle.dossier_terms.specs.Dossier.{Dossier}
 use Rattle.dossier_terms.specs.Lines.{text_of}
-use Rattle.day_terms.specs.declared.Entry.{Entry}
-use Rattle.day_terms.specs.declared.Entry.TheVariants.{Plan}
-use Rattle.day_terms.specs.State.{DayState}
 use Rattle.day_terms.specs.Rounds.{Round}
 use Rattle.replan.specs.Rounds.{AreRoundDossiers}
-use Rattle.day_commands.specs.Rounds.{Stops, change_stop}
-use Rattle.day_commands.specs.declared.refused.DayFault.{DayFault}
-use Rattle.day_commands.specs.declared.refused.DayFault.TheVariants.{Later}
-
--- the entry begins a round with a budget of nodes, which none is planned with yet
-abbrev pub later_stop : Entry → Option DayFault
-later_stop (Plan (suc nodes)) = Some Later
-later_stop _ = None
-
--- the first of two faults
-abbrev pub first_fault : Option DayFault → Option DayFault → Option DayFault
-first_fault (Some fault) other = Some fault
-first_fault None other = other
-
--- the state refuses the entry, or it comes later
-abbrev pub planning_stop : Stops
-planning_stop s entry = first_fault (change_stop s entry) (later_stop entry)
 
 -- the text is that of these dossiers of the rounds, the first of which is handed no routes
 pub record AreTextsOf (rounds : List Round) (text : List ℕ) (dossiers : List Dossier) : Type 0 where

@@ -2,8 +2,8 @@
 use Rattle.std.proofs.Common.{◌≡◌, ◌++◌, ◌∷◌, [], ℕ, List, Option, None, length, take, ap, sym, subst, refl}
 use Rattle.std.proofs.Math.Seq.{take-length}
 use Rattle.day_terms.specs.Rounds.{Round}
-use Rattle.day_commands.specs.Rounds.{Stops, SaysRounds, SaysOutputPart, OfRounds, OfRefusal, SaysFirstRounds, NoRound, Rounds}
-use Rattle.day_commands.specs.Outputs.{stops_of, TextsOf, ProvedOf, UnprovedOf}
+use Rattle.day_commands.specs.Rounds.{Stops, SaysRounds, SaysOutputPart, OfRounds, OfRefusal, SaysFirstRounds, NoRound, Rounds, change_stop}
+use Rattle.day_commands.specs.Outputs.{TextsOf, ProvedOf, UnprovedOf}
 use Rattle.day_commands.specs.Says.{SaysAt}
 use Rattle.day_commands.specs.declared.ended.DayOutput.{DayOutput}
 use Rattle.day_commands.specs.declared.ended.DayOutput.TheVariants.{Instances, Dossiers}
@@ -38,7 +38,7 @@ rounds_are_part stops Texts Fact input written are says =
 
 -- however the call ends, what was written is a front of the output
 pub part_of : (output : DayOutput) (answer : Ended) (unseen : Option (List ℕ)) (input written : List ℕ) → SaysAt output answer unseen input written
-    → SaysOutputPart (stops_of output) (TextsOf output) input written
+    → SaysOutputPart change_stop (TextsOf output) input written
 part_of output Done unseen input written says = rounds_are_part _ (TextsOf output) (ProvedOf output) input written (proved_are output) says
 part_of output Unproved unseen input written says = rounds_are_part _ (TextsOf output) (UnprovedOf output) input written (unproved_are output) says
 part_of output Refused unseen input written says = OfRefusal written says (length written) (sym (take-length written))

@@ -9,7 +9,7 @@ use Rattle.day_terms.specs.declared.DayCause.TheVariants.{Kind, Field}
 use Rattle.flight_changes.specs.declared.faults.ChangeFault.{ChangeFault}
 use Rattle.flight_changes.specs.declared.faults.ChangeFault.TheVariants.{OutOfMemory, TooMany, SameName, NoPlace, NoTask, NoTeam, BadWindow, BadShift, BadTeams, MissingTravel}
 use Rattle.day_commands.specs.declared.refused.DayFault.{DayFault}
-use Rattle.day_commands.specs.declared.refused.DayFault.TheVariants.{TooLong, InItself, Change, Later}
+use Rattle.day_commands.specs.declared.refused.DayFault.TheVariants.{TooLong, InItself, Change}
 
 -- a field's fault: its word, and the field's number where one is at fault
 abbrev pub field_words : ℕ → Cause → Words
@@ -37,7 +37,6 @@ abbrev pub cause_words : DayFault → Words
 cause_words TooLong = codes "TooLong" ∷ []
 cause_words (InItself cause) = record_words cause
 cause_words (Change fault) = change_words fault
-cause_words Later = codes "Later" ∷ []
 
 -- the line `refused RECORD CAUSE`
 abbrev pub refused_line : ℕ → DayFault → List ℕ

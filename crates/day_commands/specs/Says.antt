@@ -6,23 +6,23 @@ use Rattle.crew_io.specs.Puts.{TellsWrites}
 use Rattle.crew_io.specs.Draws.{TellsReads}
 use Rattle.crew_io.specs.declared.sink.Sink.{Ghosts as SinkTells}
 use Rattle.crew_io.specs.declared.source.Source.{Ghosts as SourceTells}
-use Rattle.day_commands.specs.Rounds.{IsFineDay, SaysRounds, IsRefusedOutput, SaysOutputPart, SaysFirstRounds, SaysNothingRead}
-use Rattle.day_commands.specs.Outputs.{stops_of, TextsOf, ProvedOf, UnprovedOf, are_dossiers}
+use Rattle.day_commands.specs.Rounds.{IsFineDay, SaysRounds, IsRefusedOutput, SaysOutputPart, SaysFirstRounds, SaysNothingRead, change_stop}
+use Rattle.day_commands.specs.Outputs.{TextsOf, ProvedOf, UnprovedOf, are_dossiers}
 use Rattle.day_commands.specs.declared.ended.DayOutput.{DayOutput}
 use Rattle.day_commands.specs.declared.ended.Ended.{Ended}
 use Rattle.day_commands.specs.declared.ended.Ended.TheVariants.{Done, Unproved, Refused, ReadFault, WriteFault}
 
 -- what each end says of the input, of what its source has left, and of what was written
 abbrev pub SaysAt : DayOutput → Ended → Option (List ℕ) → List ℕ → List ℕ → Type 0
-SaysAt output Done unseen input written = SaysRounds (stops_of output) (ProvedOf output) input written
-SaysAt output Unproved unseen input written = SaysRounds (stops_of output) (UnprovedOf output) input written
-SaysAt output Refused unseen input written = IsRefusedOutput (stops_of output) (TextsOf output) input written
+SaysAt output Done unseen input written = SaysRounds change_stop (ProvedOf output) input written
+SaysAt output Unproved unseen input written = SaysRounds change_stop (UnprovedOf output) input written
+SaysAt output Refused unseen input written = IsRefusedOutput change_stop (TextsOf output) input written
 SaysAt output ReadFault unseen input written = SaysNothingRead unseen input written
-SaysAt output WriteFault unseen input written = SaysOutputPart (stops_of output) (TextsOf output) input written
+SaysAt output WriteFault unseen input written = SaysOutputPart change_stop (TextsOf output) input written
 
 -- what is written where memory is wanting
 abbrev pub SaysFirstOf : DayOutput → List ℕ → List ℕ → Type 0
-SaysFirstOf output input written = SaysFirstRounds (stops_of output) (TextsOf output) input written
+SaysFirstOf output input written = SaysFirstRounds change_stop (TextsOf output) input written
 
 -- the end of a day of which no record is refused
 abbrev pub whole_end : Bool → Ended
@@ -56,9 +56,9 @@ can_end output _ = true
 -- that what is refused is not fine, and what is whole was read to its end; and what is told of faults
 pub record ReadsDay {S K E : Type 0} (source : SourceTells S) (sink : SinkTells K) (output : DayOutput) (src later : S) (out new : K) (result : Result Ended E) : Type 0 where
   pub says : IfOk result (λ ended. OfBytes (source.left src) (sink.got out) (sink.got new) (SaysAt output ended (source.left later)))
-  pub memory : OnErr result (OfBytes (source.left src) (sink.got out) (sink.got new) (SaysFirstRounds (stops_of output) (TextsOf output)))
+  pub memory : OnErr result (OfBytes (source.left src) (sink.got out) (sink.got new) (SaysFirstRounds change_stop (TextsOf output)))
   pub ends : IfOk result (λ ended. IsTrue (can_end output ended))
-  pub refused : result ≡ Ok Refused → IfSome (source.left src) (λ input. IsFineDay (stops_of output) input → ⊥)
+  pub refused : result ≡ Ok Refused → IfSome (source.left src) (λ input. IsFineDay change_stop input → ⊥)
   pub ended : IfOk result (λ ended. IsTrue (is_whole ended) → HasEnded (source.left later))
   pub reads : TellsReads source src later (result ≡ Ok ReadFault)
   pub writes : TellsWrites sink out new (result ≡ Ok WriteFault)

@@ -15,8 +15,8 @@ use Rattle.flight_changes.specs.declared.faults.ChangeFault.TheVariants.{OutOfMe
 use Rattle.replan.specs.Rounds.{AreRoundDossiers, handed_on}
 use Rattle.replan.specs.Planning.{Planning}
 use Rattle.day_commands.specs.Instances.{rounds_text}
+use Rattle.day_commands.specs.Rounds.{change_stop}
 use Rattle.day_commands.specs.Dossiers.{IsProved, IsUnproved}
-use Rattle.day_commands.specs.Outputs.{stops_of}
 use Rattle.day_commands.specs.declared.ended.DayOutput.{DayOutput}
 use Rattle.day_commands.specs.declared.ended.DayOutput.TheVariants.{Instances, Dossiers}
 use Rattle.day_commands.specs.declared.entries.Taken.{Taken}
@@ -71,10 +71,10 @@ IsFrontFrom output handed rounds got later =
 -- the entry is taken, and what is asked for of the round that it begins was written, if it begins one; or it is not taken,
 -- and nothing was written; or it is taken, and a front of that was written
 abbrev pub IsTakenSo : DayOutput → Planning → Entry → Taken → Planning → Option (List ℕ) → Option (List ℕ) → Type 0
-IsTakenSo output s entry (Whole proved) new got later = (stops_of output s.day entry ≡ None) × (new.day ≡ after_entry s.day entry) × (new.failed ≡ None)
+IsTakenSo output s entry (Whole proved) new got later = (change_stop s.day entry ≡ None) × (new.day ≡ after_entry s.day entry) × (new.failed ≡ None)
     × ((text : List ℕ) × AreTextsFrom output s.handed (round_at s.day entry) text proved new.handed × Appended got later text)
-IsTakenSo output s entry (IsRefused fault) new got later = (stops_of output s.day entry ≡ Some fault) × (fault ≢ Change OutOfMemory) × (later ≡ got)
-IsTakenSo output s entry WriteFault new got later = (stops_of output s.day entry ≡ None) × IsFrontFrom output s.handed (round_at s.day entry) got later
+IsTakenSo output s entry (IsRefused fault) new got later = (change_stop s.day entry ≡ Some fault) × (fault ≢ Change OutOfMemory) × (later ≡ got)
+IsTakenSo output s entry WriteFault new got later = (change_stop s.day entry ≡ None) × IsFrontFrom output s.handed (round_at s.day entry) got later
 
 -- what writing the instance of a round can come to
 abbrev pub is_whole_or_write_fault : Taken → Bool

@@ -92,11 +92,10 @@ fn plan_entry<K: Sink>(
 {
     match session.entry(entry, out) {
         Ok(Done::Changed) => Ok(Taken::Whole { proved: true }),
-        Ok(Done::Round { unassigned, bound }) => Ok(Taken::Whole {
-            proved: bound == unassigned,
+        Ok(Done::Round(counts)) => Ok(Taken::Whole {
+            proved: counts.bound == counts.unassigned,
         }),
         Err(SessionFault::Change(fault)) => Ok(Taken::Refused(DayFault::Change(fault))),
-        Err(SessionFault::Later) => Ok(Taken::Refused(DayFault::Later)),
         Err(SessionFault::WriteFault) => Ok(Taken::WriteFault),
         Err(SessionFault::OutOfMemory) => Err(AllocError),
     }

@@ -18,8 +18,6 @@ pub enum DayFault {
     InItself(DayCause),
     /// A record is refused by the state that those before it come to.
     Change(ChangeFault),
-    /// It begins a round with a budget of nodes, which none is planned with yet.
-    Later,
 }
 
 /// Writes the line of a record with another number of fields than its kind has, or with a bad field.
@@ -75,6 +73,5 @@ pub fn put_refused<K: Sink>(out: &mut K, number: u64, cause: DayFault) -> Result
         DayFault::InItself(DayCause::Kind) => put_word(out, b"refused", number, b"Kind"),
         DayFault::InItself(DayCause::Field(fault)) => put_field(out, number, fault),
         DayFault::Change(fault) => put_change(out, number, fault),
-        DayFault::Later => put_word(out, b"refused", number, b"Later"),
     }
 }

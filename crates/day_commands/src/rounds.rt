@@ -3,8 +3,7 @@ ghost use Rattle.std.specs.Prelude.{◌≡◌, ◌≤◌, length, List, ℕ, Non
 ghost use Rattle.crew_terms.specs.declared.TheConstants.{LONGEST_DAY};
 ghost use Rattle.crew_io.specs.Puts.{TellsWrites};
 ghost use Rattle.day_terms.specs.Ranges.{IsInRange};
-ghost use Rattle.day_commands.specs.Outputs.{stops_of};
-ghost use Rattle.day_commands.specs.Rounds.{IsFineDay};
+ghost use Rattle.day_commands.specs.Rounds.{IsFineDay, change_stop};
 ghost use Rattle.day_commands.specs.Says.{ReadsDay, SaysAt, SaysFirstOf, is_of_text, whole_end};
 ghost use Rattle.day_commands.specs.Taken.{IsDay, Wrote, output_of, planning_of};
 ghost use Rattle.replan.specs.Planning.{no_entry_yet};
@@ -62,7 +61,7 @@ fn over_text<K: Sink>(
     requires { length text.now ≤ LONGEST_DAY }
     ensures says { IfOk result (λ ended. Wrote (K.got out.old) (K.got out.new) (SaysAt output ended None text.now)) }
     ensures memory { OnErr result (Wrote (K.got out.old) (K.got out.new) (SaysFirstOf output text.now)) }
-    ensures refused { result ≡ Ok Ended.Refused → IsFineDay (stops_of output) text.now → ⊥ }
+    ensures refused { result ≡ Ok Ended.Refused → IsFineDay change_stop text.now → ⊥ }
     ensures others { IfOk result (λ ended. IsTrue (is_of_text output ended)) }
     ensures tells { TellsWrites K.Sink out.old out.new (result ≡ Ok Ended.WriteFault) }
 {

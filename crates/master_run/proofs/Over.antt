@@ -46,6 +46,7 @@ module _ (n : Limits) (cs : List Route) (c : Route) (r : RunState) where
   at_grown at = record {
     along = record {
       known = All-weaker (λ id. id < length cs) (λ id. id < length (cs ++ c ∷ [])) (λ id below. let e = length-append cs (c ∷ []) in omega arith) r.ids at.along.known;
+      rise = at.along.rise;
       entered = at.along.entered;
       made = at.along.made;
       count = at.along.count;

@@ -1,5 +1,5 @@
 -- where pivots and a column lead a run
-use Rattle.std.proofs.Common.{◌≡◌, ◌<◌, ◌+◌, ℕ, List, [], ◌∷◌, ◌++◌, length, Option, None, sym, ap, subst, ◌∙◌, append_assoc, arith, All}
+use Rattle.std.proofs.Common.{◌≡◌, ◌≤◌, ◌<◌, ◌+◌, ℕ, suc, List, [], ◌∷◌, ◌++◌, length, Option, None, sym, ap, subst, ◌∙◌, append_assoc, arith, All}
 use Rattle.std.specs.Prelude.{MatchOption}
 use Rattle.crew_num.specs.declared.Overflow.{Overflow}
 use Rattle.crew_terms.specs.Limits.{Limits, Route}
@@ -10,7 +10,7 @@ use Rattle.search_terms.specs.Opening.{dual, places as place_list}
 use Rattle.search_terms.specs.declared.TheConstants.{VALUE}
 use Rattle.std.proofs.lemmas.List.{map-append}
 use Rattle.std.specs.Prelude.{Result, Ok, Err, OnOk}
-use Rattle.std.proofs.lemmas.List.Elements.{All-nil, All-push}
+use Rattle.std.proofs.lemmas.List.Elements.{All-head, All-nil, All-push, All-tail}
 use Rattle.frac_master.specs.Adding.{Adds, AddsOn, HaveSameDuals}
 use Rattle.frac_master.specs.Follows.{AddsAlong, FollowsList, SolvesAlong}
 use Rattle.crew_terms.specs.declared.Visit.{Visit}
@@ -20,8 +20,7 @@ use Rattle.frac_master.specs.declared.solved.Solved.TheVariants.{Overflow as Sol
 use Rattle.frac_master.specs.declared.solved.Added.{Added}
 use Rattle.frac_master.specs.declared.solved.Added.TheVariants.{Done, Overflow as AddOverflow}
 use Rattle.column_arena.specs.Columns.{column_of}
-use Rattle.master_run.specs.State.{routes_of}
-use Rattle.master_run.specs.State.{RunState}
+use Rattle.master_run.specs.State.{Rise, RunState, routes_of}
 use Rattle.master_run.specs.Along.{HaltsAfter, IsAlong, IsAtOptimum}
 use Rattle.master_run.specs.declared.halt.Halt.{Halt}
 use Rattle.master_run.specs.declared.halt.Halt.TheVariants as halts
@@ -44,6 +43,14 @@ module _ (n : Limits) (columns : List Route) (old : RunState) (new : MasterState
 
 -- ---- a column
 
+-- a greater number behind rising ones
+rise_last : (from : ℕ) (ids : List ℕ) (id : ℕ) → from ≤ id → All (λ other. other < id) ids → Rise from ids → Rise from (ids ++ id ∷ [])
+rise_last from [] id least below rise = (least, tt)
+rise_last from (other ∷ ids) id least below rise = (
+  rise.0,
+  rise_last (suc other) ids id (let b = All-head (λ o. o < id) other ids below in omega (arith, b)) (All-tail (λ o. o < id) other ids below) rise.1,
+)
+
 -- what a route makes of a master that goes on
 adds_on : (m : MasterState) (id : ℕ) (r : Route) (a : Added) (new : MasterState) → m.ended ≡ None → Adds m id r a new → AddsOn m id r a new
 adds_on m id r a new going adds =
@@ -60,11 +67,11 @@ module _ (n : Limits) (columns : List Route) (old : RunState) (new : MasterState
   is_column : route_of team visits ≡ column_of columns id
   is_column = ap (λ k. route_of k visits) is_team ∙ ap (route_of (column_of columns id).team) are_visits
 
-  pub along_taken : (a : Added) (ids : List ℕ) → id < length columns → a ≡ Done → ids ≡ old.ids ++ id ∷ []
+  pub along_taken : (a : Added) (ids : List ℕ) → id < length columns → All (λ other. other < id) old.master.columns → a ≡ Done → ids ≡ old.ids ++ id ∷ []
       → Adds old.master id (route_of team visits) a new
       → AddsAlong n (routes_of columns old.ids) at.along.made old.master (route_of team visits) a new
       → IsAlong n columns (record { master = new; ids = ids; pivots = old.pivots; left = old.left })
-  along_taken a ids known done are adds led =
+  along_taken a ids known last done are adds led =
       let all = subst (All (λ i. i < length columns)) (sym are) (All-push (λ i. i < length columns) old.ids id at.along.known known) in
       let on = adds_on old.master id (route_of team visits) Done new at.along.follows.going
       (subst (λ x. Adds old.master id (route_of team visits) x new) done adds) in
@@ -74,6 +81,7 @@ module _ (n : Limits) (columns : List Route) (old : RunState) (new : MasterState
       ap (λ r. routes_of columns old.ids ++ r ∷ []) is_column ∙ sym (map-append (column_of columns) old.ids (id ∷ [])) ∙ ap (routes_of columns) (sym are) in
       record {
         known = all;
+        rise = subst (Rise 0) (sym are) (rise_last 0 old.ids id (omega arith) (subst (All (λ other. other < id)) at.along.entered last) at.along.rise);
         entered = ap (λ (m : MasterState). m.columns) on ∙ ap (λ l. l ++ id ∷ []) at.along.entered ∙ sym are;
         made = at.along.made;
         count = at.along.count;
@@ -126,6 +134,7 @@ pub opened_along : (n : Limits) (cs : List Route) (m : MasterState) (ids : List 
     → IsAlong n cs (record { master = m; ids = ids; pivots = pivots; left = pivots })
 opened_along n cs m ids pivots none empty follows = record {
   known = subst (All (λ i. i < length cs)) (sym none) (All-nil (λ i. i < length cs));
+  rise = subst (Rise 0) (sym none) tt;
   entered = empty ∙ sym none;
   made = 0;
   count = omega arith;

@@ -1,5 +1,5 @@
 -- the shares of a run's columns
-use Rattle.std.proofs.Common.{◌≡◌, ◌≢◌, ◌==◌, ◌≤ℤ◌, ◌<ℤ◌, ℕ, suc, ℤ, pos, Bool, true, false, List, [], ◌∷◌, length, map, All, sym, ap, subst, refl, ◌∙◌, arith}
+use Rattle.std.proofs.Common.{◌≡◌, ◌≢◌, ◌≤◌, ◌==◌, ◌≤ℤ◌, ◌<ℤ◌, ℕ, suc, ℤ, pos, Bool, true, false, List, [], ◌∷◌, length, map, All, sym, ap, subst, refl, ◌∙◌, arith}
 use Rattle.std.specs.Prelude.{unsigned_abs, MatchOption, MatchResult, Result, Ok, Option, None, Err}
 use Rattle.std.proofs.lemmas.Bool.{eqb-false}
 use Rattle.std.proofs.lemmas.Int.{ints}
@@ -19,7 +19,7 @@ use Rattle.frac_master.specs.State.{MasterState}
 use Rattle.frac_master.specs.declared.shares.Share.{Share}
 use Rattle.master_run.specs.Along.{IsOver}
 use Rattle.master_run.specs.Shares.{ArePositive, fractional_of, share_of}
-use Rattle.master_run.specs.State.{RunState, routes_of}
+use Rattle.master_run.specs.State.{Rise, RunState, routes_of}
 use Rattle.master_run.proofs.Growing.{legal_are}
 
 -- what the master tells where no overflow has ended it
@@ -29,6 +29,14 @@ gives_shares n m den out left_open going gives =
     let r : Result ℤ Overflow = Ok den in
     subst (λ (o : Option Overflow). MatchOption o
     (MatchResult r (λ den. AreShares n m den out left_open) (IsCommonFault m.rows (share_places n m.rows))) (λ f. r ≡ Err f)) going gives
+
+-- the column of a share
+abbrev pub column_in : Share → ℕ
+column_in s = s.column
+
+rise_sooner : (from sooner : ℕ) (ids : List ℕ) → sooner ≤ from → Rise from ids → Rise sooner ids
+rise_sooner from sooner [] less rise = tt
+rise_sooner from sooner (id ∷ ids) less rise = let l = rise.0 in (omega arith, rise.1)
 
 -- the columns' shares are those of their routes
 module _ (x : ℕ → ℕ) (columns : List Route) where
@@ -61,6 +69,15 @@ module _ (x : ℕ → ℕ) (columns : List Route) where
           let none : x at ≢ 0 = eqb-false (x at) 0 is in
           let some : pos 0 <ℤ pos (x at) = omega (arith, ints) in
           rw is (All-cons (λ (s : Share). pos 0 <ℤ s.num) (record { column = id; num = pos (x at) }) (column_shares x (suc at) ids) some e)
+
+  shares_rise : (at from : ℕ) (ids : List ℕ) → Rise from ids → Rise from (map column_in (column_shares x at ids))
+  shares_rise at from [] rise = tt
+  shares_rise at from (id ∷ ids) rise = by (x at == 0) refl (shares_rise (suc at) (suc id) ids rise.1)
+    where
+      by : (b : Bool) → x at == 0 ≡ b → Rise (suc id) (map column_in (column_shares x (suc at) ids))
+          → Rise from (map column_in (column_shares x at (id ∷ ids)))
+      by true is e = let l = rise.0 in rw is (rise_sooner (suc id) from (map column_in (column_shares x (suc at) ids)) (omega arith) e)
+      by false is e = rw is (rise.0, e)
 
 numbers_positive : (xs : List ℕ) → All (λ z. pos 0 ≤ℤ z) (map pos xs)
 numbers_positive [] = All-nil (λ z. pos 0 ≤ℤ z)
@@ -117,3 +134,13 @@ shares_legal n columns r den out left_open over are =
           (All-get_or (IsRouteIn n) (routes_of columns r.ids) k (column_of columns d) (omega (arith, length-map r.ids (column_of columns)))
           (legal_are n columns (routes_of columns r.ids) over.legal));
     }
+
+-- the columns with shares rise
+pub solution_rises : (n : Limits) (columns : List Route) (r : RunState) (den : ℤ) (out : List Share) (left_open : List ℤ) → IsOver n columns r
+    → AreShares n r.master den out left_open → Rise 0 (map column_in out)
+solution_rises n columns r den out left_open over are =
+    subst (λ (shares : List Share). Rise 0 (map column_in shares)) (sym (are.shares ∙ ap (column_shares x (length (places n))) over.at.along.entered))
+    (shares_rise x columns (length (places n)) 0 r.ids over.at.along.rise)
+  where
+    x : ℕ → ℕ
+    x = parts_at r.master.rows (unsigned_abs den)

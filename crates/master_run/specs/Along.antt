@@ -4,13 +4,14 @@ use Rattle.crew_terms.specs.Limits.{Limits, Route}
 use Rattle.search_terms.specs.Pivot.{IsOptimal}
 use Rattle.search_terms.specs.Earned.{AreLegalOf, RunIsSpent, RunOverflows}
 use Rattle.frac_master.specs.Follows.{FollowsList}
-use Rattle.master_run.specs.State.{RunState, routes_of}
+use Rattle.master_run.specs.State.{Rise, RunState, routes_of}
 use Rattle.master_run.specs.declared.halt.Halt.{Halt}
 use Rattle.master_run.specs.declared.halt.Halt.TheVariants.{OutOfMemory, Overflow, Spent}
 
 -- the master is where the run over the columns that entered comes, after the pivots that are no longer left
 pub record IsAlong (n : Limits) (columns : List Route) (r : RunState) : Type 0 where
   pub known : All (λ id. id < length columns) r.ids
+  pub rise : Rise 0 r.ids
   pub entered : r.master.columns ≡ r.ids
   pub made : ℕ
   pub count : made + r.left ≡ r.pivots

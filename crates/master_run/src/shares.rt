@@ -1,11 +1,11 @@
 // The shares of columns at a run's optimum.
-ghost use Rattle.std.specs.Prelude.{◌≡◌, unsigned_abs, List, All, IfErr, IfOk};
+ghost use Rattle.std.specs.Prelude.{◌≡◌, unsigned_abs, List, All, IfErr, IfOk, map};
 ghost use Rattle.column_arena.specs.Legal.{IsLegalColumn};
 ghost use Rattle.crew_terms.specs.Limits.{Limits as NodeLimits, Route};
 ghost use Rattle.frac_master.specs.Shares.{IsOptimalChoice, basic_choice, parts_at};
 ghost use Rattle.master_run.specs.Along.{Halts, IsOver};
 ghost use Rattle.master_run.specs.Shares.{ArePositive, fractional_of};
-ghost use Rattle.master_run.specs.State.{routes_of};
+ghost use Rattle.master_run.specs.State.{Rise, routes_of};
 ghost use Rattle.search_terms.specs.BasicChoice.{AreWholeParts};
 
 use crate::halt::Halt;
@@ -24,12 +24,14 @@ pub struct Solution {
 }
 
 impl Run {
-    /// The optimum: shares of columns that have entered, a fractional choice of the master's value.
+    /// The optimum: shares of columns that have entered, by rising number, a fractional choice of the master's value.
     pub fn solution(&self, alloc: Global) -> Result<Solution, Halt>
         ensures positive { (n : NodeLimits) (columns : List Route) → IsOver n columns self.now →
             IfOk result (λ s. ArePositive s.den s.shares.items s.left_open.items) }
         ensures legal { (n : NodeLimits) (columns : List Route) → IsOver n columns self.now →
             IfOk result (λ s. All (λ share. IsLegalColumn n columns share.column) s.shares.items) }
+        ensures rise { (n : NodeLimits) (columns : List Route) → IsOver n columns self.now →
+            IfOk result (λ s. Rise 0 (map (λ share. share.column) s.shares.items)) }
         ensures choice { (n : NodeLimits) (columns : List Route) → IsOver n columns self.now →
             IfOk result (λ s. IsOptimalChoice n self.now.master.rows (fractional_of columns s.den s.shares.items s.left_open.items)) }
         ensures parts { (n : NodeLimits) (columns : List Route) → IsOver n columns self.now → IfOk result (λ s.

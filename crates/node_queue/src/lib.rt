@@ -1,14 +1,13 @@
-// The open nodes of a search, under keys, by age.
+// The open nodes of a search, under keys, in order of bound and age.
 #![tactic(auto)]
 
-ghost use Rattle.std.specs.Prelude.{◌≡◌, ◌≢◌, ◌<◌, ◌++◌, ◌==◌, not, [], ◌∷◌, filter, length, slice_index, All, AllPairs, Contains, IfOk, IfNone, IfSome, OnErr};
+ghost use Rattle.std.specs.Prelude.{◌≡◌, ◌≢◌, ◌<◌, ◌++◌, [], ◌∷◌, length, slice_index, AllPairs, Contains, IfOk, IfNone, IfSome, OnErr};
 ghost use Rattle.std.specs.Option.{option_map};
-ghost use Rattle.slab.specs.Slab.{ContainsKey};
-ghost use Rattle.node_queue.specs.Kept.{waits_in};
 ghost use Rattle.node_queue.specs.Waits.{IsLeast, found, keys_of, without};
 
 use slab::Slab;
 use std::alloc::{AllocError, Global};
+use std::collections::BTreeMap;
 use std::marker::Model;
 
 /// An open node that waits: its number, and the bound that its prices give.
@@ -18,12 +17,21 @@ pub struct Waiting {
     pub item: u32,
 }
 
-/// What waits, under keys, by age.
+/// What waits under a key, and how many had been put before it.
+#[derive(Clone, Copy)]
+struct Entry {
+    age: u64,
+    waiting: Waiting,
+}
+
+/// What waits, under keys, by age. Where `n` wait, `put`, `least` and `take` do some `log n` steps.
 #[derive(Drop)]
 pub struct Queue {
-    entries: Slab<Waiting>,
-    // The keys, the oldest first.
-    ages: Vec<usize>,
+    entries: Slab<Entry>,
+    // The key of each age, and of each bound with its age.
+    ages: BTreeMap<u64, usize>,
+    order: BTreeMap<(i128, u64), usize>,
+    next_age: u64,
 }
 
 impl Model for Queue {
@@ -38,34 +46,6 @@ impl Model for Queue {
     ghost invariant = { IsKept };
 }
 
-/// Takes the key out of the list.
-fn forget(ages: &mut Vec<usize>, key: usize)
-    ensures { ages.new.items ≡ filter (λ other. not (other == key)) ages.old.items }
-{
-    ages.retain(|other| *other != key);
-}
-
-/// The first of the keys of least bound.
-fn least_of(entries: &Slab<Waiting>, ages: &[usize]) -> Option<usize>
-    requires { All (ContainsKey entries.now) ages.now }
-    ensures none { IfNone result (ages.now ≡ []) }
-    ensures least { IfSome result (IsLeast (waits_in entries.now ages.now)) }
-{
-    if ages.is_empty() {
-        return None;
-    }
-    let mut least = ages[0];
-    let mut bound = entries[least].bound;
-    for n in 1..ages.len() {
-        let here = entries[ages[n]].bound;
-        if here < bound {
-            least = ages[n];
-            bound = here;
-        }
-    }
-    Some(least)
-}
-
 impl Queue {
     /// A queue in which nothing waits.
     pub fn new(alloc: Global) -> Queue
@@ -73,20 +53,31 @@ impl Queue {
     {
         Queue {
             entries: Slab::new(alloc),
-            ages: Vec::new(alloc),
+            ages: BTreeMap::new(alloc),
+            order: BTreeMap::new(alloc),
+            next_age: 0,
         }
     }
 
-    /// Lets an item wait, under a key that nothing waits under. After want of memory the queue is as before.
+    /// Lets an item wait, under a key that nothing waits under. After want of memory the queue is as before; want of ages, of
+    /// which there are some 2^64, is told as such.
     pub fn put(&mut self, bound: i128, item: u32) -> Result<usize, AllocError>
         ensures fresh { IfOk result (λ key. Contains (keys_of self.old) key → ⊥) }
         ensures last { IfOk result (λ key. self.new ≡ self.old ++ (key, record { bound = bound; item = item }) ∷ []) }
         ensures err { OnErr result (self.new ≡ self.old) }
     {
+        let age = self.next_age;
+        let next_age = age.checked_add(1).ok_or(AllocError)?;
         self.entries.reserve(1)?;
         let key = self.entries.vacant_key();
-        self.ages.push(key)?;
-        self.entries.insert_reserved(Waiting { bound, item });
+        self.order.insert((bound, age), key)?;
+        if let Err(fault) = self.ages.insert(age, key) {
+            self.order.remove(&(bound, age));
+            return Err(fault.into());
+        }
+        let waiting = Waiting { bound, item };
+        self.entries.insert_reserved(Entry { age, waiting });
+        self.next_age = next_age;
         Ok(key)
     }
 
@@ -95,7 +86,10 @@ impl Queue {
         ensures none { IfNone result (self.now ≡ []) }
         ensures least { IfSome result (IsLeast self.now) }
     {
-        least_of(&self.entries, &self.ages)
+        match self.order.first_key_value() {
+            Some((_, key)) => Some(*key),
+            None => None,
+        }
     }
 
     /// Takes what waits under the key; None exactly where nothing does.
@@ -104,8 +98,9 @@ impl Queue {
         ensures rest { self.new ≡ without self.old key }
     {
         match self.entries.try_remove(key) {
-            Some(waiting) => {
-                forget(&mut self.ages, key);
+            Some(Entry { age, waiting }) => {
+                self.ages.remove(&age);
+                self.order.remove(&(waiting.bound, age));
                 Some((waiting.bound, waiting.item))
             }
             None => None,
@@ -117,7 +112,7 @@ impl Queue {
         ensures { result ≡ option_map (λ waiting. waiting.item) (found self.now key) }
     {
         match self.entries.get(key) {
-            Some(waiting) => Some(waiting.item),
+            Some(entry) => Some(entry.waiting.item),
             None => None,
         }
     }
@@ -127,7 +122,7 @@ impl Queue {
         ensures { result ≡ option_map (λ waiting. waiting.bound) (found self.now key) }
     {
         match self.entries.get(key) {
-            Some(waiting) => Some(waiting.bound),
+            Some(entry) => Some(entry.waiting.bound),
             None => None,
         }
     }
@@ -140,11 +135,11 @@ impl Queue {
         self.ages.len()
     }
 
-    /// The n-th key by age, from 0.
+    /// The n-th key by age, from 0. It goes through the older ones.
     pub fn key(&self, n: usize) -> usize
         requires { n < length self.now }
         ensures { result ≡ slice_index (keys_of self.now) n }
     {
-        self.ages[n]
+        *self.ages.values().nth(n).unwrap()
     }
 }

@@ -1,5 +1,5 @@
 -- what a loose split shows
-use Rattle.std.specs.Prelude.{◌+◌, ◌-◌, ◌*◌, ℕ, ℤ, pos, ◌+ℤ◌, ◌*ℤ◌, ◌≤ℤ◌, List, All}
+use Rattle.std.specs.Prelude.{◌+◌, ◌-◌, ◌*◌, ℕ, ℤ, pos, ◌+ℤ◌, ◌*ℤ◌, ◌≤ℤ◌, List, All, map}
 use Rattle.column_arena.specs.Legal.{IsLegalColumn}
 use Rattle.crew_terms.specs.Leaf.{Prices, bound_of}
 use Rattle.crew_terms.specs.Limits.{Limits, Route}
@@ -9,6 +9,7 @@ use Rattle.label_pricing.specs.Worths.{AreWorths}
 use Rattle.rounding_laws.specs.declared.TheConstants.{MOST_LOSS}
 use Rattle.search_terms.specs.Shares.{FractionalChoice, IsFractional, IsLoose, choice_value}
 use Rattle.master_run.specs.Shares.{ArePositive, fractional_of}
+use Rattle.master_run.specs.State.{Rise}
 use Rattle.node_solver.specs.declared.step.NodeEnd.{NodeEnd}
 use Rattle.node_solver.specs.declared.step.NodeEnd.TheVariants.{Closed, Split}
 use Rattle.node_solver.specs.declared.step.Why.TheVariants.{Loose, Overflow, Spent}
@@ -29,10 +30,11 @@ IsShown n now columns (Split choice (Loose den shares left_open) prices) = IsSho
 IsShown n now columns (Split choice (Overflow fault) prices) = Unit {0}
 IsShown n now columns (Split choice Spent prices) = Unit {0}
 
--- the shares are of columns that are routes in the node, and none is negative
+-- the shares are of columns that are routes in the node, by rising number, and none is negative
 pub record AreHeld (n : Limits) (columns : List Route) (den : ℤ) (shares : List Share) (left_open : List ℤ) : Type 0 where
   pub legal : All (λ (s : Share). IsLegalColumn n columns s.column) shares
   pub positive : ArePositive den shares left_open
+  pub rise : Rise 0 (map (λ (s : Share). s.column) shares)
 
 -- a split that is called loose has such shares
 abbrev pub HasHeld : Limits → List Route → NodeEnd → Type 0

@@ -10,8 +10,12 @@ use plan_builder::from_uses;
 use plan_search::{Effort, better};
 use std::alloc::{AllocError, Global};
 
-// So many iterations better a plan that uses suggest.
-const ITERATIONS: u32 = 1_000;
+/// So little search betters a plan that uses suggest.
+pub(crate) const SHORT: Effort<'static> = Effort {
+    iterations: 1_000,
+    enough: 0,
+    weights: None,
+};
 
 /// The plan that a step has found, if it is better than the search's, and how many tasks the best one leaves unassigned.
 #[derive(Drop)]
@@ -44,22 +48,26 @@ impl BestPlan {
         }
     }
 
-    /// Keeps the plan that the uses suggest, once it is bettered a little, where it is better.
+    /// The best plan, where the search's is this one.
+    pub(crate) fn or<'a>(&'a self, plan: &'a Plan) -> &'a Plan {
+        match &self.plan {
+            Some(better) => better,
+            None => plan,
+        }
+    }
+
+    /// Keeps the plan that the uses suggest, once it is bettered by a search, where it is better.
     pub(crate) fn try_uses(
         &mut self,
         alloc: Global,
         instance: &Instance,
         uses: &[Use],
+        effort: Effort<'_>,
     ) -> Result<(), AllocError>
         ensures best { (best : ℕ) → IsBestOf instance.now best self.old → IsBestOf instance.now best self.new }
         ensures fewer { self.new.unassigned ≤ self.old.unassigned }
     {
         let plan = from_uses(alloc, instance, uses)?;
-        let effort = Effort {
-            iterations: ITERATIONS,
-            enough: 0,
-            weights: None,
-        };
         self.offer(better(alloc, instance, &plan, effort)?);
         Ok(())
     }

@@ -1,11 +1,15 @@
 // How much work a node may cost.
+use column_scout::Effort as ScoutEffort;
 use price_ascent::Effort as AscentEffort;
 
-/// How much work a node may cost: so many pivots of its master's run, that work of the ascent, and so many of the routes
-/// of the ascent's last rounds as columns.
+/// How much work a node may cost: that work of an ascent of its prices; where that doesn't close the node, so many iterations
+/// of a search for a better plan, and that work of another ascent; then that work of a scout of columns, and so many pivots of
+/// the master's run.
 #[derive(Clone, Copy, Debug)]
 pub struct Effort {
-    pub pivots: u32,
     pub ascent: AscentEffort,
-    pub columns: u32,
+    pub iterations: u32,
+    pub again: AscentEffort,
+    pub scout: ScoutEffort,
+    pub pivots: u32,
 }

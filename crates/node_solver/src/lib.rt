@@ -7,6 +7,7 @@ mod earnings;
 mod effort;
 mod improving;
 mod master;
+mod rising;
 mod rounds;
 mod seeds;
 mod solver;
@@ -14,6 +15,7 @@ mod step;
 mod uses;
 
 pub use branch_choice::Choice;
+pub use column_scout::Effort as ScoutEffort;
 pub use crew_instance::Plan;
 pub use crew_num::Overflow;
 pub use effort::Effort;

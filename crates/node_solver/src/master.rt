@@ -12,7 +12,7 @@ ghost use Rattle.node_solver.specs.Plans.{IsBestOf};
 ghost use Rattle.node_solver.specs.Settled.{IsSettled};
 ghost use Rattle.node_solver.specs.Steps.{Ends, KeepsProved, prices_of};
 
-use crate::best_plan::BestPlan;
+use crate::best_plan::{BestPlan, SHORT};
 use crate::rounds::{Answer, rounds};
 use crate::step::{NodeEnd, Parts, Shares, Why};
 use crate::uses::uses_of;
@@ -58,7 +58,7 @@ fn end_loose<C: Columns>(
     unproved_shares_are_loose();
     let solution = run.solution(alloc)?;
     let uses = uses_of(alloc, columns, &solution.shares)?;
-    best.try_uses(alloc, limits.instance(), &uses)?;
+    best.try_uses(alloc, limits.instance(), &uses, SHORT)?;
     if answer.proved >= best.unassigned {
         return Ok(NodeEnd::Closed(answer.prices));
     }

@@ -1,51 +1,84 @@
-// Routes of an ascent as columns.
-ghost use Rattle.std.specs.Prelude.{◌≤◌, All};
-ghost use Rattle.price_ascent.specs.Found.{IsFound};
-ghost use Rattle.search_terms.specs.Search.{Extends};
+// Few routes of the node as columns, which a scout finds.
+ghost use Rattle.std.specs.Prelude.{All, IfOk};
+ghost use Rattle.crew_terms.specs.Leaf.{IsOnRequired};
+ghost use Rattle.potentials.specs.Prices.{ArePricesOf};
+ghost use Rattle.search_terms.specs.Proven.{IsProvedCount, ProveAsMuch};
+ghost use Rattle.search_terms.specs.Search.{Extends, IsColumn};
 
 use column_arena::Columns;
+use column_scout::{Effort, Leads, Route, scout};
+use crew_instance::Plan;
 use node_limits::Limits;
-use price_ascent::FoundRoute;
-use std::alloc::AllocError;
-use std::collections::VecDeque;
+use potentials::Prices;
+use price_ascent::Ascended;
+use std::alloc::{AllocError, Global};
 
-// Adds the route, if it has visits; whether the columns have grown by it.
+/// The best prices before the master's run, and the greatest number of tasks that they prove unassigned.
+#[derive(Drop)]
+pub(crate) struct Known {
+    pub(crate) prices: Prices,
+    pub(crate) proved: u32,
+}
+
+// Adds the route, if no column equals it.
+#[tactic(auto, using(crate::proofs::Growing::extends_added))]
 fn add_route<C: Columns>(
     limits: &Limits<'_>,
     columns: &mut C,
-    route: &FoundRoute,
-) -> Result<bool, AllocError>
-    requires { IsFound limits.now.limits route.now }
+    route: &Route<'static>,
+) -> Result<(), AllocError>
+    requires { IsColumn limits.now.limits route.now }
     ensures { Extends limits.now.limits (C.columns columns.old) (C.columns columns.new) }
 {
     // No instance has more teams and tasks than columns can name.
     let _ = limits.instance();
-    if route.visits.is_empty() {
-        return Ok(false);
-    }
-    let held = columns.len();
-    let id = columns.add(route.team, &route.visits)?;
-    Ok(id >= held)
+    columns.add(route.team(), route.visits())?;
+    Ok(())
 }
 
-/// Adds routes to the columns, the last one first, until so many are added that no column equalled.
-pub(crate) fn add_routes<C: Columns>(
+// Adds routes to the columns, in their order.
+fn add_routes<C: Columns>(
     limits: &Limits<'_>,
     columns: &mut C,
-    routes: &VecDeque<FoundRoute>,
-    most: u32,
+    routes: &[Route<'static>],
 ) -> Result<(), AllocError>
-    requires { All (IsFound limits.now.limits) routes.now.items }
+    requires { All (IsColumn limits.now.limits) routes.now }
     ensures { Extends limits.now.limits (C.columns columns.old) (C.columns columns.new) }
 {
-    let mut left = most;
-    for n in (0..routes.len()).rev() {
-        if left == 0 {
-            break;
-        }
-        if add_route(limits, columns, &routes[n])? {
-            left -= 1;
-        }
+    for route in routes {
+        add_route(limits, columns, route)?;
     }
     Ok(())
+}
+
+/// The prices that a scout comes back with, which goes out from an ascent and the best plan; the routes that it hands over are
+/// added to the columns. There are none where the prices prove `now`.
+pub(crate) fn add_scouted<C: Columns>(
+    alloc: Global,
+    limits: &Limits<'_>,
+    found: Ascended,
+    plan: &Plan,
+    now: u32,
+    columns: &mut C,
+    effort: Effort,
+) -> Result<Known, AllocError>
+    requires prices { ArePricesOf limits.now.limits found.prices }
+    requires required { IsOnRequired limits.now.limits found.prices }
+    ensures count { IfOk result (λ k. IsProvedCount limits.now.limits k.prices k.proved) }
+    ensures shape { IfOk result (λ k. ArePricesOf limits.now.limits k.prices) }
+    ensures required { IfOk result (λ k. IsOnRequired limits.now.limits k.prices) }
+    ensures as_much { IfOk result (λ k. ProveAsMuch limits.now.limits k.prices found.prices) }
+    ensures extends { Extends limits.now.limits (C.columns columns.old) (C.columns columns.new) }
+{
+    let Ascended { prices, routes, .. } = found;
+    let leads = Leads {
+        routes: &routes,
+        plan: Some(plan),
+    };
+    let scouted = scout(alloc, limits, columns, leads, prices, now, effort)?;
+    add_routes(limits, columns, &scouted.routes)?;
+    Ok(Known {
+        prices: scouted.prices,
+        proved: scouted.proved,
+    })
 }

@@ -7,13 +7,15 @@ ghost use Rattle.potentials.specs.Prices.{ArePricesOf};
 ghost use Rattle.search_terms.specs.Inside.{IsNode};
 
 use column_arena::{Columns, VecColumns};
-use crew_instance::{Instance, unassigned};
+use crew_instance::{Instance, Plan, unassigned};
 use crew_terms::Choice;
 use label_pricing::Pricer;
 use node_limits::Limits;
-use node_solver::{AscentEffort, Effort, NodeEnd, Prices, Step, Why, process};
+use node_solver::{AscentEffort, Effort, NodeEnd, Prices, ScoutEffort, Step, Why, process};
+use plan_builder::greedy;
 use search_laws::search_nodes;
 use std::alloc::{AllocError, Global};
+use std::process::Abort;
 
 /// How a step ends its node: how many tasks its prices prove unassigned, or by which choice it splits the node, and why.
 #[derive(Clone, Copy, Debug, PartialEq, Eq)]
@@ -31,30 +33,61 @@ pub struct Outcome {
     pub ended: Ended,
 }
 
-/// So many pivots, and no round of an ascent.
+const NO_ROUNDS: AscentEffort = AscentEffort {
+    rounds: 0,
+    step: 256,
+    looks: u64::MAX,
+};
+
+const NO_SCOUT: ScoutEffort = ScoutEffort {
+    pivots: 0,
+    rounds: 0,
+    routes: 0,
+};
+
+/// So many pivots, no round of an ascent, and no scout.
 pub fn pivots_alone(pivots: u32) -> Effort {
     Effort {
+        ascent: NO_ROUNDS,
+        iterations: 0,
+        again: NO_ROUNDS,
+        scout: NO_SCOUT,
         pivots,
-        ascent: AscentEffort {
-            rounds: 0,
-            step: 256,
-            looks: u64::MAX,
-        },
-        columns: 0,
     }
 }
 
 /// An ascent of 500 rounds, and no pivot.
 pub fn ascent_alone() -> Effort {
     Effort {
-        pivots: 0,
         ascent: AscentEffort {
             rounds: 500,
-            step: 256,
-            looks: u64::MAX,
+            ..NO_ROUNDS
         },
-        columns: 0,
+        ..pivots_alone(0)
     }
+}
+
+/// A scout that hands over so many routes at most, and so many pivots of the master.
+pub fn scout_alone(routes: u32, pivots: u32) -> Effort {
+    Effort {
+        scout: ScoutEffort {
+            pivots: 1_000,
+            rounds: 100,
+            routes,
+        },
+        ..pivots_alone(pivots)
+    }
+}
+
+/// Greedy's plan without its last jobs, so that it leaves so many tasks unassigned, or as many as greedy does.
+pub fn plan_leaving(alloc: Global, day: &Instance, most: u32) -> Result<Plan, AllocError> {
+    let mut plan = greedy(alloc, day)?;
+    for i in (0..day.tasks() as u32).rev() {
+        if unassigned(&plan) < most && (i as usize) < plan.len() {
+            plan.clear(i);
+        }
+    }
+    Ok(plan)
 }
 
 /// The root of a search.
@@ -66,11 +99,12 @@ pub fn root_of(alloc: Global, day: &Instance) -> Result<Limits<'_>, AllocError>
     Limits::root(alloc, day)
 }
 
-/// A step from prices that are all 0, while the best plan leaves `best` tasks unassigned; of all tasks where these are fewer.
+/// A step from prices that are all 0, from this plan.
 pub fn step_of<C: Columns>(
+    rt: &impl Abort,
     alloc: Global,
     limits: &Limits<'_>,
-    best: u32,
+    best: &Plan,
     columns: &mut C,
     effort: &Effort,
 ) -> Result<Step, AllocError>
@@ -78,9 +112,9 @@ pub fn step_of<C: Columns>(
     ensures shape { IfOk result (λ s. ArePricesOf limits.now.limits (prices_of s.end)) }
     ensures required { IfOk result (λ s. IsOnRequired limits.now.limits (prices_of s.end)) }
 {
+    assert!(rt; unassigned(best) as usize <= limits.instance().tasks());
     let start = Prices::zero(alloc, limits)?;
-    let most = limits.instance().tasks() as u32;
-    process(alloc, limits, start, best.min(most), columns, effort)
+    process(alloc, limits, start, best, columns, effort)
 }
 
 /// How many tasks the prices prove unassigned in the node.
@@ -112,8 +146,9 @@ pub fn outcome_of(alloc: Global, limits: &Limits<'_>, step: &Step) -> Result<Out
     Ok(Outcome { unassigned, ended })
 }
 
-/// What a step without columns comes to, from prices that are all 0.
+/// What a step without columns comes to, from prices that are all 0 and a plan that leaves so many tasks unassigned.
 pub fn outcome_at(
+    rt: &impl Abort,
     alloc: Global,
     limits: &Limits<'_>,
     best: u32,
@@ -121,7 +156,8 @@ pub fn outcome_at(
 ) -> Result<Outcome, AllocError>
     requires { IsNode limits.now.limits }
 {
+    let best = plan_leaving(alloc, limits.instance(), best)?;
     let mut columns = VecColumns::new(alloc);
-    let step = step_of(alloc, limits, best, &mut columns, effort)?;
+    let step = step_of(rt, alloc, limits, &best, &mut columns, effort)?;
     outcome_of(alloc, limits, &step)
 }

@@ -3,7 +3,8 @@ ghost use Rattle.std.specs.Prelude.{◌≢◌, IfOk};
 ghost use Rattle.search_terms.specs.Inside.{IsNode};
 
 use crate::asked::{
-    Ended, Outcome, ascent_alone, outcome_at, outcome_of, pivots_alone, root_of, step_of,
+    Ended, Outcome, ascent_alone, outcome_at, outcome_of, pivots_alone, plan_leaving, root_of,
+    scout_alone, step_of,
 };
 use crate::asserts::same;
 use crate::days::{crowded_hours, there_and_back};
@@ -28,7 +29,7 @@ fn comes_to(
     wanted: &Outcome,
 ) -> Result<(), Fail> {
     let limits = root_of(alloc, day)?;
-    same(rt, &outcome_at(alloc, &limits, best, effort)?, wanted);
+    same(rt, &outcome_at(rt, alloc, &limits, best, effort)?, wanted);
     Ok(())
 }
 
@@ -42,19 +43,26 @@ fn closed(proved: u32) -> Outcome {
 
 /// The task of both teams is begun at one minute by the one and at another by the other. Each has one route, which is taken
 /// whole: nothing is left of the task, and the prices prove nothing. The cut is halfway between the two minutes.
-#[test]
-fn two_whole_routes_split_the_root(rt: HostRuntime) -> Result<(), Fail> {
-    let day = hardly_overlapping(rt.alloc(), 480)?;
-    let limits = root_of(rt.alloc(), &day)?;
-    let mut columns = VecColumns::new(rt.alloc());
-    let step = step_of(rt.alloc(), &limits, 1, &mut columns, &pivots_alone(20_000))?;
+fn splits_by_two_routes(rt: &impl Abort, alloc: Global, effort: &Effort) -> Result<(), Fail> {
+    let day = hardly_overlapping(alloc, 480)?;
+    let limits = root_of(alloc, &day)?;
+    let best = plan_leaving(alloc, &day, 1)?;
+    let mut columns = VecColumns::new(alloc);
+    let step = step_of(rt, alloc, &limits, &best, &mut columns, effort)?;
     let wanted = Outcome {
         unassigned: None,
         ended: Ended::Loose(Choice::Window { task: 0, cut: 435 }),
     };
-    same(&rt, &outcome_of(rt.alloc(), &limits, &step)?, &wanted);
-    same(&rt, &columns.len(), &2);
-    shares_both(&rt, &step.end)
+    same(rt, &outcome_of(alloc, &limits, &step)?, &wanted);
+    same(rt, &columns.len(), &2);
+    shares_both(rt, &step.end)
+}
+
+/// The rounds of the master find both routes, and so does a scout.
+#[test]
+fn two_whole_routes_split_the_root(rt: HostRuntime) -> Result<(), Fail> {
+    splits_by_two_routes(&rt, rt.alloc(), &pivots_alone(20_000))?;
+    splits_by_two_routes(&rt, rt.alloc(), &scout_alone(10, 20_000))
 }
 
 /// The split is loose by two whole routes, and leaves no part of its task unassigned.
@@ -87,12 +95,14 @@ fn no_pivots_are_spent(rt: HostRuntime) -> Result<(), Fail> {
     comes_to(&rt, rt.alloc(), &day, 1, &pivots_alone(0), &wanted)
 }
 
-/// In each hour one of four tasks is too many for three teams: the master's prices show it, and so do those of an ascent.
+/// In each hour one of four tasks is too many for three teams: the master's prices show it, and so do those of an ascent, and
+/// those of a scout.
 #[test]
 fn three_of_twelve_stay_unassigned(rt: HostRuntime) -> Result<(), Fail> {
     let day = crowded_hours(rt.alloc())?;
     comes_to(&rt, rt.alloc(), &day, 3, &pivots_alone(20_000), &closed(3))?;
-    comes_to(&rt, rt.alloc(), &day, 3, &ascent_alone(), &closed(3))
+    comes_to(&rt, rt.alloc(), &day, 3, &ascent_alone(), &closed(3))?;
+    comes_to(&rt, rt.alloc(), &day, 3, &scout_alone(0, 0), &closed(3))
 }
 
 /// A route from the first task to the second and back serves both of the teams that the first one needs, so that no prices
@@ -101,7 +111,7 @@ fn three_of_twelve_stay_unassigned(rt: HostRuntime) -> Result<(), Fail> {
 fn a_route_there_and_back_splits_the_root(rt: HostRuntime) -> Result<(), Fail> {
     let day = there_and_back(rt.alloc())?;
     let limits = root_of(rt.alloc(), &day)?;
-    let told = outcome_at(rt.alloc(), &limits, 1, &pivots_alone(20_000))?;
+    let told = outcome_at(&rt, rt.alloc(), &limits, 1, &pivots_alone(20_000))?;
     same(&rt, &told.unassigned, &None);
     assert!(rt;
         matches!(told.ended, Ended::Loose(Choice::Window { task: 0, .. })),
@@ -158,10 +168,10 @@ fn decided<'i>(rt: &impl Abort, alloc: Global, day: &'i Instance) -> Result<Limi
 fn a_decided_node_has_one_plan(rt: HostRuntime) -> Result<(), Fail> {
     let day = two_at_once(rt.alloc())?;
     let limits = decided(&rt, rt.alloc(), &day)?;
-    let told = outcome_at(rt.alloc(), &limits, 2, &pivots_alone(20_000))?;
+    let told = outcome_at(&rt, rt.alloc(), &limits, 2, &pivots_alone(20_000))?;
     same(&rt, &told.unassigned, &Some(1));
     same(&rt, &told.ended, &Ended::Closed(1));
-    let again = outcome_at(rt.alloc(), &limits, 1, &pivots_alone(20_000))?;
+    let again = outcome_at(&rt, rt.alloc(), &limits, 1, &pivots_alone(20_000))?;
     same(&rt, &again, &closed(1));
     Ok(())
 }

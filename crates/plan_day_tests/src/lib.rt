@@ -8,3 +8,5 @@ mod answers;
 mod days;
 #[cfg(test)]
 mod faults;
+#[cfg(test)]
+mod rounds;

@@ -1,3 +1,5 @@
-pub mod Zero
-pub mod Leaf
+pub mod Trees
+pub mod Pools
+pub mod Dossiers
+pub mod Numbers
 pub mod Steps

@@ -1,5 +1,5 @@
 -- what an entry comes to in a session
-use Rattle.std.proofs.Common.{◌≡◌, ◌≤◌, ◌∷◌, [], ℕ, List, Option, None, Some, Result, Ok, Err, ap, subst, sym, refl, ◌∙◌, arith}
+use Rattle.std.proofs.Common.{◌≡◌, ◌∷◌, [], ℕ, List, Option, None, Some, Result, Ok, Err, ap, subst, sym, refl, ◌∙◌}
 use Rattle.std.specs.Prelude.{IfErr}
 use Rattle.crew_terms.specs.Instance.{Instance}
 use Rattle.route_terms.specs.Named.{NamedRoute}
@@ -11,11 +11,11 @@ use Rattle.day_terms.specs.Rounds.{day_instance, round_at}
 use Rattle.flight_changes.specs.Faults.{fault_of}
 use Rattle.flight_changes.specs.declared.faults.ChangeFault.{ChangeFault}
 use Rattle.flight_changes.specs.declared.faults.ChangeFault.TheVariants as changes
-use Rattle.replan.specs.Rounds.{IsRoundDossier}
-use Rattle.replan.specs.Planning.{Planning, IsEntered, IsLater, IsRoundPut, failure_of, refusal_told}
+use Rattle.replan.specs.Planning.{Planning, IsEntered, IsRoundPut, failure_of, refusal_told}
 use Rattle.replan.specs.declared.faults.Failure.{Failure}
 use Rattle.replan.specs.declared.faults.SessionFault.{SessionFault}
-use Rattle.replan.specs.declared.faults.SessionFault.TheVariants.{Change, WriteFault, OutOfMemory, Later}
+use Rattle.replan.specs.declared.faults.SessionFault.TheVariants.{Change, WriteFault, OutOfMemory}
+use Rattle.replan.specs.declared.round.Planned.{Planned}
 use Rattle.replan.specs.declared.session.Done.{Done}
 use Rattle.replan.specs.declared.session.Done.TheVariants.{Changed, Round as HasRound}
 
@@ -39,77 +39,70 @@ told_as_change BadTeams = refl
 told_as_change (MissingTravel from to) = refl
 
 -- the session after an answer, but for the failure
-abbrev pub with_day : DayState → Result Done SessionFault → Planning
-with_day day result = record { day = day; handed = []; failed = failure_of result }
+abbrev pub with_day : DayState → List NamedRoute → Result Done SessionFault → Planning
+with_day day handed result = record { day = day; handed = handed; failed = failure_of result }
 
-module _ (s : Planning) (entry : Entry) (day : DayState) (got later : Option (List ℕ)) (open_yet : s.failed ≡ None) (handed : [] ≡ s.handed) where
+module _ (s : Planning) (entry : Entry) (day : DayState) (got later : Option (List ℕ)) (open_yet : s.failed ≡ None) where
   -- the state refuses the entry, or memory was wanting
   pub refusal_entered : {X : Type 0} (r : Result X ChangeFault) (fault : ChangeFault) → ((t : Refusal) → refusal_of s.day entry ≡ Some t → r ≡ Err (fault_of t))
       → (refusal_of s.day entry ≡ None → IfErr r (λ f. f ≡ changes.OutOfMemory)) → r ≡ Err fault → day ≡ s.day
-      → IsEntered s entry (Err (refusal_told fault)) (with_day day (Err (refusal_told fault))) got got
+      → IsEntered s entry (Err (refusal_told fault)) (with_day day s.handed (Err (refusal_told fault))) got got
   refusal_entered r fault refused accepted is same = by (refusal_of s.day entry) refl
     where
-      by : (told : Option Refusal) → refusal_of s.day entry ≡ told → IsEntered s entry (Err (refusal_told fault)) (with_day day (Err (refusal_told fault))) got got
+      by : (told : Option Refusal) → refusal_of s.day entry ≡ told → IsEntered s entry (Err (refusal_told fault)) (with_day day s.handed (Err (refusal_told fault))) got got
       by None e =
           let want : fault ≡ changes.OutOfMemory = subst (λ x. IfErr x (λ f. f ≡ changes.OutOfMemory)) is (accepted e) in
-          subst (λ f. IsEntered s entry (Err (refusal_told f)) (with_day day (Err (refusal_told f))) got got) (sym want)
-          (e, planning_is (record s { failed = failure_of (Err OutOfMemory) }) day [] _ same handed refl, refl)
+          subst (λ f. IsEntered s entry (Err (refusal_told f)) (with_day day s.handed (Err (refusal_told f))) got got) (sym want)
+          (e, planning_is (record s { failed = failure_of (Err OutOfMemory) }) day s.handed _ same refl refl, refl)
       by (Some t) e =
           let known : fault ≡ fault_of t = (let f = sym is ∙ refused t e in cc) in
           let told : refusal_told fault ≡ Change (fault_of t) = ap refusal_told known ∙ told_as_change t in
-          subst (λ f. IsEntered s entry (Err f) (with_day day (Err f)) got got) (sym told)
-          ((t, e, refl), planning_is s day [] None same handed (sym open_yet), refl)
+          subst (λ f. IsEntered s entry (Err f) (with_day day s.handed (Err f)) got got) (sym told)
+          ((t, e, refl), planning_is s day s.handed None same refl (sym open_yet), refl)
 
   -- it changes the state
-  pub changed_entered : refusal_of s.day entry ≡ None → round_at s.day entry ≡ [] → day ≡ after_entry s.day entry → IsEntered s entry (Ok Changed) (with_day day (Ok Changed)) got got
-  changed_entered none round same = (none, round, planning_is (record s { day = after_entry s.day entry }) day [] None same handed (sym open_yet), refl)
+  pub changed_entered : refusal_of s.day entry ≡ None → round_at s.day entry ≡ [] → day ≡ after_entry s.day entry
+      → IsEntered s entry (Ok Changed) (with_day day s.handed (Ok Changed)) got got
+  changed_entered none round same = (none, round, planning_is (record s { day = after_entry s.day entry }) day s.handed None same refl (sym open_yet), refl)
 
   -- it begins a round
   module _ (nodes : ℕ) (is : entry ≡ Plan nodes) (none : refusal_of s.day entry ≡ None) (same : day ≡ after_entry s.day entry) where
     state_stays : day ≡ s.day
     state_stays = same ∙ ap (after_entry s.day) is
 
-    pub later_entered : 1 ≤ nodes → IsEntered s entry (Err Later) (with_day day (Err Later)) got got
-    later_entered some = (none, (nodes, is, some), planning_is s day [] None state_stays handed (sym open_yet), refl)
-
-    pub want_entered : IsEntered s entry (Err OutOfMemory) (with_day day (Err OutOfMemory)) got got
-    want_entered = (none, planning_is (record s { failed = failure_of (Err OutOfMemory) }) day [] _ state_stays handed refl, refl)
-
-    not_later : nodes ≡ 0 → IsLater entry → ⊥
-    not_later zero l =
-        let e : Plan nodes ≡ Plan l.0 = sym is ∙ l.1 in
-        let n : nodes ≡ l.0 = cc in
-        let some = l.2 in
-        absurd (omega (arith, n, zero, some))
+    pub want_entered : IsEntered s entry (Err OutOfMemory) (with_day day s.handed (Err OutOfMemory)) got got
+    want_entered = (none, planning_is (record s { failed = failure_of (Err OutOfMemory) }) day s.handed _ state_stays refl refl, refl)
 
     at_round : (instance : Instance) → instance ≡ day_instance day → round_at s.day entry ≡ record { instance = instance; nodes = nodes } ∷ []
     at_round instance i = ap (round_at s.day) is ∙ ap (λ x. record { instance = x; nodes = nodes } ∷ []) (sym (i ∙ ap day_instance state_stays))
 
-    pub round_entered : (instance : Instance) (result : Result Done SessionFault) → nodes ≡ 0 → instance ≡ day_instance day → IsRoundPut [] (record { instance = instance; nodes = nodes }) result got later
-        → IsEntered s entry result (with_day day result) got later
-    round_entered instance (Ok Changed) zero i put = absurd put
-    round_entered instance (Ok (HasRound unassigned bound)) zero i put = (
+    -- and a dossier of it was written
+    pub round_entered : (instance : Instance) (planned : Planned) → instance ≡ day_instance day
+        → IsRoundPut s.handed (record { instance = instance; nodes = nodes }) (Ok planned) got later
+        → IsEntered s entry (Ok (HasRound planned.counts)) (with_day day planned.carry (Ok (HasRound planned.counts))) got later
+    round_entered instance planned i put = (
       none,
       (
         put.0,
-        record { round = record { instance = instance; nodes = nodes }; begins = at_round instance i; dossier = subst (λ h. IsRoundDossier h (record { instance = instance; nodes = nodes }) put.0) handed put.1 },
+        record { round = record { instance = instance; nodes = nodes }; begins = at_round instance i; dossier = put.1 },
         put.2,
-        put.3,
-        planning_is (record s { handed = _ }) day [] None state_stays (sym put.4) (sym open_yet),
-        put.5,
+        planning_is (record s { handed = _ }) day planned.carry None state_stays put.3 (sym open_yet),
+        put.4,
       ),
-      not_later zero,
     )
-    round_entered instance (Err (Change fault)) zero i put = absurd put
-    round_entered instance (Err Later) zero i put = absurd put
-    round_entered instance (Err WriteFault) zero i put = (
+
+    -- or it was not
+    pub fault_entered : (instance : Instance) (fault : SessionFault) → instance ≡ day_instance day
+        → IsRoundPut s.handed (record { instance = instance; nodes = nodes }) (Err fault) got later
+        → IsEntered s entry (Err fault) (with_day day s.handed (Err fault)) got later
+    fault_entered instance (Change fault) i put = absurd put
+    fault_entered instance WriteFault i put = (
       none,
-      planning_is (record s { failed = failure_of (Err WriteFault) }) day [] _ state_stays handed refl,
+      planning_is (record s { failed = failure_of (Err WriteFault) }) day s.handed _ state_stays refl refl,
       (
         put.0,
-        record { round = record { instance = instance; nodes = nodes }; begins = at_round instance i; dossier = subst (λ h. IsRoundDossier h (record { instance = instance; nodes = nodes }) put.0) handed put.1 },
+        record { round = record { instance = instance; nodes = nodes }; begins = at_round instance i; dossier = put.1 },
         put.2,
       ),
-      not_later zero,
     )
-    round_entered instance (Err OutOfMemory) zero i put = (none, planning_is (record s { failed = failure_of (Err OutOfMemory) }) day [] _ state_stays handed refl, put)
+    fault_entered instance OutOfMemory i put = (none, planning_is (record s { failed = failure_of (Err OutOfMemory) }) day s.handed _ state_stays refl refl, put)

@@ -1,5 +1,6 @@
 pub mod Rounds
+pub mod Counts
+pub mod Given
 pub mod Planning
 pub mod Kept
-pub mod Untaken
 pub mod Entries

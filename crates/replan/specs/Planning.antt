@@ -1,23 +1,25 @@
 -- what a session keeps, and what an entry comes to
-use Rattle.std.specs.Prelude.{◌≡◌, ◌≤◌, ℕ, List, [], ◌∷◌, Option, None, Some, Result, Ok, Err}
+use Rattle.std.specs.Prelude.{◌≡◌, ℕ, List, [], ◌∷◌, Option, None, Some, Result, Ok, Err}
 use Rattle.crew_io.specs.Io.{Appended, AppendedPart}
-use Rattle.crew_terms.specs.Plan.{unassigned_count}
 use Rattle.dossier_terms.specs.Dossier.{Dossier}
 use Rattle.dossier_terms.specs.Lines.{text_of}
 use Rattle.route_terms.specs.Named.{NamedRoute}
 use Rattle.day_terms.specs.declared.Entry.{Entry}
-use Rattle.day_terms.specs.declared.Entry.TheVariants.{Plan}
 use Rattle.day_terms.specs.State.{DayState, start, after_entry}
 use Rattle.day_terms.specs.Refusal.{Refusal, refusal_of}
 use Rattle.day_terms.specs.Rounds.{Round, round_at}
+use Rattle.cert_write.specs.declared.faults.PutFault.{PutFault}
+use Rattle.cert_write.specs.declared.faults.PutFault.TheVariants as puts
 use Rattle.flight_changes.specs.Faults.{fault_of}
 use Rattle.flight_changes.specs.declared.faults.ChangeFault.{ChangeFault}
 use Rattle.flight_changes.specs.declared.faults.ChangeFault.TheVariants as changes
+use Rattle.replan.specs.Counts.{counts_of}
 use Rattle.replan.specs.Rounds.{IsRoundDossier, handed_on}
 use Rattle.replan.specs.declared.faults.Failure.{Failure}
 use Rattle.replan.specs.declared.faults.Failure.TheVariants as failures
 use Rattle.replan.specs.declared.faults.SessionFault.{SessionFault}
-use Rattle.replan.specs.declared.faults.SessionFault.TheVariants.{Change, WriteFault, OutOfMemory, Later}
+use Rattle.replan.specs.declared.faults.SessionFault.TheVariants.{Change, WriteFault, OutOfMemory}
+use Rattle.replan.specs.declared.round.Planned.{Planned}
 use Rattle.replan.specs.declared.session.Done.{Done}
 use Rattle.replan.specs.declared.session.Done.TheVariants.{Changed, Round as HasRound}
 
@@ -41,9 +43,10 @@ abbrev pub refusal_told : ChangeFault → SessionFault
 refusal_told changes.OutOfMemory = OutOfMemory
 refusal_told fault = Change fault
 
--- the entry begins a round with a budget of nodes
-abbrev pub IsLater : Entry → Type 0
-IsLater entry = (nodes : ℕ) × (entry ≡ Plan nodes) × (1 ≤ nodes)
+-- the fault that is told where a dossier is not written
+abbrev pub fault_of_put : PutFault → SessionFault
+fault_of_put puts.WriteFault = WriteFault
+fault_of_put puts.OutOfMemory = OutOfMemory
 
 -- the entry begins a round, and this is a dossier of it
 pub record IsDossierAt (s : Planning) (entry : Entry) (d : Dossier) : Type 0 where
@@ -56,20 +59,18 @@ abbrev pub IsFrontAt : Planning → Entry → Option (List ℕ) → Option (List
 IsFrontAt s entry got later = (d : Dossier) × IsDossierAt s entry d × AppendedPart got later (text_of d)
 
 -- what the answer to an entry says of a session that has not failed, and of what was written. Changed: the entry begins no
--- round, and changed the state. Round: it begins one, and a dossier of it was written, with these numbers. Change and Later:
--- nothing changed, and nothing was written. WriteFault: a front of a dossier of the round was written. OutOfMemory: nothing
--- was written
+-- round, and changed the state. Round: it begins one, and a dossier of it was written, with these numbers; its pool is handed
+-- on. Change: nothing changed, and nothing was written. WriteFault: a front of a dossier of the round was written.
+-- OutOfMemory: nothing was written
 abbrev pub IsEntered : Planning → Entry → Result Done SessionFault → Planning → Option (List ℕ) → Option (List ℕ) → Type 0
 IsEntered s entry (Ok Changed) new got later = (refusal_of s.day entry ≡ None) × (round_at s.day entry ≡ [])
     × (new ≡ record s { day = after_entry s.day entry }) × (later ≡ got)
-IsEntered s entry (Ok (HasRound unassigned bound)) new got later = (refusal_of s.day entry ≡ None) × ((d : Dossier) × IsDossierAt s entry d
-    × (unassigned ≡ unassigned_count d.plan) × (bound ≡ d.bound) × (new ≡ record s { handed = handed_on d }) × Appended got later (text_of d))
-    × (IsLater entry → ⊥)
+IsEntered s entry (Ok (HasRound counts)) new got later = (refusal_of s.day entry ≡ None) × ((d : Dossier) × IsDossierAt s entry d
+    × (counts ≡ counts_of d) × (new ≡ record s { handed = handed_on d }) × Appended got later (text_of d))
 IsEntered s entry (Err (Change fault)) new got later =
     ((told : Refusal) × (refusal_of s.day entry ≡ Some told) × (fault ≡ fault_of told)) × (new ≡ s) × (later ≡ got)
-IsEntered s entry (Err Later) new got later = (refusal_of s.day entry ≡ None) × IsLater entry × (new ≡ s) × (later ≡ got)
 IsEntered s entry (Err WriteFault) new got later = (refusal_of s.day entry ≡ None) × (new ≡ record s { failed = Some failures.WriteFault })
-    × IsFrontAt s entry got later × (IsLater entry → ⊥)
+    × IsFrontAt s entry got later
 IsEntered s entry (Err OutOfMemory) new got later = (refusal_of s.day entry ≡ None) × (new ≡ record s { failed = Some failures.OutOfMemory })
     × (later ≡ got)
 
@@ -78,17 +79,16 @@ abbrev pub failure_of : Result Done SessionFault → Option Failure
 failure_of (Ok done) = None
 failure_of (Err WriteFault) = Some failures.WriteFault
 failure_of (Err OutOfMemory) = Some failures.OutOfMemory
-failure_of (Err Later) = None
 failure_of (Err (Change fault)) = None
 
 -- the session fails at this answer, as a write does
 abbrev pub IsNewWriteFault : Planning → Result Done SessionFault → Type 0
 IsNewWriteFault s result = (s.failed ≡ None) × (result ≡ Err WriteFault)
 
--- what the answer to a round says of what was written; so far it hands no routes on
-abbrev pub IsRoundPut : List NamedRoute → Round → Result Done SessionFault → Option (List ℕ) → Option (List ℕ) → Type 0
-IsRoundPut handed round (Ok (HasRound unassigned bound)) got later = (d : Dossier) × IsRoundDossier handed round d
-    × (unassigned ≡ unassigned_count d.plan) × (bound ≡ d.bound) × (handed_on d ≡ []) × Appended got later (text_of d)
+-- what the answer to a round says of what was written, and of the routes that it hands on
+abbrev pub IsRoundPut : List NamedRoute → Round → Result Planned SessionFault → Option (List ℕ) → Option (List ℕ) → Type 0
+IsRoundPut handed round (Ok planned) got later = (d : Dossier) × IsRoundDossier handed round d × (planned.counts ≡ counts_of d)
+    × (planned.carry ≡ handed_on d) × Appended got later (text_of d)
 IsRoundPut handed round (Err WriteFault) got later = (d : Dossier) × IsRoundDossier handed round d × AppendedPart got later (text_of d)
 IsRoundPut handed round (Err OutOfMemory) got later = later ≡ got
-IsRoundPut handed round _ got later = ⊥
+IsRoundPut handed round (Err (Change fault)) got later = ⊥

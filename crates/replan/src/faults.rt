@@ -1,5 +1,7 @@
 // Why a session takes no entry.
+use cert_write::PutFault;
 use flight_changes::ChangeFault;
+use std::alloc::AllocError;
 use thiserror::Error;
 
 /// Why an entry is not taken.
@@ -14,9 +16,31 @@ pub enum SessionFault {
     /// Memory ran out, now or at an earlier entry.
     #[error("out of memory")]
     OutOfMemory,
-    /// The round has a budget of nodes, which none is planned with yet.
-    #[error("a budget that comes later")]
-    Later,
+}
+
+impl From<AllocError> for SessionFault {
+    ghost use Rattle.std.specs.Prelude.{◌≡◌};
+    ghost use Rattle.replan.specs.declared.faults.SessionFault.TheVariants.{OutOfMemory};
+
+    ghost from_gives = { λ _ e. e ≡ OutOfMemory };
+
+    fn from(_: AllocError) -> Self {
+        SessionFault::OutOfMemory
+    }
+}
+
+impl From<PutFault> for SessionFault {
+    ghost use Rattle.std.specs.Prelude.{◌≡◌};
+    ghost use Rattle.replan.specs.Planning.{fault_of_put};
+
+    ghost from_gives = { λ fault e. e ≡ fault_of_put fault };
+
+    fn from(fault: PutFault) -> Self {
+        match fault {
+            PutFault::WriteFault => SessionFault::WriteFault,
+            PutFault::OutOfMemory => SessionFault::OutOfMemory,
+        }
+    }
 }
 
 /// Why a session goes no further.

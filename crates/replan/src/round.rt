@@ -1,103 +1,163 @@
 // One round: a plan of an instance, and a dossier of it.
-ghost use Rattle.std.specs.Prelude.{◌≡◌, [], Err, IfOk};
+ghost use Rattle.std.specs.Prelude.{◌≡◌, ◌≤◌, [], All, Err, IfOk, List, OnOk, length, map, take};
+ghost use Rattle.std.specs.List.{sum_by};
+ghost use Rattle.cert_write.specs.Causes.{cause_of};
+ghost use Rattle.cert_write.specs.Given.{Given};
 ghost use Rattle.crew_io.specs.Puts.{TellsWrites};
 ghost use Rattle.crew_terms.specs.Limits.{root_limits};
-ghost use Rattle.search_terms.specs.Search.{IsKeepable};
+ghost use Rattle.crew_terms.specs.declared.TheConstants.{MOST_NODES};
+ghost use Rattle.dossier_terms.specs.Causes.{unshown_in};
+ghost use Rattle.dossier_terms.specs.Dossier.{IsPooled};
+ghost use Rattle.replan.specs.Given.{AreNumbersOf};
+ghost use Rattle.replan.specs.Kept.{handed_in};
 ghost use Rattle.replan.specs.Planning.{IsRoundPut};
-ghost use Rattle.replan.specs.Untaken.{untaken_nodes, untaken_state};
+ghost use Rattle.route_terms.specs.Kept.{AreKeptIn};
+ghost use Rattle.route_terms.specs.Named.{NamedRoute};
+ghost use Rattle.search_core.specs.Steps.{IsSolved};
 
+use crate::counts::Counts;
 use crate::faults::SessionFault;
-use crate::session::Done;
-use branch_tree::{LeafState, Node, Tree};
-use cert_write::{Parts, PutFault, write_dossier};
-use column_arena::VecColumns;
-use crew_instance::{Instance, Plan, unassigned};
+use crate::laws::{outcomes_are_rounds, pools_are_of_instances};
+use bumpalo::Bump;
+use cert_write::{Cause, Parts, write_dossier};
+use column_arena::{ArenaColumns, Carry, Columns};
+use crew_instance::{Instance, unassigned};
 use crew_io::sink::Sink;
-use dossier_laws::good_bounds;
 use node_limits::Limits;
-use plan_builder::greedy;
-use plan_search::{Effort, better};
-use potentials::Prices;
-use search_laws::leaves_have_potentials;
+use search_core::{DAY_EFFORT, Outcome, solve};
+use solved_laws::{solved_pools_are_of_the_instance, told_causes};
 use std::alloc::{AllocError, Global};
-use written_laws::{leaves_keep_their_prices, written_dossiers_are_good};
 
-/// How many iterations are spent on a better plan.
-const ITERATIONS: u32 = 20_000;
+/// The most routes that a pool may have.
+const MOST_ROUTES: usize = 9_223_372_036_854_775_807;
 
-/// A legal and packed plan.
-fn plan_of(alloc: Global, instance: &Instance) -> Result<Plan, AllocError>
-    ensures { IfOk result (IsKeepable instance.now) }
-{
-    let first = greedy(alloc, instance)?;
-    let effort = Effort {
-        iterations: ITERATIONS,
-        enough: 0,
-        weights: None,
-    };
-    better(alloc, instance, &first, effort)
+/// What a round comes to: the numbers of its dossier, and its pool by names.
+#[derive(Drop)]
+pub(crate) struct Planned {
+    pub(crate) counts: Counts,
+    pub(crate) carry: Carry,
 }
 
-/// What the leaf of a search claims that makes no step: it is bare where the plan leaves no task unassigned, and else open.
-fn untaken_state(unassigned: u32) -> LeafState
-    ensures { result ≡ untaken_state unassigned }
+/// Adds the routes that are carried and that are routes of the instance to columns of which there are none yet. Answers how
+/// many they are. AllocError where there is no memory.
+fn place_kept<C: Columns>(
+    alloc: Global,
+    instance: &Instance,
+    carry: &Option<Carry>,
+    columns: &mut C,
+) -> Result<usize, AllocError>
+    requires { C.columns columns.old ≡ [] }
+    ensures kept { OnOk result (AreKeptIn (root_limits instance.now) (handed_in carry.now) (C.columns columns.new)) }
+    ensures count { IfOk result (λ count. count ≡ length (C.columns columns.new)) }
 {
-    if unassigned == 0 {
-        LeafState::Bare
-    } else {
-        LeafState::Open
+    let Some(carried) = carry else {
+        return Ok(0);
+    };
+    let limits = Limits::root(alloc, instance)?;
+    carried.place(&limits, columns)
+}
+
+/// 1 of a cause that does not show that the node had to be split.
+fn unshown_in(cause: &Cause<'_>) -> u32
+    ensures { result ≡ unshown_in (cause_of cause.now) }
+{
+    match cause {
+        Cause::None | Cause::Overflow { .. } | Cause::Spent { .. } => 1,
+        Cause::Loose { .. } => 0,
     }
 }
 
-/// The tree of such a search: its leaf, at prices 0.
-fn untaken(alloc: Global, instance: &Instance, unassigned: u32) -> Result<Tree, AllocError>
-    ensures { IfOk result (λ tree. tree ≡ untaken_nodes (root_limits instance.now) unassigned) }
+/// How many causes do not show that the node had to be split.
+fn unshown(causes: &[Cause<'_>]) -> u32
+    requires { length causes.now ≤ MOST_NODES }
+    ensures { result ≡ sum_by unshown_in (map cause_of causes.now) }
 {
-    let limits = Limits::root(alloc, instance)?;
-    let prices = Prices::zero(alloc, &limits)?;
-    let state = untaken_state(unassigned);
-    let nodes = vec![in alloc; Node::Leaf { state, prices }]?;
-    Ok(Tree::whole(nodes))
+    let mut n = 0;
+    for cause in causes {
+        n += unshown_in(cause);
+    }
+    n
 }
 
-/// Plans the instance, and writes a dossier.
+/// The numbers of the dossier of an outcome with these causes.
+fn counts_of(outcome: &Outcome, causes: &[Cause<'_>]) -> Counts
+    requires { length causes.now ≤ MOST_NODES }
+    ensures { (g : Given) → g.causes ≡ map cause_of causes.now → AreNumbersOf g outcome.now result }
+{
+    let bound = outcome.bound;
+    Counts {
+        unassigned: unassigned(&outcome.plan),
+        bound,
+        splits: outcome.tree.splits(),
+        closed: outcome.tree.closed(),
+        left_open: outcome.tree.left_open(),
+        unshown: unshown(causes),
+    }
+}
+
+/// Writes the dossier of an outcome to which the search over the columns came, from the kept ones on. All memory is taken
+/// before a byte is written.
+fn put_outcome<K: Sink, C: Columns>(
+    alloc: Global,
+    instance: &Instance,
+    nodes: u32,
+    kept: usize,
+    columns: &C,
+    outcome: &Outcome,
+    sink: &mut K,
+) -> Result<Planned, SessionFault>
+    requires few { nodes ≤ MOST_NODES }
+    requires kept { kept ≤ length (C.columns columns.now) }
+    requires pooled { All (IsPooled instance.now) (take kept (C.columns columns.now)) }
+    requires solved { IsSolved instance.now nodes (take kept (C.columns columns.now)) (C.columns columns.now) outcome.now }
+    ensures put { (handed : List NamedRoute) → AreKeptIn (root_limits instance.now) handed (take kept (C.columns columns.now)) →
+        IsRoundPut handed (record { instance = instance.now; nodes = nodes }) result (K.got sink.old) (K.got sink.new) }
+    ensures tells { TellsWrites K.Sink sink.old sink.new (result ≡ Err SessionFault.WriteFault) }
+{
+    outcomes_are_rounds();
+    pools_are_of_instances();
+    solved_pools_are_of_the_instance();
+    // What always holds of the instance is known from here on.
+    let _ = instance.teams();
+    if columns.len() > MOST_ROUTES {
+        return Err(SessionFault::OutOfMemory);
+    }
+    let carry = Carry::take(alloc, instance, columns)?;
+    let causes = told_causes(alloc, &outcome.causes)?;
+    let counts = counts_of(outcome, &causes);
+    let parts = Parts {
+        instance,
+        nodes,
+        kept,
+        columns,
+        plan: &outcome.plan,
+        bound: outcome.bound,
+        tree: &outcome.tree,
+        causes: &causes,
+    };
+    write_dossier(alloc, sink, &parts)?;
+    Ok(Planned { counts, carry })
+}
+
+/// Plans the instance by a search with so many steps, which goes out from the routes that are carried, and writes a dossier.
 pub(crate) fn put_round<K: Sink>(
     alloc: Global,
     instance: &Instance,
     nodes: u32,
+    carry: &Option<Carry>,
     sink: &mut K,
-) -> Result<Done, SessionFault>
-    requires { nodes ≡ 0 }
-    ensures put { IsRoundPut [] (record { instance = instance.now; nodes = nodes }) result (K.got sink.old) (K.got sink.new) }
+) -> Result<Planned, SessionFault>
+    requires { nodes ≤ MOST_NODES }
+    ensures put { IsRoundPut (handed_in carry.now) (record { instance = instance.now; nodes = nodes }) result
+        (K.got sink.old) (K.got sink.new) }
     ensures tells { TellsWrites K.Sink sink.old sink.new (result ≡ Err SessionFault.WriteFault) }
 {
-    // The dossier is good, and its bound holds.
-    leaves_have_potentials();
-    written_dossiers_are_good();
-    leaves_keep_their_prices();
-    good_bounds();
-    let _ = instance.teams();
-    let Ok(plan) = plan_of(alloc, instance) else {
-        return Err(SessionFault::OutOfMemory);
-    };
-    let unassigned = unassigned(&plan);
-    let Ok(tree) = untaken(alloc, instance, unassigned) else {
-        return Err(SessionFault::OutOfMemory);
-    };
-    let bound = 0;
-    let parts = Parts {
-        instance,
-        nodes,
-        kept: 0,
-        columns: &VecColumns::new(alloc),
-        plan: &plan,
-        bound,
-        tree: &tree,
-        causes: &[],
-    };
-    match write_dossier(alloc, sink, &parts) {
-        Ok(()) => Ok(Done::Round { unassigned, bound }),
-        Err(PutFault::WriteFault) => Err(SessionFault::WriteFault),
-        Err(PutFault::OutOfMemory) => Err(SessionFault::OutOfMemory),
-    }
+    pools_are_of_instances();
+    let arena = Bump::new(alloc);
+    let mut columns = ArenaColumns::new(alloc, &arena);
+    let kept = place_kept(alloc, instance, carry, &mut columns)?;
+    // What always holds of the columns is known from here on.
+    let _ = columns.len();
+    let outcome = solve(alloc, instance, nodes, &mut columns, DAY_EFFORT)?;
+    put_outcome(alloc, instance, nodes, kept, &columns, &outcome, sink)
 }

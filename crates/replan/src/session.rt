@@ -4,8 +4,10 @@ ghost use Rattle.crew_io.specs.Puts.{TellsWrites};
 ghost use Rattle.day_terms.specs.Ranges.{IsInRange};
 ghost use Rattle.replan.specs.Planning.{IsEntered, IsNewWriteFault, failure_of, fault_told, no_entry_yet, refusal_told};
 
+use crate::counts::Counts;
 use crate::faults::{Failure, SessionFault};
-use crate::round::put_round;
+use crate::round::{Planned, put_round};
+use column_arena::Carry;
 use crew_io::sink::Sink;
 use flight_changes::{ChangeFault, Desk, Entry};
 use std::alloc::Global;
@@ -16,8 +18,8 @@ use std::marker::Model;
 pub enum Done {
     /// It changed the state.
     Changed,
-    /// It began a round, and a dossier was written: how many tasks its plan leaves unassigned, and its bound.
-    Round { unassigned: u32, bound: u32 },
+    /// It began a round, and a dossier was written, with these numbers.
+    Round(Counts),
 }
 
 /// The planning of a day: each entry that is not refused changes its state, or begins a round, of which a dossier is
@@ -29,6 +31,8 @@ pub enum Done {
 pub struct Session {
     alloc: Global,
     desk: Desk,
+    // The pool of the round before, by names.
+    carry: Option<Carry>,
     failed: Option<Failure>,
 }
 
@@ -37,9 +41,9 @@ impl Model for Session {
 
     ghost Value = { Planning };
 
-    ghost use Rattle.replan.specs.Kept.{kept};
+    ghost use Rattle.replan.specs.Kept.{planning_of};
 
-    ghost view = { kept };
+    ghost view = { planning_of };
 }
 
 /// The fault that is told of a failure.
@@ -70,12 +74,13 @@ impl Session {
         Session {
             alloc,
             desk: Desk::new(alloc),
+            carry: None,
             failed: None,
         }
     }
 
-    /// Takes an entry. One of a plan begins a round: a plan of the instance as it stands is made, and a dossier with it is
-    /// written. What the state refuses leaves all as before. Where a write fails or memory runs out the session ends:
+    /// Takes an entry. One of a plan begins a round: the instance as it stands is searched, with as many steps as the entry says
+    /// and from those routes of the round before that are routes still, and a dossier of what it comes to is written. What the state refuses leaves all as before. Where a write fails or memory runs out the session ends:
     /// it answers the same to each later entry.
     pub fn entry<K: Sink>(&mut self, entry: &Entry, sink: &mut K) -> Result<Done, SessionFault>
         requires { IsInRange entry.now }
@@ -106,13 +111,12 @@ impl Session {
         let Entry::Plan { nodes } = *entry else {
             return Ok(Done::Changed);
         };
-        if nodes > 0 {
-            return Err(SessionFault::Later);
-        }
         let Ok(instance) = self.desk.instance() else {
             return Err(SessionFault::OutOfMemory);
         };
-        put_round(self.alloc, &instance, nodes, sink)
+        let Planned { counts, carry } = put_round(self.alloc, &instance, nodes, &self.carry, sink)?;
+        self.carry = Some(carry);
+        Ok(Done::Round(counts))
     }
 }
 

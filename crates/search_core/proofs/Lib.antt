@@ -4,3 +4,4 @@ pub mod Keeping
 pub mod Sites
 pub mod Starting
 pub mod HandingOut
+pub mod Showing

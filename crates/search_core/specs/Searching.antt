@@ -15,6 +15,7 @@ use Rattle.search_terms.specs.Search.{SearchState}
 use Rattle.search_terms.specs.SearchTree.{SplitCause}
 use Rattle.search_terms.specs.Ways.{limits_at, prices_at}
 use Rattle.search_tree.specs.Numbered.{tree_of, way_of}
+pub use Rattle.tree_outlines.specs.Outline.{price_at}
 
 -- the instance and the budget; the best plan, how many steps are left, and the tree with its open leaves under keys, in which
 -- prices and causes are numbers
@@ -26,10 +27,6 @@ pub record Searching : Type 0 where
   pub keyed : Keyed
   pub prices : List Prices
   pub causes : List Cause
-
--- the prices of a number
-abbrev pub price_at : List Prices → ℕ → Prices
-price_at prices k = slice_index_or prices k (record { pi = []; rho = [] })
 
 -- a cause, of the columns that are held
 abbrev pub split_cause : List Route → Cause → SplitCause

@@ -1,13 +1,15 @@
 -- steps of a search by their keys, and what it hands out
 use Rattle.std.specs.Prelude.{◌≡◌, ◌≢◌, ◌+◌, ◌-◌, ◌⊎◌, ℕ, List, Option, All, map, unwrap_or}
+use Rattle.branch_tree.specs.Entries.{EachSplitOf}
 use Rattle.branch_tree.specs.Trees.{preorder}
 use Rattle.crew_terms.specs.Branches.{LeafNode, splits}
 use Rattle.crew_terms.specs.Instance.{Instance}
 use Rattle.crew_terms.specs.Leaf.{Prices}
 use Rattle.crew_terms.specs.Limits.{Route, root_limits}
-use Rattle.crew_terms.specs.Plan.{Plan}
+use Rattle.crew_terms.specs.Plan.{Plan, unassigned_count}
 use Rattle.keyed_tree.specs.Keyed.{IsKeyed, Keyed}
 use Rattle.search_core.specs.Searching.{Searching, IsOpenKey, split_cause, state_of, way_to}
+use Rattle.search_core.specs.Shown.{AreShown, IsShownCause}
 use Rattle.search_core.specs.declared.causes.Cause.{Cause}
 use Rattle.search_core.specs.declared.causes.Outcome.{Outcome}
 use Rattle.search_terms.specs.Search.{IsBound, IsRun, IsSearchRun, IsSearchStep, SearchState, best}
@@ -37,6 +39,8 @@ after_step s found keyed prices causes = record {
 pub record IsKeyStep (key pivots : ℕ) (columns more : List Route) (s t : Searching) : Type 0 where
   pub instance : t.instance ≡ s.instance
   pub budget : t.budget ≡ s.budget
+  -- where the causes of splits show by the columns of before, all do by those of after
+  pub shown : AreShown columns s → AreShown more t
   pub step : (held : List Route) → IsSearchStep s.instance (way_to s key) pivots columns more (state_of held s) (state_of held t)
   -- the other keys stay, with their leaves
   pub stay : (other : ℕ) → other ≢ key → IsOpenKey s other → IsOpenKey t other × (way_to t other ≡ way_to s other)
@@ -63,9 +67,14 @@ pub record IsOutcome (i : Instance) (held : List Route) (s : SearchState) (o : O
 abbrev pub IsDone : Instance → SearchState → Type 0
 IsDone i s = IsBound i s (best s) ⊎ (s.left ≡ 0)
 
+-- each cause of the outcome shows in its node, of this pool
+abbrev pub IsShownOutcome : Instance → List Route → SearchState → Outcome → Type 0
+IsShownOutcome i pool s o = EachSplitOf (IsShownCause pool (unassigned_count o.plan)) (root_limits i) (handed_out s) o.causes.items
+
 -- a search of so many steps from the kept columns comes to the outcome, over this pool
 pub record IsSolved (i : Instance) (nodes : ℕ) (kept pool : List Route) (o : Outcome) : Type 0 where
   pub state : SearchState
   pub run : IsSearchRun i nodes kept pool state
   pub outcome : IsOutcome i pool state o
+  pub shown : IsShownOutcome i pool state o
   pub done : IsDone i state

@@ -1,16 +1,19 @@
 // How much work a search may do.
 ghost use Rattle.std.specs.Prelude.{◌≡◌};
 
-use node_solver::{AscentEffort, Effort as NodeEffort};
+use node_solver::{AscentEffort, Effort as NodeEffort, ScoutEffort};
 
-/// How much work a search may do beside its master runs: so many iterations for a better plan before its first step, this
-/// work of the ascent at the root and at each other node, and so many of the routes of an ascent's last rounds as columns.
+/// How much work a search may do beside its master runs: so many iterations for a better plan before its first step; that work
+/// of the ascent at the root and, where it doesn't close the root, so many more iterations for a better plan and that work of
+/// another ascent; that work of the ascent at each other node; and that work of the scout of columns at a node.
 #[derive(Clone, Copy, Debug)]
 pub struct Effort {
     pub iterations: u32,
     pub root: AscentEffort,
+    pub more_iterations: u32,
+    pub again: AscentEffort,
     pub below: AscentEffort,
-    pub columns: u32,
+    pub scout: ScoutEffort,
 }
 
 impl Effort {
@@ -18,10 +21,13 @@ impl Effort {
     pub(crate) fn at(&self, node: u32, pivots: u32) -> NodeEffort
         ensures { result.pivots ≡ pivots }
     {
+        let is_root = node == 0;
         NodeEffort {
+            ascent: if is_root { self.root } else { self.below },
+            iterations: if is_root { self.more_iterations } else { 0 },
+            again: self.again,
+            scout: self.scout,
             pivots,
-            ascent: if node == 0 { self.root } else { self.below },
-            columns: self.columns,
         }
     }
 }
@@ -34,10 +40,20 @@ pub const DAY_EFFORT: Effort = Effort {
         step: 256,
         looks: 10_000_000_000,
     },
+    more_iterations: 400_000,
+    again: AscentEffort {
+        rounds: 500,
+        step: 128,
+        looks: 10_000_000_000,
+    },
     below: AscentEffort {
         rounds: 150,
         step: 128,
         looks: 3_000_000_000,
     },
-    columns: 1_000,
+    scout: ScoutEffort {
+        pivots: 30_000,
+        rounds: 100,
+        routes: 1_000,
+    },
 };

@@ -2,6 +2,7 @@
 ghost use Rattle.std.specs.Prelude.{◌≡◌, ◌≤◌, IfOk};
 ghost use Rattle.crew_terms.specs.Leaf.{IsOnRequired};
 ghost use Rattle.crew_terms.specs.Limits.{tasks_in};
+ghost use Rattle.crew_terms.specs.Plan.{unassigned_count};
 ghost use Rattle.keyed_steps.specs.States.{DecidesProved};
 ghost use Rattle.label_pricing.specs.Pricing.{HasRoom};
 ghost use Rattle.node_walk.specs.Walks.{IsBack};
@@ -48,7 +49,7 @@ fn examine<C: Columns>(
     pricer: &mut Pricer,
     own: &KeptPrices,
     bound: i128,
-    best: u32,
+    best: &Plan,
     columns: &mut C,
     effort: &NodeEffort,
 ) -> Result<Finding, AllocError>
@@ -57,9 +58,10 @@ fn examine<C: Columns>(
     requires own { ArePricesOf limits.old.limits own.now }
     requires required { IsOnRequired limits.old.limits own.now }
     requires bound { DecidesProved limits.old.limits own.now bound }
-    requires best { best ≤ tasks_in limits.old.limits }
+    requires best { unassigned_count best.now ≤ tasks_in limits.old.limits }
     requires room { HasRoom limits.old.limits.instance pricer.old }
-    ensures found { IfOk result (IsFinding limits.old.limits best effort.now.pivots (C.columns columns.old) (C.columns columns.new) own.now) }
+    ensures found { IfOk result (IsFinding limits.old.limits (unassigned_count best.now) effort.now.pivots
+        (C.columns columns.old) (C.columns columns.new) own.now) }
     ensures extends { Extends limits.old.limits (C.columns columns.old) (C.columns columns.new) }
     ensures limits { limits.new ≡ limits.old }
     ensures room { pricer.new.places ≡ pricer.old.places }
@@ -96,7 +98,7 @@ pub(crate) fn explore<C: Columns>(
     turns: &[Turn],
     own: &KeptPrices,
     bound: i128,
-    best: u32,
+    best: &Plan,
     columns: &mut C,
     effort: &NodeEffort,
 ) -> Result<Finding, AllocError>
@@ -105,9 +107,9 @@ pub(crate) fn explore<C: Columns>(
     requires own { ArePricesOf (limits_after limits.old.limits turns.now) own.now }
     requires required { IsOnRequired (limits_after limits.old.limits turns.now) own.now }
     requires bound { DecidesProved (limits_after limits.old.limits turns.now) own.now bound }
-    requires best { best ≤ tasks_in (limits_after limits.old.limits turns.now) }
+    requires best { unassigned_count best.now ≤ tasks_in (limits_after limits.old.limits turns.now) }
     requires room { HasRoom limits.old.limits.instance pricer.old }
-    ensures found { IfOk result (IsFinding (limits_after limits.old.limits turns.now) best effort.now.pivots
+    ensures found { IfOk result (IsFinding (limits_after limits.old.limits turns.now) (unassigned_count best.now) effort.now.pivots
         (C.columns columns.old) (C.columns columns.new) own.now) }
     ensures extends { Extends (limits_after limits.old.limits turns.now) (C.columns columns.old) (C.columns columns.new) }
     ensures back { IsBack limits.new limits.old }

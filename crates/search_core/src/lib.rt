@@ -16,6 +16,6 @@ pub use causes::{Cause, Outcome};
 pub use crew_instance::{Instance, Plan};
 pub use effort::{DAY_EFFORT, Effort};
 pub use laws::{key_steps_improve, outcomes_are_searched};
-pub use node_solver::{AscentEffort, Why};
+pub use node_solver::{AscentEffort, ScoutEffort, Why};
 pub use searches::Search;
 pub use solving::solve;

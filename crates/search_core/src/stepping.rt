@@ -20,8 +20,9 @@ ghost use Rattle.search_terms.specs.Search.{Extends};
 ghost use Rattle.search_tree.specs.Numbered.{node_of};
 ghost use Rattle.search_tree.specs.declared.nodes.Content.TheVariants as content;
 
-use keyed_steps::{steps_at_closed, steps_at_split};
+use keyed_steps::{run_leaves, steps_at_closed, steps_at_split};
 use keyed_tree::{numbers_stay, same_numbers_same_tree};
+use search_laws::run_keeps;
 
 /// Where the prices that were found close the leaf under a key, that is a step, and what always holds goes on to hold.
 pub(crate) fn closings_are_steps()
@@ -50,6 +51,8 @@ pub(crate) fn splits_are_steps()
         (record { now = now_after (unassigned_count s.plan) found; why = why }) handed →
         IsKeptSearch (after_step s found keyed prices causes) × IsKeyStep key pivots columns more s (after_step s found keyed prices causes) }
 {
+    run_keeps();
+    run_leaves();
     steps_at_split();
     same_numbers_same_tree();
     numbers_stay();

@@ -50,7 +50,7 @@ impl<'i> Search<'i> {
             &turns,
             own,
             leaf.bound,
-            best,
+            &self.plan,
             columns,
             &effort,
         )?;

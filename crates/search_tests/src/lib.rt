@@ -2,6 +2,10 @@
 #![tactic(auto)]
 
 #[cfg(test)]
+mod asserts;
+#[cfg(test)]
 mod orders;
 #[cfg(test)]
 mod solving;
+#[cfg(test)]
+mod steps;

@@ -2,7 +2,7 @@
 use column_arena::VecColumns;
 use crew_fixtures::hardly_overlapping;
 use crew_instance::Instance;
-use search_core::{AscentEffort, DAY_EFFORT, Effort, Search};
+use search_core::{AscentEffort, DAY_EFFORT, Effort, ScoutEffort, Search};
 use std::alloc::{AllocError, Global};
 use std::test::Fail;
 
@@ -13,11 +13,17 @@ const NO_ASCENT: AscentEffort = AscentEffort {
     looks: 1,
 };
 
-const NO_ROUNDS: Effort = Effort {
+pub const NO_ROUNDS: Effort = Effort {
     iterations: 0,
     root: NO_ASCENT,
+    more_iterations: 0,
+    again: NO_ASCENT,
     below: NO_ASCENT,
-    columns: 10,
+    scout: ScoutEffort {
+        pivots: 0,
+        rounds: 0,
+        routes: 0,
+    },
 };
 
 /// Bound, best, steps left and open leaves after at most three steps, each at the youngest or at the oldest open leaf.

@@ -1,2 +1,4 @@
 pub mod Trees
 pub mod Pools
+pub mod Told
+pub mod OneMore

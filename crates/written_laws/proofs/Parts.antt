@@ -1,19 +1,19 @@
 -- the parts of a dossier, and their rules
-use Rattle.std.proofs.Common.{◌≡◌, ◌∷◌, [], ◌++◌, ℕ, List, ap, refl, subst, sym, ◌∙◌, arith}
-use Rattle.std.specs.List.{AllByRecursion}
-use Rattle.std.proofs.lemmas.List.Elements.{recursion_from_All}
+use Rattle.std.proofs.Common.{◌≡◌, ◌∷◌, [], ◌++◌, ℕ, List, length, drop, ap, refl, subst, sym, ◌∙◌, append_assoc, append-nil, arith}
+use Rattle.std.proofs.lemmas.List.{length-append}
+use Rattle.std.proofs.Math.Seq.{drop-append_seam}
 use Rattle.crew_terms.specs.Branches.{LeafNode, SplitNode, Claim, Bare, Open, Closed, closed, closed_in, splits}
 use Rattle.crew_terms.specs.Limits.{Limits, Route, root_limits}
 use Rattle.crew_terms.specs.Plan.{unassigned_count}
 use Rattle.crew_terms.specs.Tree.{IsSound, child}
 use Rattle.crew_terms.specs.declared.Side.TheVariants.{First, Second}
 use Rattle.branch_tree.specs.Trees.{BranchTree, ClaimedLeaf, claim_in, closed as given_closed}
-use Rattle.dossier_terms.specs.Causes.{Cause, NoCause, IsCauseIn}
+use Rattle.dossier_terms.specs.Causes.{Cause}
 use Rattle.dossier_terms.specs.Dossier.{AreCaused, AreWritten, Dossier, IsGood, Leaf, Written, tree_of}
 use Rattle.dossier_terms.specs.declared.DossierForm.TheVariants.{Two}
 use Rattle.cert_write.specs.Given.{Given}
 use Rattle.cert_write.specs.Dossiers.{IsDossierOf, IsPricedClaim, IsPricedTree, IsTreeOfGiven, causes_of}
-use Rattle.written_laws.specs.Proved.{IsProvedGiven}
+use Rattle.written_laws.specs.Proved.{AreCauses, IsProvedGiven}
 
 -- the dossier of these parts with this tree
 abbrev pub dossier_with : Given → Written → Dossier
@@ -54,23 +54,36 @@ same_closed n (SplitNode choice first second) (SplitNode split low high) is =
     let b = same_closed (child n choice Second) second high is.2 in
     omega (arith, a, b)
 
--- what holds of each of two lists' elements holds of those of the first, and of the second
-of_first : (P : Cause → Type 0) (xs ys : List Cause) → AllByRecursion P (xs ++ ys) → AllByRecursion P xs
-of_first P [] ys h = tt
-of_first P (x ∷ xs) ys h = (h.0, of_first P xs ys h.1)
+-- a cause for each split
+causes_count : (w : Written) → length (causes_of w) ≡ splits w
+causes_count (LeafNode claim) = refl
+causes_count (SplitNode split first second) =
+    let a = causes_count first in
+    let b = causes_count second in
+    let e = length-append (causes_of first) (causes_of second) in
+    omega (arith, a, b, e)
 
-of_second : (P : Cause → Type 0) (xs ys : List Cause) → AllByRecursion P (xs ++ ys) → AllByRecursion P ys
-of_second P [] ys h = h
-of_second P (x ∷ xs) ys h = of_second P xs ys h.1
-
--- that no cause is shown may be told of each split
-uncaused : (pool : List Route) (n : Limits) (u : ℕ) (w : Written) → AllByRecursion (λ (c : Cause). c ≡ NoCause) (causes_of w) → AreCaused Two pool n u w
-uncaused pool n u (LeafNode claim) h = tt
-uncaused pool n u (SplitNode split first second) h =
-    let P = λ (c : Cause). c ≡ NoCause in (
-      subst (IsCauseIn pool n u) (sym h.0) tt,
-      uncaused pool (child n split.choice First) u first (of_first P (causes_of first) (causes_of second) h.1),
-      uncaused pool (child n split.choice Second) u second (of_second P (causes_of first) (causes_of second) h.1),
+-- the causes that are written may be told, where those that are given may; these may go on behind the tree
+caused : (pool : List Route) (u : ℕ) (n : Limits) (t : BranchTree) (w : Written) (rest : List Cause) → IsPricedTree n t w
+    → AreCauses pool u n t (causes_of w ++ rest) → AreCaused Two pool n u w
+caused pool u n (LeafNode given) (LeafNode claim) rest same h = tt
+caused pool u n (LeafNode given) (SplitNode split low high) rest same h = absurd same
+caused pool u n (SplitNode choice first second) (LeafNode claim) rest same h = absurd same
+caused pool u n (SplitNode choice first second) (SplitNode split low high) rest same h =
+    let e : choice ≡ split.choice = same.0 in
+    let ours : List Cause = causes_of low in
+    let more : List Cause = causes_of high ++ rest in
+    let parts : (ours ++ causes_of high) ++ rest ≡ ours ++ more = append_assoc ours (causes_of high) rest in
+    let count : splits first ≡ length ours = same_splits (child n choice First) first low same.1 ∙ sym (causes_count low) in
+    let behind : drop (splits first) ((ours ++ causes_of high) ++ rest) ≡ more =
+    ap (drop (splits first)) parts ∙ ap (λ k. drop k (ours ++ more)) count ∙ drop-append_seam ours more in (
+      h.0,
+      caused pool u (child n split.choice First) first low more (subst (λ x. IsPricedTree (child n x First) first low) e same.1)
+          (subst (λ x. AreCauses pool u (child n x First) first (ours ++ more)) e
+          (subst (λ cs. AreCauses pool u (child n choice First) first cs) parts h.1)),
+      caused pool u (child n split.choice Second) second high rest (subst (λ x. IsPricedTree (child n x Second) second high) e same.2)
+          (subst (λ x. AreCauses pool u (child n x Second) second more) e
+          (subst (λ cs. AreCauses pool u (child n choice Second) second cs) behind h.2)),
     )
 
 pub good_parts : (g : Given) (tree : Written) (is : IsTreeOfGiven g tree) (proved : IsProvedGiven g) → proved.tree ≡ is.tree → AreWritten (root_limits g.instance) tree
@@ -93,8 +106,9 @@ good_parts g tree is proved same leaves sound =
       bound = proved.bound;
       leaves = leaves;
       sound = sound;
-      causes = uncaused g.columns (root_limits g.instance) (unassigned_count g.plan) tree
-          (subst (AllByRecursion (λ (c : Cause). c ≡ NoCause)) (sym is.causes) (recursion_from_All (λ (c : Cause). c ≡ NoCause) g.causes proved.causes));
+      causes = caused g.columns (unassigned_count g.plan) (root_limits g.instance) is.tree tree [] is.same
+          (subst (λ cs. AreCauses g.columns (unassigned_count g.plan) (root_limits g.instance) is.tree cs) (sym is.causes ∙ sym (append-nil (causes_of tree)))
+          (subst (λ t. AreCauses g.columns (unassigned_count g.plan) (root_limits g.instance) t g.causes) same proved.causes));
       within = omega (arith, s, c, a, b, w);
       spent = λ below. let e = proved.spent below in omega (arith, s, c, a, b, e);
     }

@@ -1,5 +1,5 @@
 -- parts whose dossier is good
-use Rattle.std.specs.Prelude.{◌≡◌, ◌≢◌, ◌≤◌, ◌<◌, ◌+◌, ℕ, length, All, AllPairs}
+use Rattle.std.specs.Prelude.{◌≡◌, ◌≢◌, ◌≤◌, ◌<◌, ◌+◌, ℕ, List, length, All, AllPairs}
 use Rattle.crew_terms.specs.Branches.{LeafNode, SplitNode, splits}
 use Rattle.crew_terms.specs.Leaf.{Prices}
 use Rattle.crew_terms.specs.Legal.{IsLegal}
@@ -9,8 +9,9 @@ use Rattle.crew_terms.specs.Rules.{IsInstance}
 use Rattle.crew_terms.specs.Tree.{CanSplit, child}
 use Rattle.crew_terms.specs.declared.Side.TheVariants.{First, Second}
 use Rattle.crew_terms.specs.declared.TheConstants.{MOST_NODES}
-use Rattle.dossier_terms.specs.Causes.{Cause, NoCause}
+use Rattle.dossier_terms.specs.Causes.{Cause, IsCauseIn}
 use Rattle.dossier_terms.specs.Dossier.{IsPooled}
+use Rattle.branch_tree.specs.Entries.{EachSplitOf}
 use Rattle.branch_tree.specs.Trees.{BranchTree, closed, preorder}
 use Rattle.branch_tree.specs.declared.tree.LeafState.{LeafState}
 use Rattle.branch_tree.specs.declared.tree.LeafState.TheVariants.{Bare, Open, Closed}
@@ -29,7 +30,11 @@ IsProvedTree n l u (LeafNode leaf) = IsPriced n leaf.prices × IsProvedLeaf n l 
 IsProvedTree n l u (SplitNode choice first second) =
     CanSplit n choice × IsProvedTree (child n choice First) l u first × IsProvedTree (child n choice Second) l u second
 
--- the rules of the parts of a good dossier, of whose splits no cause is shown
+-- the causes of a tree's splits, in preorder, may be told of their nodes, where the plan leaves u tasks unassigned
+abbrev pub AreCauses : List Route → ℕ → Limits → BranchTree → List Cause → Type 0
+AreCauses pool u n tree causes = EachSplitOf (λ (m : Limits) (c : Cause). IsCauseIn pool m u c) n tree causes
+
+-- the rules of the parts of a good dossier
 pub record IsProvedGiven (g : Given) : Type 0 where
   pub instance : IsInstance g.instance
   pub budget : g.nodes ≤ MOST_NODES
@@ -42,6 +47,6 @@ pub record IsProvedGiven (g : Given) : Type 0 where
   pub tree : BranchTree
   pub nodes : g.tree ≡ preorder tree
   pub proved : IsProvedTree (root_limits g.instance) g.bound (unassigned_count g.plan) tree
-  pub causes : All (λ (c : Cause). c ≡ NoCause) g.causes
+  pub causes : AreCauses g.columns (unassigned_count g.plan) (root_limits g.instance) tree g.causes
   pub within : splits tree + closed tree ≤ g.nodes
   pub spent : g.bound < unassigned_count g.plan → splits tree + closed tree ≡ g.nodes

@@ -12,8 +12,9 @@ returns-in-Ok-Round-clause-taken g c =
     let got = g.K.Sink.got c.args.out.now in
     let later = g.K.Sink.got c.entry.new.sink in
     let e = subst (λ r. IsEntered s entry r new got later) (c.in-Ok-Round.is ∙ ap Ok c.in-Ok-Round.field-0-is) (c.entry.ensures.entered c.requires.open_yet) in
-    round_so s new entry got later c.in-Ok-Round.unassigned c.in-Ok-Round.bound (nat_eq c.in-Ok-Round.bound c.in-Ok-Round.unassigned) c.requires.open_yet e
-    (eqb-true c.in-Ok-Round.bound c.in-Ok-Round.unassigned) (eqb-false c.in-Ok-Round.bound c.in-Ok-Round.unassigned)
+    let counts = c.in-Ok-Round.counts in
+    round_so s new entry got later counts (nat_eq counts.bound counts.unassigned) c.requires.open_yet e
+    (eqb-true counts.bound counts.unassigned) (eqb-false counts.bound counts.unassigned)
 
 pub returns-in-Err-WriteFault-clause-taken : goal.returns-in-Err-WriteFault-clause-taken
 returns-in-Err-WriteFault-clause-taken g c =

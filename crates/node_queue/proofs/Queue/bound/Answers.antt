@@ -1,19 +1,24 @@
 use Rattle.std.proofs.Common.{ap, sym, ◌∙◌, Some, rules}
 use Rattle.std.specs.Int.{w128}
 use Rattle.std.specs.Option.{option_map}
+use Rattle.std.specs.BTreeMap as tree
 use Rattle.std.specs.Prelude.{FitsSigned}
 use Rattle.std.proofs.lemmas.Int.{to_z-of_z}
+use Rattle.node_queue.specs.Kept.{waiting_of}
+use Rattle.node_queue.proofs.Ages.{are_keys}
 use Rattle.node_queue.proofs.Keys.{found_is}
 use Rattle.node_queue.proofs.Queue.bound.Goals as goal
 
 pub returns-in-Some : goal.returns-in-Some
 returns-in-Some c =
-    let is = found_is c.self.inside.entries c.self.inside.ages.items c.args.self.now c.args.key c.self.invariant c.self.view_is in
-    let range : FitsSigned w128 c.in-Some.waiting.now.bound = search rules in
-    ap (λ b. Some b) (to_z-of_z w128 c.in-Some.waiting.now.bound range)
-    ∙ ap (option_map (λ waiting. waiting.bound)) (c.in-Some.ensures ∙ sym is)
+    let keys = are_keys c.self.inside.entries c.self.inside.ages c.self.invariant.by_age c.self.invariant.ordered in
+    let is = found_is c.self.inside.entries (tree.values c.self.inside.ages) c.args.self.now c.args.key keys c.self.view_is in
+    let range : FitsSigned w128 c.in-Some.entry.now.waiting.bound = search rules in
+    ap (λ b. Some b) (to_z-of_z w128 c.in-Some.entry.now.waiting.bound range)
+    ∙ ap (option_map (λ waiting. waiting.bound)) (ap (option_map waiting_of) c.in-Some.ensures ∙ sym is)
 
 pub returns-in-None : goal.returns-in-None
 returns-in-None c =
-    let is = found_is c.self.inside.entries c.self.inside.ages.items c.args.self.now c.args.key c.self.invariant c.self.view_is in
-    ap (option_map (λ waiting. waiting.bound)) (c.in-None.ensures ∙ sym is)
+    let keys = are_keys c.self.inside.entries c.self.inside.ages c.self.invariant.by_age c.self.invariant.ordered in
+    let is = found_is c.self.inside.entries (tree.values c.self.inside.ages) c.args.self.now c.args.key keys c.self.view_is in
+    ap (option_map (λ waiting. waiting.bound)) (ap (option_map waiting_of) c.in-None.ensures ∙ sym is)

@@ -118,6 +118,7 @@ returns-clause-held g c =
     let held : AreHeld n cs den out opened = record {
       legal = c.in_ok-solution.ensures.legal n cs c.requires.settled.over;
       positive = c.in_ok-solution.ensures.positive n cs c.requires.settled.over;
+      rise = c.in_ok-solution.ensures.rise n cs c.requires.settled.over;
     } in
     let fits : FitsSigned w128 den = search rules in
     simp to_z-of_z

@@ -1,28 +1,13 @@
-use Rattle.std.proofs.Common.{ap, sym, ◌∙◌}
-use Rattle.crew_terms.specs.Plan.{unassigned_count}
-use Rattle.replan.proofs.Leaf.{front_of, is_of_round, none_handed, writable}
+use Rattle.std.proofs.Common.{◌∙◌, ap, subst, sym}
+use Rattle.std.specs.Prelude.{All, take}
+use Rattle.dossier_terms.specs.Dossier.{IsPooled}
+use Rattle.replan.specs.Kept.{handed_in}
+use Rattle.replan.proofs.Pools.{grown_front}
 use Rattle.replan.proofs.round.put_round.Goals as goal
 
-pub write_dossier-requires : goal.write_dossier-requires
-write_dossier-requires g c = writable _ _ _ _ _ c.unassigned-unassigned.result c.in-Ok-untaken.ensures
-
-pub returns-in-Ok-write_dossier-clause-put : goal.returns-in-Ok-write_dossier-clause-put
-returns-in-Ok-write_dossier-clause-put g c =
-    let w = c.in-Ok-write_dossier.ensures in (
-      w.dossier,
-      is_of_round c.leaves_have_potentials.ensures c.written_dossiers_are_good.ensures c.leaves_keep_their_prices.ensures c.good_bounds.ensures
-          _ _ _ _ _ c.unassigned-unassigned.result w.dossier c.in-Ok.ensures c.teams.ensures.limits c.requires c.new.ensures c.in-Ok-untaken.ensures c.unassigned-unassigned.ensures w.parts,
-      c.unassigned-unassigned.ensures ∙ ap unassigned_count (sym w.parts.plan),
-      sym w.parts.bound,
-      none_handed _ w.dossier w.parts c.new.ensures,
-      w.puts.all,
-    )
-
-pub returns-in-Err-WriteFault-clause-put : goal.returns-in-Err-WriteFault-clause-put
-returns-in-Err-WriteFault-clause-put g c =
-    let w = front_of g.K.Sink _ _ _ c.in-Err-WriteFault.field-0 c.in-Err-WriteFault.field-0-is c.in-Err-WriteFault.ensures in (
-      w.dossier,
-      is_of_round c.leaves_have_potentials.ensures c.written_dossiers_are_good.ensures c.leaves_keep_their_prices.ensures c.good_bounds.ensures
-          _ _ _ _ _ c.unassigned-unassigned.result w.dossier c.in-Ok.ensures c.teams.ensures.limits c.requires c.new.ensures c.in-Ok-untaken.ensures c.unassigned-unassigned.ensures w.parts,
-      w.puts.part,
-    )
+pub put_outcome-requires-clause-pooled : goal.put_outcome-requires-clause-pooled
+put_outcome-requires-clause-pooled g c =
+    let placed = c.place_kept.new.columns in
+    let front = ap (λ k. take k c.solve.new.columns) c.in_ok-kept.ensures.count ∙ grown_front placed c.solve.new.columns c.solve.ensures.columns in
+    subst (All (IsPooled c.args.instance.now)) (sym front)
+    (c.pools_are_of_instances.ensures.kept c.args.instance.now (handed_in c.args.carry.now) placed c.in_ok-kept.ensures.kept c.len.ensures.are)

@@ -5,6 +5,7 @@ use Rattle.std.proofs.lemmas.Int.{to_z-of_z}
 use Rattle.crew_terms.specs.Instance.{Instance}
 use Rattle.crew_terms.specs.Leaf.{IsOnRequired}
 use Rattle.crew_terms.specs.Limits.{Limits, tasks_in}
+use Rattle.crew_terms.specs.Plan.{unassigned_count}
 use Rattle.keyed_steps.specs.States.{DecidesProved}
 use Rattle.label_pricing.specs.Pricing.{HasRoom}
 use Rattle.node_limits.specs.Trail.{Trail}
@@ -54,7 +55,7 @@ examine-found-requires-clause-bound g c =
 pub examine-found-requires-clause-best : goal.examine-found-requires-clause-best
 examine-found-requires-clause-best g c =
     let e = there c.args.limits.now c.reserve.new.self c.descend.new.limits c.args.turns.now (ap (λ (t : Trail). t.limits) c.in_ok-reserve.ensures.ok) c.descend.ensures in
-    subst (λ (n : Limits). c.args.best ≤ tasks_in n) (sym e) c.requires.best
+    subst (λ (n : Limits). unassigned_count c.args.best.now ≤ tasks_in n) (sym e) c.requires.best
 
 pub examine-found-requires-clause-room : goal.examine-found-requires-clause-room
 examine-found-requires-clause-room g c =
@@ -72,7 +73,7 @@ ascend-requires g c =
 pub returns-clause-found : goal.returns-clause-found
 returns-clause-found g c =
     let e = there c.args.limits.now c.reserve.new.self c.descend.new.limits c.args.turns.now (ap (λ (t : Trail). t.limits) c.in_ok-reserve.ensures.ok) c.descend.ensures in
-    subst (λ (n : Limits). IfOk c.examine-found.result (IsFinding n c.args.best c.args.effort.now.pivots (g.C.Columns.columns c.args.columns.now)
+    subst (λ (n : Limits). IfOk c.examine-found.result (IsFinding n (unassigned_count c.args.best.now) c.args.effort.now.pivots (g.C.Columns.columns c.args.columns.now)
     (g.C.Columns.columns c.examine-found.new.columns) c.args.own.now)) e c.examine-found.ensures.found
 
 pub returns-clause-extends : goal.returns-clause-extends

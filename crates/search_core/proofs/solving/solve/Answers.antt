@@ -3,22 +3,25 @@ use Rattle.std.specs.Prelude.{IfOk}
 use Rattle.std.proofs.lemmas.Grind.{common_steps}
 use Rattle.std.proofs.lemmas.List.{append-nil}
 use Rattle.crew_terms.specs.Instance.{Instance}
-use Rattle.crew_terms.specs.Limits.{Route}
+use Rattle.crew_terms.specs.Leaf.{zero_prices}
+use Rattle.crew_terms.specs.Limits.{Route, root_limits}
 use Rattle.search_core.specs.Searching.{state_of, way_to}
-use Rattle.search_core.specs.Steps.{IsDone, IsOutcome, IsSolved}
+use Rattle.search_core.specs.Steps.{IsDone, IsOutcome, IsShownOutcome, IsSolved}
 use Rattle.search_core.specs.declared.causes.Outcome.{Outcome}
 use Rattle.search_terms.specs.Search.{Goes, IsSearchRun, IsSearchStep, Starts}
 use Rattle.search_terms.specs.declared.TheConstants.{PIVOTS}
+use Rattle.search_core.proofs.Showing.{start_shown}
 use Rattle.search_core.proofs.solving.solve.Goals as goal
 
-ok_follows : {X E : Type 0} {A B : X → Type 0} (r : Result X E) → ((x : X) → A x → B x) → IfOk r A → IfOk r B
-ok_follows (Ok x) f a = f x a
-ok_follows (Err e) f a = tt
+ok_both : {X E : Type 0} {A B C : X → Type 0} (r : Result X E) → ((x : X) → A x → B x → C x) → IfOk r A → IfOk r B → IfOk r C
+ok_both (Ok x) f a b = f x a b
+ok_both (Err e) f a b = tt
 
 pub loop-key-init : goal.loop-key-init
 loop-key-init g c = record {
   run = λ held. Starts (state_of held c.in_ok-search.search) (c.in_ok-search.ensures.start held);
   instance = c.in_ok-search.ensures.instance;
+  shown = start_shown (g.C.Columns.columns c.args.columns.now) c.in_ok-search.search (zero_prices (root_limits c.args.instance.now)) (c.in_ok-search.ensures.start []).tree;
   grown = record { added = []; all = sym (append-nil (g.C.Columns.columns c.args.columns.now)) };
 }
 
@@ -36,6 +39,7 @@ loop-key-preserved g c =
       run = λ held. Goes was pool (state_of held s) (state_of held t) way (inv.run held)
           (subst (λ (i : Instance). IsSearchStep i way PIVOTS was pool (state_of held s) (state_of held t)) inv.instance (step.step held));
       instance = step.instance ∙ inv.instance;
+      shown = step.shown inv.shown;
       grown = record {
         added = inv.grown.added ++ more.added;
         all = more.all ∙ ap (λ (xs : List Route). xs ++ more.added) inv.grown.all
@@ -51,9 +55,10 @@ returns-clause-outcome g c =
     let pool = g.C.Columns.columns c.loop-key.columns in
     let done : IsDone s.instance (state_of pool s) = first_of (search rules, grind (arith, common_steps, c.due.ensures.done pool)) in
     subst (λ (i : Instance). IfOk c.close.result (IsSolved i c.args.nodes kept pool)) inv.instance
-    (ok_follows c.close.result (λ (o : Outcome) (is : IsOutcome s.instance pool (state_of pool s) o). record {
+    (ok_both c.close.result (λ (o : Outcome) (is : IsOutcome s.instance pool (state_of pool s) o) (shows : IsShownOutcome s.instance pool (state_of pool s) o). record {
       state = state_of pool s;
       run = subst (λ (i : Instance). IsSearchRun i c.args.nodes kept pool (state_of pool s)) (sym inv.instance) (inv.run pool);
       outcome = is;
+      shown = shows;
       done = done;
-    }) (c.close.ensures pool))
+    }) (c.close.ensures.outcome pool) (c.close.ensures.shown pool inv.shown))

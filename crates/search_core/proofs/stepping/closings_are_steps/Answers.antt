@@ -20,6 +20,7 @@ use Rattle.search_tree.specs.Numbered.{node_of, tree_of, way_of, with_content}
 use Rattle.search_tree.specs.Ways.{turns_of}
 use Rattle.search_core.proofs.Exploring.{after_instance}
 use Rattle.search_core.proofs.StepLemmas.{handed_more, handed_shapes, improves, now_is, price_last, price_stays, same_shape, way_is}
+use Rattle.search_core.proofs.Showing.{shown_closed}
 use Rattle.search_core.proofs.stepping.closings_are_steps.Goals as goal
 
 pub returns : goal.returns
@@ -75,6 +76,7 @@ returns x = λ s key n own pivots bound columns more found kept keyed prices ins
       record {
         instance = refl;
         budget = refl;
+        shown = shown_closed s columns more N.instance N found extends plan key n keyed prices kept put;
         step = λ held. subst (λ (y : List Side). IsSearchStep i y pivots columns more (state_of held s) (state_of held t)) (sym way) (step held);
         stay = λ other ne o.
             let v = taken.stays other o.0 o.1 ne o.2 in

@@ -2,7 +2,8 @@ use Rattle.std.proofs.Common.{◌≡◌, ◌≢◌, ◌≤◌, ◌<◌, ◌+◌,
 use Rattle.std.specs.Prelude.{All, unwrap_or}
 use Rattle.std.proofs.lemmas.List.{length-append, length-set}
 use Rattle.crew_terms.specs.Leaf.{Prices}
-use Rattle.crew_terms.specs.Limits.{Limits, Route, root_limits}
+use Rattle.crew_terms.specs.Instance.{Instance}
+use Rattle.crew_terms.specs.Limits.{Limits, Route, root_limits, tasks_in}
 use Rattle.crew_terms.specs.Plan.{unassigned_count}
 use Rattle.crew_terms.specs.Tree.{child}
 use Rattle.crew_terms.specs.declared.Side.{Side}
@@ -14,10 +15,12 @@ use Rattle.keyed_tree.specs.Numbers.{HasNumber, HaveNumbers}
 use Rattle.node_solver.specs.Plans.{now_after}
 use Rattle.search_core.specs.Searching.{Searching, cause_at, price_at, split_cause, state_of, way_to}
 use Rattle.search_core.specs.Settled.{number_of}
+use Rattle.search_core.specs.Shown.{IsShownCause, numbered}
 use Rattle.search_core.specs.Steps.{after_step}
 use Rattle.search_core.specs.declared.causes.Cause.{Cause}
 use Rattle.search_terms.specs.Search.{IsHandedOn, IsSearchStep, IsSplit, Then}
 use Rattle.search_terms.specs.SearchTree.{SplitCause}
+use Rattle.search_terms.specs.Ways.{limits_at}
 use Rattle.search_tree.specs.declared.nodes.Content.{Content}
 use Rattle.search_tree.specs.declared.nodes.Content.TheVariants as content
 use Rattle.search_tree.specs.declared.nodes.Node.{Node}
@@ -25,6 +28,8 @@ use Rattle.search_tree.specs.Numbered.{leaf_below, node_of, tree_of, way_of, wit
 use Rattle.search_tree.specs.Ways.{turns_of}
 use Rattle.search_core.proofs.Exploring.{after_instance}
 use Rattle.search_core.proofs.StepLemmas.{cause_last, cause_stays, earned_any, handed_known, handed_more, handed_price, handed_shapes, improves, now_is, price_stays, same_shape, way_is}
+use Rattle.search_core.proofs.Keeping.{few_unassigned}
+use Rattle.search_core.proofs.Showing.{plan_less, same_limits, shown_split}
 use Rattle.search_core.proofs.stepping.splits_are_steps.Goals as goal
 
 -- the prices of before stay
@@ -68,6 +73,18 @@ returns x = λ s key n own pivots bound columns more found choice why handed key
       earned = earned_any N (now_after (unassigned_count s.plan) found) pivots splits.found more more held why splits.earned;
       on = subst (λ (p : Prices). IsHandedOn N (price_at s.prices own) splits.found p) (sym price) splits.on.on;
     })) in
+    let has = x.run_leaves.ensures i s.budget s.left key n own bound (price_at s.prices) (cause_at [] s.causes) s.plan s.keyed inst (is.run []) was w content_is in
+    let at : (p : ℕ → Prices) → limits_at root (tree_of p numbered s.keyed.nodes) (way_of s.keyed.nodes n) ≡ N =
+    λ p. same_limits p (price_at s.prices) numbered (cause_at [] s.causes) (length s.keyed.nodes) s.keyed.nodes 0 (way_of s.keyed.nodes n) root ∙ has.limits in
+    let here : IsShownCause more (unassigned_count better) N the_cause = record {
+      some = splits.some;
+      known = let all : tasks_in N ≡ length i.tasks = ap (λ (j : Instance). length j.tasks) same in
+          let few = few_unassigned i s.plan (x.run_keeps.ensures.plan i s.budget (state_of [] s) (is.run [])) in
+          let fewer = plan_less N.instance s.plan found plan in
+          omega (arith, all, few, fewer, count);
+      enough = omega (arith, count);
+      why = splits.shown;
+    } in
     let less : s.left - 1 + 1 ≡ s.left = omega arith in
     let step : (held : List Route) → IsSearchStep i (way_of s.keyed.nodes n) pivots columns more (state_of held s) (state_of held t) =
     λ held. subst (λ left. IsSearchStep i (way_of s.keyed.nodes n) pivots columns more
@@ -111,6 +128,7 @@ returns x = λ s key n own pivots bound columns more found choice why handed key
       record {
         instance = refl;
         budget = refl;
+        shown = shown_split s columns more N.instance N found extends plan key n own choice the_cause handed keyed prices causes put at here;
         step = λ held. subst (λ (y : List Side). IsSearchStep i y pivots columns more (state_of held s) (state_of held t)) (sym way) (step held);
         stay = λ other ne o.
             let v = turned.stays other o.0 o.1 ne o.2 in

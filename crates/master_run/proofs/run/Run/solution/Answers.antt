@@ -16,7 +16,7 @@ use Rattle.master_run.specs.Kept.{kept}
 use Rattle.master_run.specs.Shares.{fractional_of}
 use Rattle.master_run.proofs.Growing.{legal_are}
 use Rattle.master_run.proofs.Rounded.{overflow_here}
-use Rattle.master_run.proofs.Solved.{gives_shares, shares_legal, solution_is, solution_positive}
+use Rattle.master_run.proofs.Solved.{gives_shares, shares_legal, solution_is, solution_positive, solution_rises}
 use Rattle.master_run.proofs.run.Run.solution.Goals as goal
 
 pub returns-in_err-den-clause-halts : goal.returns-in_err-den-clause-halts
@@ -58,6 +58,15 @@ returns-clause-legal c = λ n columns over.
     let opened = c.shares.new.left_open.items in
     let gives = subst (λ (r : Result ℤ Overflow). GivesShares n old.master r out opened) c.in_ok-den.was (c.in_ok-shares.ensures.shares n is.at.along.follows.places) in
     shares_legal n columns old c.in_ok-den.den out opened is (gives_shares n old.master c.in_ok-den.den out opened is.at.along.follows.going gives)
+
+pub returns-clause-rise : goal.returns-clause-rise
+returns-clause-rise c = λ n columns over.
+    let old = kept c.self.inside in
+    let is : IsOver n columns old = subst (IsOver n columns) (sym c.self.view_is) over in
+    let out = c.shares.new.out.items in
+    let opened = c.shares.new.left_open.items in
+    let gives = subst (λ (r : Result ℤ Overflow). GivesShares n old.master r out opened) c.in_ok-den.was (c.in_ok-shares.ensures.shares n is.at.along.follows.places) in
+    solution_rises n columns old c.in_ok-den.den out opened is (gives_shares n old.master c.in_ok-den.den out opened is.at.along.follows.going gives)
 
 pub returns-clause-choice : goal.returns-clause-choice
 returns-clause-choice c = λ n columns over.

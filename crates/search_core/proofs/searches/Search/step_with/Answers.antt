@@ -150,8 +150,7 @@ explore-requires-clause-best g c =
     let here : IsSite (limits_of i a.keyed leaf.node) price leaf.bound (unassigned_count a.plan) =
     site a c.args.key leaf.node leaf.prices leaf.bound price c.self.invariant c.leaf-leaf.ensures.waits has known c.index-own.ensures keepable in
     let at = site_limits a leaf.node c.deref.result.now c.self.invariant turns in
-    subst (λ (n : Limits). c.unassigned-best.result ≤ tasks_in n) (sym at)
-    (subst (λ b. b ≤ tasks_in (limits_of i a.keyed leaf.node)) (sym c.unassigned-best.ensures) here.few)
+    subst (λ (n : Limits). unassigned_count a.plan ≤ tasks_in n) (sym at) here.few
 
 pub returns-in_err-plan-clause-columns : goal.returns-in_err-plan-clause-columns
 returns-in_err-plan-clause-columns g c =
@@ -229,8 +228,8 @@ invariant_of-self-2 g c =
     let own : price ≡ price_at a.prices.items leaf.prices =
     c.index-own.ensures ∙ get_or_default a.prices.items leaf.prices price (record { pi = []; rho = [] }) known in
     let finding : IsFinding (limits_of i a.keyed leaf.node) (unassigned_count a.plan) c.args.pivots columns more (price_at a.prices.items leaf.prices) c.in_ok-plan.field-0 =
-    found_at (limits_after a.limits.limits c.deref.result.now) (limits_of i a.keyed leaf.node) c.unassigned-best.result (unassigned_count a.plan)
-    c.at-effort.result.pivots c.args.pivots columns more price (price_at a.prices.items leaf.prices) c.in_ok-plan.field-0 at c.unassigned-best.ensures
+    found_at (limits_after a.limits.limits c.deref.result.now) (limits_of i a.keyed leaf.node) (unassigned_count a.plan) (unassigned_count a.plan)
+    c.at-effort.result.pivots c.args.pivots columns more price (price_at a.prices.items leaf.prices) c.in_ok-plan.field-0 at refl
     c.at-effort.ensures own c.in_ok-plan.ensures.found in
     let now = now_after (unassigned_count a.plan) found in
     let count : c.count_after-now.result ≡ now = c.count_after-now.ensures ∙ ap (λ b. now_after b found) c.unassigned-best.ensures in
@@ -279,8 +278,8 @@ returns-clause-ok g c =
     let own : price ≡ price_at a.prices.items leaf.prices =
     c.index-own.ensures ∙ get_or_default a.prices.items leaf.prices price (record { pi = []; rho = [] }) known in
     let finding : IsFinding (limits_of i a.keyed leaf.node) (unassigned_count a.plan) c.args.pivots columns more (price_at a.prices.items leaf.prices) c.in_ok-plan.field-0 =
-    found_at (limits_after a.limits.limits c.deref.result.now) (limits_of i a.keyed leaf.node) c.unassigned-best.result (unassigned_count a.plan)
-    c.at-effort.result.pivots c.args.pivots columns more price (price_at a.prices.items leaf.prices) c.in_ok-plan.field-0 at c.unassigned-best.ensures
+    found_at (limits_after a.limits.limits c.deref.result.now) (limits_of i a.keyed leaf.node) (unassigned_count a.plan) (unassigned_count a.plan)
+    c.at-effort.result.pivots c.args.pivots columns more price (price_at a.prices.items leaf.prices) c.in_ok-plan.field-0 at refl
     c.at-effort.ensures own c.in_ok-plan.ensures.found in
     let now = now_after (unassigned_count a.plan) found in
     let count : c.count_after-now.result ≡ now = c.count_after-now.ensures ∙ ap (λ b. now_after b found) c.unassigned-best.ensures in
