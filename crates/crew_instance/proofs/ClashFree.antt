@@ -1,12 +1,11 @@
 -- a plan whose jobs are good and whose teams have no clash is feasible, and no other plan is
-use Rattle.std.proofs.Common.{◌≡◌, ◌≢◌, ◌≤◌, ◌<◌, ◌+◌, ◌⊎◌, inl, inr, ℕ, zero, suc, List, ◌∷◌, ◌++◌, length, None, Some, arith, sym, refl, subst, ap, ◌∙◌}
+use Rattle.std.proofs.Common.{◌≡◌, ◌≢◌, ◌≤◌, ◌<◌, ◌+◌, ◌⊎◌, inl, inr, ℕ, zero, suc, List, ◌∷◌, ◌++◌, length, Some, arith, sym, refl, subst, ap, ◌∙◌}
 use Rattle.std.specs.Prelude.{Contains, ◌↔◌}
 use Rattle.std.proofs.lemmas.List.Elements.{All-get_or, Contains-append_right}
 use Rattle.std.proofs.lemmas.Bool.{cases_lt}
-use Rattle.std.proofs.Math.ListN.{get_or-eq_default}
 use Rattle.crew_terms.specs.Instance.{Instance, task_of, no_task, CanFollow}
 use Rattle.crew_terms.specs.Rules.{IsInstance, IsTask}
-use Rattle.crew_terms.specs.Plan.{Plan, Job, job_of, Does}
+use Rattle.crew_terms.specs.Plan.{Plan, Job, Does}
 use Rattle.crew_terms.specs.Legal.{IsJob, IsFeasible}
 use Rattle.crew_terms.specs.Verdict.{IsBefore, HasNoClash, AreJobsBelow, IsPlanOf, IsFeasibility, Feasible, BadJob, BadTeam, IsJobFault, Outside, Miscounted, OfTeam, Unskilled, OffShift}
 use Rattle.crew_terms.specs.declared.PlanVerdict.{PlanVerdict}

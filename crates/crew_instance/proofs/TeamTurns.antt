@@ -7,10 +7,10 @@ use Rattle.std.proofs.lemmas.Bool.{cases_lt, cases_order}
 use Rattle.std.proofs.lemmas.List.{get_or_default}
 use Rattle.std.proofs.lemmas.List.Elements.{Contains-get_or}
 use Rattle.std.proofs.lemmas.List.Sorted.{Contains-permutation, IsPermutation-sym, length_permutation}
-use Rattle.crew_terms.specs.Instance.{Instance, CanFollow, task_of}
+use Rattle.crew_terms.specs.Instance.{Instance, CanFollow}
 use Rattle.crew_terms.specs.Plan.{Plan, Does}
-use Rattle.crew_terms.specs.Verdict.{IsBefore, IsNext, HasNoClash, IsFirstClash, AreJobsBelow}
-use Rattle.crew_terms.specs.Nodes.{job_known, task_known}
+use Rattle.crew_terms.specs.Verdict.{IsBefore, IsNext, HasNoClash, IsFirstClash}
+use Rattle.crew_terms.specs.Nodes.{task_known}
 use Rattle.crew_instance.specs.declared.turns.Turn.{Turn}
 use Rattle.crew_instance.specs.Turns.{IsInOrder, AreTurns}
 use Rattle.crew_instance.proofs.ClashFree.{one_start}

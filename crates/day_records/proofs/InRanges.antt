@@ -1,7 +1,6 @@
 -- the numbers of an entry that a record says lie in their ranges
 use Rattle.std.proofs.Common.{◌≡◌, ◌≤◌, ◌<◌, ℕ, zero, suc, pos, List, [], ◌∷◌, Ok, Option, length, get_or, sym, subst, arith}
-use Rattle.std.specs.Prelude.{Contains, All}
-use Rattle.std.specs.List.{AllByRecursion}
+use Rattle.std.specs.Prelude.{All}
 use Rattle.std.proofs.lemmas.Int.{ints}
 use Rattle.crew_terms.specs.Words.{Words}
 use Rattle.field_table.specs.Fields.{Accepts}

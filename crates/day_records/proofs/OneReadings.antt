@@ -1,11 +1,10 @@
 -- a record says one thing, and a text has one reading
-use Rattle.std.proofs.Common.{◌≡◌, ◌≢◌, ◌<◌, ◌+◌, ◌*◌, ◌/◌, ◌%◌, ◌^◌, ◌++◌, inl, inr, ℕ, zero, suc, ℤ, pos, List, [], ◌∷◌, Result, Ok, Err, Option, Some, length, get_or, refl, sym, subst, ap, ◌∙◌, arith, pow-suc}
-use Rattle.std.specs.Prelude.{Contains, bytes_eq, codes, if◌then◌else◌}
+use Rattle.std.proofs.Common.{◌≡◌, ◌<◌, ◌+◌, ◌*◌, ◌/◌, ◌%◌, ◌^◌, ◌++◌, inl, inr, ℕ, zero, suc, ℤ, pos, List, [], ◌∷◌, Result, Ok, Err, Option, Some, length, refl, sym, subst, ap, ◌∙◌, arith, pow-suc}
+use Rattle.std.specs.Prelude.{bytes_eq, codes, if◌then◌else◌}
 use Rattle.std.specs.List.{AllByRecursion, AllZip}
 use Rattle.std.specs.Int.{bit_at}
 use Rattle.std.proofs.lemmas.Bool.{cases_eq}
 use Rattle.std.proofs.lemmas.Int.{ints}
-use Rattle.std.proofs.lemmas.List.{get_or-map, get_or_default}
 use Rattle.std.proofs.lemmas.Nat.Bits.{bit_at-lt, bit_at-suc, bit_at_lowest}
 use Rattle.crew_terms.specs.Words.{Words}
 use Rattle.crew_terms.specs.Name.{IsName}
@@ -17,7 +16,7 @@ use Rattle.field_table.specs.declared.fields.Cause.TheVariants.{Count, Spelling,
 use Rattle.field_table.specs.declared.fields.Field.{Field}
 use Rattle.field_table.specs.declared.fields.FieldFault.{FieldFault}
 use Rattle.day_terms.specs.Records.{field_of}
-use Rattle.day_terms.specs.Forms.{Form, form_of, Slot, Value, Maker}
+use Rattle.day_terms.specs.Forms.{form_of, Slot, Value, Maker}
 use Rattle.day_terms.specs.Forms.Slot.{Named, Ranged, Skilled}
 use Rattle.day_terms.specs.Fields.{SpellAll, IsSkill, IsSetOf, skill_words, name_field, field_in, Gives, IsBad, AllGive, IsFirstBad}
 use Rattle.day_terms.specs.Days.{IsCounted, IsOfKind, ReadsRecord, SayEntries, ReadsRecords}

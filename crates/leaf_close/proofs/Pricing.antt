@@ -1,7 +1,7 @@
 -- prices that are set one after the other
-use Rattle.std.proofs.Common.{◌≡◌, ◌≤◌, ◌<◌, ◌+◌, ◌⊎◌, inl, inr, ℕ, ℤ, pos, true, false, cond, eqb, List, [], length, get_or, set, replicate, refl, sym, ap, subst, arith, ◌∙◌}
-use Rattle.std.proofs.lemmas.Bool.{cases_lt, cases_eq, eq-eqb, ne_eqb}
-use Rattle.std.proofs.lemmas.List.{get_or-replicate, get_or_past, get_or-set_same, get_or-set_other, length-replicate, length-set}
+use Rattle.std.proofs.Common.{◌≡◌, ◌≤◌, ◌<◌, ◌+◌, ◌⊎◌, inl, inr, ℕ, ℤ, pos, true, false, cond, eqb, List, [], length, get_or, set, refl, sym, ap, subst, arith, ◌∙◌}
+use Rattle.std.proofs.lemmas.Bool.{cases_eq, eq-eqb, ne_eqb}
+use Rattle.std.proofs.lemmas.List.{get_or-set_same, get_or-set_other, length-replicate, length-set}
 use Rattle.std.proofs.lemmas.List.Elements.{All-get_or}
 use Rattle.crew_terms.specs.Leaf.{Prices, pi_of, rho_of}
 use Rattle.crew_terms.specs.Limits.{Limits, IsLimits, is_required, pair_of, tasks_in, teams_in}

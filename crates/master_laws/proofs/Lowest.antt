@@ -1,22 +1,21 @@
 -- the rows of a run are in lowest terms: no number but 1 divides all numbers of a row
-use Rattle.std.proofs.Common.{◌≡◌, ◌≢◌, ◌<◌, ◌+◌, ◌*◌, ◌∙◌, ℕ, suc, List, [], ◌∷◌, ◌++◌, length, get_or, refl, ap, sym, arith, subst, ◌⊎◌, inl, inr, length-append}
-use Rattle.std.specs.Prelude.{ℤ, pos, ◌*ℤ◌, unsigned_abs}
+use Rattle.std.proofs.Common.{◌≡◌, ◌<◌, ◌*◌, ◌∙◌, ℕ, suc, List, [], ◌∷◌, ◌++◌, length, get_or, ap, sym, arith, subst, length-append}
+use Rattle.std.specs.Prelude.{pos, unsigned_abs}
 use Rattle.std.specs.Int.{◌∣◌}
-use Rattle.std.proofs.lemmas.Int.{ints, unsigned_abs-mul}
+use Rattle.std.proofs.lemmas.Int.{unsigned_abs-mul}
 use Rattle.std.proofs.lemmas.List.{get_or_append_left}
 use Rattle.std.proofs.Math.Nat.{dvd_of_mul-dvd-mul_left, eq-one_of_dvd-one, mul-dvd-mul_left}
 use Rattle.crew_terms.specs.Limits.{Limits, Route}
 use Rattle.search_terms.specs.Rows.{Row, Rows, number, row_of}
-use Rattle.search_terms.specs.Opening.{places, opening, opening_basis, entry, entered}
-use Rattle.search_terms.specs.Pivot.{IsReplaced, cleared}
-use Rattle.search_terms.specs.MasterRun.{MasterRun, IsMasterRun}
+use Rattle.search_terms.specs.Opening.{places, opening, opening_basis, entry}
+use Rattle.search_terms.specs.Pivot.{IsReplaced}
+use Rattle.search_terms.specs.MasterRun.{MasterRun}
 use Rattle.search_terms.specs.MasterRun.MasterRun.{Opens, Pivots, Enters}
 use Rattle.master_laws.proofs.Solutions.{by_row}
 use Rattle.master_laws.proofs.Entering.{count_entered, row_entered}
 use Rattle.master_laws.proofs.Positions.{count, rows_count, openers_count, opening_width}
-use Rattle.master_laws.proofs.Opened.{own_one, basic_opening}
+use Rattle.master_laws.proofs.Opened.{own_one}
 use Rattle.master_laws.proofs.Costs.{opening_within}
-use Rattle.master_laws.proofs.Runs.{of_run}
 
 -- d divides each number of the row
 abbrev pub DividesAll : ℕ → Row → Type 0

@@ -1,18 +1,17 @@
 -- what stands in the places of a node; a run over a list is a run
-use Rattle.std.proofs.Common.{◌≡◌, ◌<◌, ◌∙◌, ℕ, suc, zero, List, [], ◌∷◌, ◌++◌, length, get_or, ap, sym, arith, subst, Contains, ◌↔◌, refl, true}
+use Rattle.std.proofs.Common.{◌≡◌, ◌<◌, ◌∙◌, ℕ, suc, zero, List, ap, sym, arith, Contains, ◌↔◌, refl, true}
 use Rattle.std.proofs.lemmas.List.{get_or_default}
-use Rattle.crew_terms.specs.Limits.{Limits, Route, tasks_in, teams_in, pair_of, has_required, is_required}
+use Rattle.crew_terms.specs.Limits.{Limits, Route, tasks_in, teams_in, pair_of, is_required}
 use Rattle.crew_terms.specs.declared.Pair.{Pair}
 use Rattle.crew_terms.specs.declared.Pair.TheVariants.{Free, Forbidden, Required}
 use Rattle.search_terms.specs.declared.Place.{Place}
-use Rattle.search_terms.specs.declared.Place.TheVariants.{Right, Value, Unused, Unassigned, Shortage, Missed}
+use Rattle.search_terms.specs.declared.Place.TheVariants.{Right, Value, Unused, Shortage, Missed}
 use Rattle.search_terms.specs.Rows.{Rows}
-use Rattle.search_terms.specs.Opening.{places, place_at}
-use Rattle.search_terms.specs.MasterRun.{MasterRun, IsMasterRun, IsRunOver}
+use Rattle.search_terms.specs.Opening.{places}
+use Rattle.search_terms.specs.MasterRun.{MasterRun, IsMasterRun}
 use Rattle.search_terms.specs.MasterRun.MasterRun.{Opens, Pivots, Enters}
-use Rattle.search_terms.specs.declared.TheConstants.{VALUE}
-use Rattle.master_laws.proofs.Stands.{Stands, unused_stands, unassigned_stands, shortage_stands, missed_stands}
-use Rattle.master_laws.proofs.Known.{IsPairOf, IsFreeTask, stands_known}
+use Rattle.master_laws.proofs.Stands.{Stands, unused_stands, shortage_stands, missed_stands}
+use Rattle.master_laws.proofs.Known.{stands_known}
 
 contained : (n : Limits) (p : Place) → Stands n p → Contains (places n) p
 contained n p s = (s.at, s.known, get_or_default (places n) s.at p Right s.known ∙ s.is)

@@ -1,31 +1,31 @@
 -- in a run the shares of routes and of unassigned tasks are at most whole: the unassigned share and the excess of a task
 -- are never both basic
-use Rattle.std.proofs.Common.{◌≡◌, ◌≢◌, ◌≤◌, ◌<◌, ◌+◌, ◌-◌, ◌∙◌, ℕ, suc, zero, List, length, get_or, refl, ap, sym, arith, subst, Bool, true, false, cond, ◌⊎◌, inl, inr}
+use Rattle.std.proofs.Common.{◌≡◌, ◌≢◌, ◌≤◌, ◌<◌, ◌+◌, ◌∙◌, ℕ, suc, zero, List, length, get_or, refl, ap, sym, arith, subst, Bool, true, false, cond, ◌⊎◌, inl, inr}
 use Rattle.std.specs.Prelude.{ℤ, pos, negsuc, ◌+ℤ◌, ◌-ℤ◌, ◌*ℤ◌, ◌≤ℤ◌, ◌<ℤ◌, All}
 use Rattle.std.proofs.Math.Dec.{eqb}
 use Rattle.std.proofs.lemmas.Bool.{cases_eq, cases_lt}
 use Rattle.std.proofs.lemmas.Bool.Decides.{eqb_tells}
 use Rattle.std.proofs.lemmas.Int.{ints}
 use Rattle.std.proofs.Math.IntN.{*ℤ_comm, *ℤ-zero, zero-*ℤ}
-use Rattle.std.proofs.lemmas.List.{get_or_past, get_or_default}
+use Rattle.std.proofs.lemmas.List.{get_or_past}
 use Rattle.std.proofs.lemmas.List.FromFn.{length-map-range_with_len, get_or-map-range_with_len}
 use Rattle.std.specs.Prelude.{map}
 use Rattle.crew_terms.specs.Limits.{Limits, Route, tasks_in, teams_in}
 use Rattle.crew_terms.specs.Total.{total}
 use Rattle.search_terms.specs.declared.Place.{Place}
 use Rattle.search_terms.specs.declared.Place.TheVariants.{Right, Value, Unused, Unassigned, Shortage, Excess, Missed, Repeated}
-use Rattle.search_terms.specs.Rows.{Row, Rows, number, row_of, basic_of, last, width, product, IsSolution, AreBasic, AreFeasible}
-use Rattle.search_terms.specs.Opening.{places, place_at, basic_at, basic_number, one_if, opening, opening_basis, teams_for, variables, visit_number}
+use Rattle.search_terms.specs.Rows.{Row, Rows, number, row_of, basic_of, last, width, product, IsSolution, AreBasic}
+use Rattle.search_terms.specs.Opening.{places, place_at, basic_at, basic_number, one_if, opening, teams_for, variables, visit_number}
 use Rattle.search_terms.specs.MasterRun.{MasterRun, IsMasterRun}
 use Rattle.search_terms.specs.MasterRun.MasterRun.{Opens, Pivots, Enters}
 use Rattle.search_terms.specs.Shares.{unassigned_of}
-use Rattle.search_terms.specs.BasicChoice.{AreWholeParts, choice_of, is_unassigned_at}
-use Rattle.search_terms.specs.declared.TheConstants.{RIGHT, VALUE}
+use Rattle.search_terms.specs.BasicChoice.{AreWholeParts, choice_of}
+use Rattle.search_terms.specs.declared.TheConstants.{VALUE}
 use Rattle.master_laws.proofs.Below.{below}
-use Rattle.ring_laws.specs.Ring.{not_negative, cancel_up_to, times_up_to, cancel_positive}
+use Rattle.ring_laws.specs.Ring.{not_negative, cancel_up_to, times_up_to}
 use Rattle.crew_terms.specs.Totals.{total-same, lt_or_last}
 use Rattle.master_laws.proofs.Solutions.{solves_next}
-use Rattle.master_laws.proofs.Entering.{AreWithin, folded, stand_in, solves_unfolded, spike, spike-other, product_plus, product_spike}
+use Rattle.master_laws.proofs.Entering.{folded, stand_in, solves_unfolded, spike, spike-other, product_plus, product_spike}
 use Rattle.master_laws.proofs.Runs.{of_run}
 use Rattle.master_laws.proofs.Positions.{count, rows_count, opening_width, basic_at_number, wide_opening, last_position}
 use Rattle.master_laws.proofs.Opened.{basic_opening, own_one}
@@ -33,12 +33,12 @@ use Rattle.master_laws.proofs.Costs.{opening_within}
 use Rattle.master_laws.proofs.Bounded.{cofactors, total-not_negative}
 use Rattle.master_laws.proofs.Basic.{IsBasicSolution, basic_solution, row_numbers, whole_of, parts_by}
 use Rattle.master_laws.proofs.Duals.{no_route}
-use Rattle.master_laws.proofs.Known.{amount, amount-none, amount-low, Picks, variable_at}
-use Rattle.master_laws.proofs.Stands.{Stands, shortage_stands, excess_stands, unused_stands, opens_row}
-use Rattle.master_laws.proofs.Amounts.{open_at, short_at, over_at, unused_at, picks_open, picks_short, picks_over, picks_unused, taken, team_sum, task_sum}
+use Rattle.master_laws.proofs.Known.{amount, amount-none, amount-low, Picks}
+use Rattle.master_laws.proofs.Stands.{shortage_stands, excess_stands, unused_stands, opens_row}
+use Rattle.master_laws.proofs.Amounts.{open_at, short_at, over_at, unused_at, picks_open, picks_short, picks_over, picks_unused, team_sum, task_sum}
 use Rattle.master_laws.proofs.Summed.{IsSummed, summed_run}
 use Rattle.master_laws.proofs.Laws.{feasible_of}
-use Rattle.master_laws.proofs.Choice.{AreAll, AreSame, open_parts, open_same, same_parts}
+use Rattle.master_laws.proofs.Choice.{AreAll, open_parts, open_same, same_parts}
 
 -- ---- a vector that solves the opening rows and has nothing at routes solves the rows of a run
 same_product : (row : Row) (x y : ℕ → ℤ) → ((j : ℕ) → x j ≡ y j) → product row x ≡ product row y

@@ -1,9 +1,9 @@
 -- routes of a decided node
-use Rattle.std.proofs.Common.{◌≡◌, ◌≢◌, ◌≤◌, ◌<◌, ◌+◌, ℕ, zero, suc, Bool, true, false, cond, List, [], ◌∷◌, refl, ap, sym, subst, arith, ◌∙◌, eqb, ◌⊎◌, inl, inr}
-use Rattle.std.proofs.lemmas.Bool.{cases_eq, cases_lt, eq-eqb, ne_eqb, or_left, or_right}
+use Rattle.std.proofs.Common.{◌≡◌, ◌≢◌, ◌≤◌, ◌<◌, ◌+◌, ℕ, suc, Bool, true, false, cond, List, [], ◌∷◌, refl, ap, sym, subst, arith, ◌∙◌, eqb, ◌⊎◌, inl, inr}
+use Rattle.std.proofs.lemmas.Bool.{cases_eq, eq-eqb, ne_eqb}
 use Rattle.std.proofs.lemmas.List.Sums.{sum_by-cons}
 use Rattle.crew_terms.specs.Rules.{IsInstance}
-use Rattle.crew_terms.specs.Limits.{Limits, IsRoute, GoesOn, IsPermittedVisit, IsPermittedStep, teams_in, pair_of, any_below}
+use Rattle.crew_terms.specs.Limits.{Limits, IsRoute, GoesOn, IsPermittedVisit, IsPermittedStep, teams_in, pair_of}
 use Rattle.crew_terms.specs.declared.Pair.{Pair}
 use Rattle.crew_terms.specs.declared.Pair.TheVariants.{Free, Forbidden, Required}
 use Rattle.crew_terms.specs.declared.Visit.{Visit}

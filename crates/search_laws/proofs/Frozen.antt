@@ -1,17 +1,16 @@
 -- a node inside the root has the frozen jobs among its required pairs
 use Rattle.std.proofs.Common.{◌≡◌, ◌≤◌, ◌<◌, ℕ, zero, suc, true, false, cond, List, [], ◌∷◌, length, get_or, refl, ap, sym, ◌∙◌, arith, eqb, ◌⊎◌, inl, inr, None, Some}
-use Rattle.std.specs.Prelude.{Contains, slice_index_or, map}
-use Rattle.std.specs.List.{list_any, range_with_len}
+use Rattle.std.specs.Prelude.{Contains}
+use Rattle.std.specs.List.{list_any}
 use Rattle.std.proofs.lemmas.Bool.{both_ways, cases_Bool, cases_lt, eqb-true, eq-eqb, or_cases, or_left, or_right}
 use Rattle.std.proofs.lemmas.List.{get_or_past}
-use Rattle.std.proofs.lemmas.List.FromFn.{get_or-map-range_with_len}
-use Rattle.crew_terms.specs.Instance.{Instance, task_of, no_task}
+use Rattle.crew_terms.specs.Instance.{task_of, no_task}
 use Rattle.crew_terms.specs.Rules.{IsInstance}
 use Rattle.crew_terms.specs.Plan.{Plan, Job, job_of}
 use Rattle.crew_terms.specs.Legal.{IsJob, KeepsFrozen}
-use Rattle.crew_terms.specs.Limits.{Limits, IsLimits, tasks_in, teams_in, window_of, pair_of, root_limits, root_window, root_pair, is_required, has_required}
+use Rattle.crew_terms.specs.Limits.{Limits, IsLimits, tasks_in, teams_in, pair_of, root_limits, root_window, root_pair, is_required, has_required}
 use Rattle.crew_terms.specs.Minutes.{required_teams}
-use Rattle.crew_terms.specs.declared.Pair.TheVariants.{Free, Forbidden, Required}
+use Rattle.crew_terms.specs.declared.Pair.TheVariants.{Forbidden, Required}
 use Rattle.crew_terms.specs.Nodes.{window_at_root, pair_at_root}
 use Rattle.crew_terms.specs.Below.{any_below-some}
 use Rattle.search_terms.specs.Inside.{IsInside}

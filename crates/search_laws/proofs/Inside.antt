@@ -6,7 +6,7 @@ use Rattle.std.proofs.lemmas.Int.{ints, clamps}
 use Rattle.std.proofs.lemmas.List.{length-set}
 use Rattle.std.proofs.lemmas.Bool.{cases_eq, or_cases, or_left, or_right, both_ways}
 use Rattle.crew_terms.specs.Limits.{Limits, IsLimits, IsPermittedVisit, IsPermittedStep, tasks_in, teams_in, window_of, pair_of, is_required, has_required, any_below, root_limits}
-use Rattle.crew_terms.specs.Leaf.{Prices, IsValidLeaf, HoldsLocally, Proves, term, task_price, worth_of, bound_of}
+use Rattle.crew_terms.specs.Leaf.{Prices, IsValidLeaf, HoldsLocally, term, task_price, worth_of, bound_of}
 use Rattle.crew_terms.specs.Tree.{with_window, with_pair, CanSplit, child}
 use Rattle.crew_terms.specs.declared.Choice.{Choice}
 use Rattle.crew_terms.specs.declared.Choice.TheVariants as choices

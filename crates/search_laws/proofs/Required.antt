@@ -1,5 +1,5 @@
 -- the plan of the required pairs, and the teams that are required at a task
-use Rattle.std.proofs.Common.{◌≡◌, ◌<◌, ◌+◌, ℕ, zero, suc, List, [], ◌∷◌, length, get_or, refl, subst, arith, sym, ◌⊎◌, inl, inr, None}
+use Rattle.std.proofs.Common.{◌≡◌, ◌<◌, ℕ, zero, suc, List, [], ◌∷◌, length, get_or, refl, arith, sym, ◌⊎◌, inl, inr, None}
 use Rattle.std.specs.Prelude.{Contains}
 use Rattle.std.specs.List.Sorted.{IsStrictlyIncreasing}
 use Rattle.std.proofs.lemmas.List.FromFn.{get_or-map-range_with_len, length-map-range_with_len}
@@ -7,7 +7,7 @@ use Rattle.crew_terms.specs.Plan.{Plan, job_of}
 use Rattle.crew_terms.specs.Limits.{Limits, tasks_in, teams_in, pair_of}
 use Rattle.crew_terms.specs.Minutes.{IsListOf, required_teams}
 use Rattle.crew_terms.specs.declared.Pair.TheVariants.{Required}
-use Rattle.crew_terms.specs.Rising.{rises_at, rises_tail, above_head}
+use Rattle.crew_terms.specs.Rising.{rises_tail, above_head}
 use Rattle.search_terms.specs.Closing.{required_job, required_plan}
 
 -- the plan has the required jobs

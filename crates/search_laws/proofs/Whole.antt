@@ -1,13 +1,13 @@
 -- the one plan of a decided node in which no team is stuck and each task has all its teams or none
-use Rattle.std.proofs.Common.{◌≡◌, ◌≢◌, ◌≤◌, ◌<◌, ℕ, zero, suc, Bool, true, false, cond, List, [], ◌∷◌, length, get_or, refl, ap, sym, subst, arith, ◌∙◌, ◌⊎◌, inl, inr, Option, None, Some}
+use Rattle.std.proofs.Common.{◌≡◌, ◌≢◌, ◌≤◌, ◌<◌, ℕ, Bool, true, false, cond, List, [], ◌∷◌, length, get_or, refl, ap, sym, subst, arith, ◌∙◌, ◌⊎◌, inl, inr, Option, None, Some}
 use Rattle.std.specs.Prelude.{Contains}
 use Rattle.std.proofs.lemmas.List.{get_or_past, ext_get_or}
-use Rattle.std.proofs.lemmas.Bool.{cases_lt, cases_Bool, both_ways, or_cases}
+use Rattle.std.proofs.lemmas.Bool.{cases_lt, cases_Bool, both_ways}
 use Rattle.crew_terms.specs.Instance.{task_of, no_task, CanFollow}
 use Rattle.crew_terms.specs.Legal.{IsJob, IsFeasible, IsLegal}
 use Rattle.crew_terms.specs.Plan.{Plan, Job, job_of, Does}
 use Rattle.crew_terms.specs.Rules.{IsInstance}
-use Rattle.crew_terms.specs.Limits.{Limits, IsLimits, IsWithin, IsPermittedVisit, tasks_in, teams_in, window_of, pair_of, is_required, has_required, any_below}
+use Rattle.crew_terms.specs.Limits.{Limits, IsLimits, IsWithin, IsPermittedVisit, tasks_in, teams_in, window_of, pair_of, is_required, has_required}
 use Rattle.crew_terms.specs.declared.Pair.TheVariants.{Free, Forbidden, Required}
 use Rattle.crew_terms.specs.Minutes.{required_teams}
 use Rattle.crew_terms.specs.Decided.{IsDecided}

@@ -1,15 +1,14 @@
 -- when a choice is loose, by its sums
-use Rattle.std.proofs.Common.{◌≡◌, ◌≤◌, ◌<◌, ◌+◌, ◌-◌, ◌*◌, ℕ, zero, suc, ℤ, pos, List, Bool, true, false, length, cond, ap, sym, refl, ◌∙◌, subst, arith, ◌⊎◌, inl, inr}
-use Rattle.std.proofs.lemmas.Bool.{cases_lt}
+use Rattle.std.proofs.Common.{◌≡◌, ◌≤◌, ◌<◌, ◌+◌, ◌-◌, ◌*◌, ℕ, zero, suc, ℤ, pos, List, Bool, true, false, cond, ap, arith, ◌⊎◌, inl, inr}
 use Rattle.std.proofs.Math.Nat.{mul-le-mul, mul-le-mul_right}
 use Rattle.std.proofs.lemmas.Int.{ints}
 use Rattle.std.proofs.lemmas.List.Sums.{sum_by-cons}
-use Rattle.std.specs.Prelude.{◌+ℤ◌, ◌*ℤ◌, ◌≤ℤ◌, ◌==◌, MatchBool, filter, [], ◌∷◌}
+use Rattle.std.specs.Prelude.{◌+ℤ◌, ◌≤ℤ◌, ◌==◌, MatchBool, [], ◌∷◌}
 use Rattle.crew_terms.specs.Instance.{task_of}
 use Rattle.crew_terms.specs.Limits.{Limits, tasks_in, teams_in, is_required, pair_of}
 use Rattle.crew_terms.specs.Total.{total}
 use Rattle.crew_terms.specs.Totals.{lt_or_last}
-use Rattle.search_terms.specs.Shares.{Share, FractionalChoice, IsLoose, choice_value, task_gap, pair_gap, unassigned_of, shares_of, visits_to, weighed_visits, distance}
+use Rattle.search_terms.specs.Shares.{Share, FractionalChoice, IsLoose, task_gap, pair_gap, unassigned_of, shares_of, visits_to, weighed_visits, distance}
 
 -- sums of numbers that are not negative
 total_least : (m : ℕ) (f : ℕ → ℤ) → ((i : ℕ) → pos 0 ≤ℤ f i) → pos 0 ≤ℤ total m f

@@ -1,7 +1,7 @@
 use Rattle.std.proofs.Common.{◌≡◌, ◌≢◌, ◌≤◌, ◌<◌, ◌+◌, ℕ, ℤ, ◌⊎◌, inl, inr, refl, ap, ◌∙◌, arith, to_z, of_z, w64}
 use Rattle.std.proofs.lemmas.Bool.{cases_eq}
 use Rattle.std.proofs.lemmas.Int.{to_z-of_z}
-use Rattle.potentials.specs.Table.{CoversMinute, phi}
+use Rattle.potentials.specs.Table.{phi}
 use Rattle.potentials.proofs.table.Table.fill.Goals as goal
 
 pub loop-t-init : goal.loop-t-init

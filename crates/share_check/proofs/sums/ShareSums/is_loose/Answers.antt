@@ -1,13 +1,12 @@
-use Rattle.std.proofs.Common.{◌≡◌, ◌≤◌, ◌<◌, ◌+◌, ◌-◌, ◌*◌, ℕ, pos, List, true, length, get_or, ap, sym, ◌∙◌, subst, arith, inl, inr}
+use Rattle.std.proofs.Common.{◌≤◌, ◌+◌, ◌-◌, ◌*◌, ℕ, pos, List, length, get_or, ap, sym, ◌∙◌, subst, arith, inl, inr}
 use Rattle.std.proofs.lemmas.Bool.{cases_lt}
 use Rattle.std.proofs.lemmas.List.{get_or_past}
 use Rattle.std.specs.Prelude.{MatchBool}
 use Rattle.crew_num.specs.declared.Mixed.{Mixed}
-use Rattle.crew_num.specs.Mixed.{value}
 use Rattle.crew_terms.specs.Instance.{no_task}
 use Rattle.crew_terms.specs.Limits.{tasks_in}
 use Rattle.crew_terms.specs.Total.{total}
-use Rattle.search_terms.specs.Shares.{FractionalChoice, IsFractional, IsLoose, Share, parts_of, shares_of, unassigned_of, weighed_visits}
+use Rattle.search_terms.specs.Shares.{IsFractional, parts_of, shares_of, unassigned_of, weighed_visits}
 use Rattle.share_check.specs.CellSums.{AreSums}
 use Rattle.share_check.specs.Summed.{IsLooseChoice}
 use Rattle.share_check.proofs.Added.{parts_told}
