@@ -1,6 +1,9 @@
 -- what the statuses of a call say
-use Rattle.std.proofs.Common.{◌≡◌, ◌≢◌, ◌⊎◌, inl, inr, List, ℕ, Option, None, Some, Result, Ok, Err, refl, arith}
+use Rattle.std.proofs.Common.{◌≡◌, ◌≢◌, ◌⊎◌, inl, inr, true, false, [], List, ℕ, length, Option, None, Some, Result, Ok, Err, take, ap, subst, sym, refl, ◌∙◌, arith}
+use Rattle.std.proofs.Math.Seq.{take-length}
 use Rattle.std.specs.Prelude.{IfSome, IsTrue}
+use Rattle.crew_io.specs.Io.{Appended}
+use Rattle.crew_io.specs.Appends.{appended_none}
 use Rattle.crew_io.specs.Bytes.{OfBytes, of_bytes_weaker}
 use Rattle.crew_io.specs.Puts.{TellsWrites}
 use Rattle.crew_io.specs.Draws.{TellsReads, reads_none, reads_then}
@@ -20,14 +23,24 @@ use Rattle.day_commands.specs.declared.ended.DayOutput.{DayOutput}
 use Rattle.day_commands.specs.declared.ended.DayOutput.TheVariants.{Instances, Dossiers}
 use Rattle.day_commands.specs.declared.ended.Ended.{Ended as DayEnded}
 use Rattle.day_commands.specs.declared.ended.Ended.TheVariants as day
-use Rattle.crew_cli.specs.Run.{Answers, AreDossiers, DaySays, DossiersSay, StatusSays, IsFine, day_ends_with, dossiers_end_with}
-use Rattle.crew_cli.specs.Status.{dossiers_status, day_status, is_done}
+use Rattle.day_commands.specs.Dossiers.{IsProved, IsUnproved}
+use Rattle.day_commands.specs.Taken.{Wrote}
+use Rattle.trial_command.specs.Says.{RunsTrial, SaysLine, SaysLineFront, Nothing, OfLine}
+use Rattle.trial_command.specs.declared.trial.TrialEnded.{TrialEnded}
+use Rattle.trial_command.specs.declared.trial.TrialEnded.TheVariants as trial
+use Rattle.trial_command.specs.declared.words.Trial.{Trial as TrialWords}
+use Rattle.crew_cli.specs.Run.{Answers, AnyInput, AreDossiers, DaySays, DossiersSay, StatusSays, TrialSays, IsFine, day_ends_with, dossiers_end_with, trial_ends_with}
+use Rattle.crew_cli.specs.Status.{dossiers_status, day_status, trial_status, is_done}
 use Rattle.crew_cli.specs.declared.run.Command.{Command}
-use Rattle.crew_cli.specs.declared.run.Command.TheVariants.{Check, Rosters, Apply, Day}
+use Rattle.crew_cli.specs.declared.run.Command.TheVariants.{Check, Rosters, Apply, Day, Trial}
 use Rattle.crew_cli.specs.declared.status.Status.{Status}
 use Rattle.crew_cli.specs.declared.status.Status.TheVariants as status
 
-if_some : {X : Type 0} (o : Option X) (P : X → Type 0) → ((x : X) → P x) → IfSome o P
+-- the line of a trial is a front of itself
+line_is_front : (t : TrialWords) (Fact : Dossier → Type 0) (written : List ℕ) → SaysLine t Fact written → SaysLineFront t written
+line_is_front t Fact written says = OfLine says.dossier says.allowed (length written) (sym (take-length written) ∙ ap (take (length written)) says.line)
+
+pub if_some : {X : Type 0} (o : Option X) (P : X → Type 0) → ((x : X) → P x) → IfSome o P
 if_some None P h = tt
 if_some (Some x) P h = h x
 
@@ -50,12 +63,13 @@ module _ {S K : Type 0} (source : SourceTells S) (sink : SinkTells K) (src later
 
   -- a command over dossiers answers by the status of its end
   pub dossiers_answer : {E : Type 0} (text : Dossier → List ℕ) (ended : Result DossiersEnded E) → ReadsDossiers source sink text src later out new ended
-      → Answers source sink (DossiersSay text) dossiers_end_with AreDossiers src later out new (dossiers_status ended)
+      → Answers source sink (DossiersSay text) dossiers_end_with true AreDossiers src later out new (dossiers_status ended)
   dossiers_answer text (Ok dossiers.Done) r = record {
     says = r.says;
     part = r.front;
     ends = refl;
-    ended = λ _. r.ended refl;
+    ended = λ _ _. r.ended refl;
+    unread = λ e. absurd (cc);
     reads = tells_read r.reads (λ e. absurd (cc)) (λ e. absurd (cc));
     writes = tells_write r.writes (λ e. absurd (cc)) (λ e. absurd (cc));
     complete = if_some (source.left src) _ (λ input fine nr nw. inl refl);
@@ -64,7 +78,8 @@ module _ {S K : Type 0} (source : SourceTells S) (sink : SinkTells K) (src later
     says = r.says;
     part = r.front;
     ends = refl;
-    ended = λ e. absurd (cc);
+    ended = λ _ e. absurd (cc);
+    unread = λ e. absurd (cc);
     reads = tells_read r.reads (λ e. absurd (cc)) (λ e. absurd (cc));
     writes = tells_write r.writes (λ e. absurd (cc)) (λ e. absurd (cc));
     complete = no_is_not_fine text (source.left src) (sink.got out) (sink.got new) _ _ _ r.says;
@@ -73,7 +88,8 @@ module _ {S K : Type 0} (source : SourceTells S) (sink : SinkTells K) (src later
     says = r.says;
     part = r.front;
     ends = refl;
-    ended = λ e. absurd (cc);
+    ended = λ _ e. absurd (cc);
+    unread = λ e. absurd (cc);
     reads = tells_read r.reads (λ _. refl) (λ _. refl);
     writes = tells_write r.writes (λ e. absurd (cc)) (λ e. absurd (cc));
     complete = if_some (source.left src) _ (λ input fine nr nw. absurd (nr (r.reads.cause refl)));
@@ -82,7 +98,8 @@ module _ {S K : Type 0} (source : SourceTells S) (sink : SinkTells K) (src later
     says = r.says;
     part = r.front;
     ends = refl;
-    ended = λ e. absurd (cc);
+    ended = λ _ e. absurd (cc);
+    unread = λ e. absurd (cc);
     reads = tells_read r.reads (λ e. absurd (cc)) (λ e. absurd (cc));
     writes = tells_write r.writes (λ _. refl) (λ _. refl);
     complete = if_some (source.left src) _ (λ input fine nr nw. absurd (nw (r.writes.cause refl)));
@@ -91,7 +108,8 @@ module _ {S K : Type 0} (source : SourceTells S) (sink : SinkTells K) (src later
     says = r.memory;
     part = r.front;
     ends = refl;
-    ended = λ e. absurd (cc);
+    ended = λ _ e. absurd (cc);
+    unread = λ e. absurd (cc);
     reads = tells_read r.reads (λ e. absurd (cc)) (λ e. absurd (cc));
     writes = tells_write r.writes (λ e. absurd (cc)) (λ e. absurd (cc));
     complete = if_some (source.left src) _ (λ input fine nr nw. inr refl);
@@ -104,12 +122,13 @@ module _ {S K : Type 0} (source : SourceTells S) (sink : SinkTells K) (src later
 
   -- a command over days answers by the status of its end
   pub day_answers : {E : Type 0} (output : DayOutput) (ended : Result DayEnded E) → ReadsDay source sink output src later out new ended
-      → Answers source sink (DaySays output) (day_ends_with output) (IsFineDay change_stop) src later out new (day_status ended)
+      → Answers source sink (DaySays output) (day_ends_with output) true (IsFineDay change_stop) src later out new (day_status ended)
   day_answers output (Ok day.Done) r = record {
     says = r.says;
     part = day_part output day.Done r.says;
     ends = refl;
-    ended = r.ended;
+    ended = λ _. r.ended;
+    unread = λ e. absurd (cc);
     reads = tells_read r.reads (λ e. absurd (cc)) (λ e. absurd (cc));
     writes = tells_write r.writes (λ e. absurd (cc)) (λ e. absurd (cc));
     complete = if_some (source.left src) _ (λ input fine nr nw. inl refl);
@@ -118,7 +137,8 @@ module _ {S K : Type 0} (source : SourceTells S) (sink : SinkTells K) (src later
     says = r.says;
     part = day_part output day.Unproved r.says;
     ends = r.ends;
-    ended = r.ended;
+    ended = λ _. r.ended;
+    unread = λ e. absurd (cc);
     reads = tells_read r.reads (λ e. absurd (cc)) (λ e. absurd (cc));
     writes = tells_write r.writes (λ e. absurd (cc)) (λ e. absurd (cc));
     complete = if_some (source.left src) _ (λ input fine nr nw. inl refl);
@@ -127,7 +147,8 @@ module _ {S K : Type 0} (source : SourceTells S) (sink : SinkTells K) (src later
     says = r.says;
     part = day_part output day.Refused r.says;
     ends = refl;
-    ended = λ e. absurd (cc);
+    ended = λ _ e. absurd (cc);
+    unread = λ e. absurd (cc);
     reads = tells_read r.reads (λ e. absurd (cc)) (λ e. absurd (cc));
     writes = tells_write r.writes (λ e. absurd (cc)) (λ e. absurd (cc));
     complete = refused_is_not_fine change_stop (source.left src) _ _ _ (r.refused refl);
@@ -136,7 +157,8 @@ module _ {S K : Type 0} (source : SourceTells S) (sink : SinkTells K) (src later
     says = r.says;
     part = day_part output day.ReadFault r.says;
     ends = refl;
-    ended = λ e. absurd (cc);
+    ended = λ _ e. absurd (cc);
+    unread = λ e. absurd (cc);
     reads = tells_read r.reads (λ _. refl) (λ _. refl);
     writes = tells_write r.writes (λ e. absurd (cc)) (λ e. absurd (cc));
     complete = if_some (source.left src) _ (λ input fine nr nw. absurd (nr (r.reads.cause refl)));
@@ -145,7 +167,8 @@ module _ {S K : Type 0} (source : SourceTells S) (sink : SinkTells K) (src later
     says = r.says;
     part = day_part output day.WriteFault r.says;
     ends = refl;
-    ended = λ e. absurd (cc);
+    ended = λ _ e. absurd (cc);
+    unread = λ e. absurd (cc);
     reads = tells_read r.reads (λ e. absurd (cc)) (λ e. absurd (cc));
     writes = tells_write r.writes (λ _. refl) (λ _. refl);
     complete = if_some (source.left src) _ (λ input fine nr nw. absurd (nw (r.writes.cause refl)));
@@ -155,9 +178,68 @@ module _ {S K : Type 0} (source : SourceTells S) (sink : SinkTells K) (src later
     part = of_bytes_weaker (source.left src) (sink.got out) (sink.got new) (SaysFirstRounds change_stop (TextsOf output)) (SaysOutputPart change_stop (TextsOf output))
         (first_are_part change_stop (TextsOf output)) r.memory;
     ends = refl;
-    ended = λ e. absurd (cc);
+    ended = λ _ e. absurd (cc);
+    unread = λ e. absurd (cc);
     reads = tells_read r.reads (λ e. absurd (cc)) (λ e. absurd (cc));
     writes = tells_write r.writes (λ e. absurd (cc)) (λ e. absurd (cc));
+    complete = if_some (source.left src) _ (λ input fine nr nw. inr refl);
+  }
+
+  -- what a trial wrote, where the source tells its bytes
+  of_trial : {F : List ℕ → Type 0} (G : List ℕ → List ℕ → Type 0) → ((input written : List ℕ) → F written → G input written) → Wrote (sink.got out) (sink.got new) F
+      → OfBytes (source.left src) (sink.got out) (sink.got new) G
+  of_trial G f w = if_some (source.left src) _ (λ input. (w.0, w.1, f input w.0 w.2))
+
+  -- nothing was written
+  wrote_nothing : sink.got new ≡ sink.got out → Wrote (sink.got out) (sink.got new) (λ written. written ≡ [])
+  wrote_nothing same = ([], subst (λ x. Appended (sink.got out) x []) (sym same) (appended_none (sink.got out)), refl)
+
+-- no read is told as a fault, where none was made
+none_read : {S : Type 0} (source : SourceTells S) (src : S) {Fault : Type 0} → (Fault → ⊥) → TellsReads source src src Fault
+none_read source src none = reads_then source src src src (λ fault. fault) (reads_none source src) (reads_none source src) none (λ fault. absurd fault)
+
+-- a trial answers by the status of its end, and leaves its source as it was
+module _ {S K : Type 0} (source : SourceTells S) (sink : SinkTells K) (src : S) (out new : K) where
+  pub trial_answers : {E : Type 0} (t : TrialWords) (ended : Result TrialEnded E) → RunsTrial sink t out new ended
+      → Answers source sink (TrialSays t) trial_ends_with false AnyInput src src out new (trial_status ended)
+  trial_answers t (Ok trial.Done) r = record {
+    says = of_trial source sink src src out new (λ input. SaysLine t IsProved) (λ input written says. says) r.says;
+    part = of_trial source sink src src out new (λ input. SaysLineFront t) (λ input written says. line_is_front t IsProved written says) r.says;
+    ends = refl;
+    ended = λ reads. absurd (cc);
+    unread = λ _. refl;
+    reads = none_read source src (λ e. absurd (cc));
+    writes = tells_write source sink src src out new r.writes (λ e. absurd (cc)) (λ e. absurd (cc));
+    complete = if_some (source.left src) _ (λ input fine nr nw. inl refl);
+  }
+  trial_answers t (Ok trial.Unproved) r = record {
+    says = of_trial source sink src src out new (λ input. SaysLine t IsUnproved) (λ input written says. says) r.says;
+    part = of_trial source sink src src out new (λ input. SaysLineFront t) (λ input written says. line_is_front t IsUnproved written says) r.says;
+    ends = refl;
+    ended = λ reads. absurd (cc);
+    unread = λ _. refl;
+    reads = none_read source src (λ e. absurd (cc));
+    writes = tells_write source sink src src out new r.writes (λ e. absurd (cc)) (λ e. absurd (cc));
+    complete = if_some (source.left src) _ (λ input fine nr nw. inl refl);
+  }
+  trial_answers t (Ok trial.WriteFault) r = record {
+    says = of_trial source sink src src out new (λ input. SaysLineFront t) (λ input written says. says) r.says;
+    part = of_trial source sink src src out new (λ input. SaysLineFront t) (λ input written says. says) r.says;
+    ends = refl;
+    ended = λ reads. absurd (cc);
+    unread = λ _. refl;
+    reads = none_read source src (λ e. absurd (cc));
+    writes = tells_write source sink src src out new r.writes (λ _. refl) (λ _. refl);
+    complete = if_some (source.left src) _ (λ input fine nr nw. absurd (nw (r.writes.cause refl)));
+  }
+  trial_answers t (Err fault) r = record {
+    says = of_trial source sink src src out new (λ input written. written ≡ []) (λ input written says. says) (wrote_nothing source sink src src out new r.memory);
+    part = of_trial source sink src src out new (λ input. SaysLineFront t) (λ input written says. Nothing says) (wrote_nothing source sink src src out new r.memory);
+    ends = refl;
+    ended = λ reads. absurd (cc);
+    unread = λ _. refl;
+    reads = none_read source src (λ e. absurd (cc));
+    writes = tells_write source sink src src out new r.writes (λ e. absurd (cc)) (λ e. absurd (cc));
     complete = if_some (source.left src) _ (λ input fine nr nw. inr refl);
   }
 
@@ -193,6 +275,18 @@ day_done law output status.WriteFault unseen input written Full says fine read w
 day_done law output status.Memory unseen input written Full says fine read write = inr (inl refl)
 day_done law output status.Unproved unseen input written Full says fine read write = inl refl
 
+-- nor does a trial fail but for a write fault or want of memory
+trial_done : (t : TrialWords) (answer : Status) (unseen : Option (List ℕ)) (input written : List ℕ) (Full : Type 0) → TrialSays t answer unseen input written
+    → (answer ≡ status.WriteFault → Full) → IsTrue (is_done answer) ⊎ (answer ≡ status.Memory) ⊎ ((answer ≡ status.WriteFault) × Full)
+trial_done t status.Done unseen input written Full says write = inl refl
+trial_done t status.No unseen input written Full says write = absurd says
+trial_done t status.Words unseen input written Full says write = absurd says
+trial_done t status.Refused unseen input written Full says write = absurd says
+trial_done t status.ReadFault unseen input written Full says write = absurd says
+trial_done t status.WriteFault unseen input written Full says write = inr (inr (refl, write refl))
+trial_done t status.Memory unseen input written Full says write = inr (inl refl)
+trial_done t status.Unproved unseen input written Full says write = inl refl
+
 pub fine_is_done : (command : Command) (answer : Status) (unseen : Option (List ℕ)) (input written : List ℕ) (Full : Type 0) → ComesToOne
     → StatusSays command answer unseen input written → IsFine command input → answer ≢ status.ReadFault → (answer ≡ status.WriteFault → Full)
     → IsTrue (is_done answer) ⊎ (answer ≡ status.Memory) ⊎ ((answer ≡ status.WriteFault) × Full)
@@ -200,3 +294,4 @@ fine_is_done Check answer unseen input written Full law says fine read write = d
 fine_is_done Rosters answer unseen input written Full law says fine read write = dossiers_done _ answer unseen input written Full says fine read write
 fine_is_done Apply answer unseen input written Full law says fine read write = day_done law Instances answer unseen input written Full says fine read write
 fine_is_done Day answer unseen input written Full law says fine read write = day_done law Dossiers answer unseen input written Full says fine read write
+fine_is_done (Trial t) answer unseen input written Full law says fine read write = trial_done t answer unseen input written Full says write

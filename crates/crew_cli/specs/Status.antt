@@ -4,6 +4,8 @@ use Rattle.dossier_commands.specs.declared.read.Ended.{Ended as DossiersEnded}
 use Rattle.dossier_commands.specs.declared.read.Ended.TheVariants as dossiers
 use Rattle.day_commands.specs.declared.ended.Ended.{Ended as DayEnded}
 use Rattle.day_commands.specs.declared.ended.Ended.TheVariants as day
+use Rattle.trial_command.specs.declared.trial.TrialEnded.{TrialEnded}
+use Rattle.trial_command.specs.declared.trial.TrialEnded.TheVariants as trial
 use Rattle.crew_cli.specs.declared.status.Status.{Status}
 use Rattle.crew_cli.specs.declared.status.Status.TheVariants.{Done, No, Words, Refused, ReadFault, WriteFault, Memory, Unproved}
 
@@ -40,3 +42,10 @@ day_status (Ok day.Refused) = Refused
 day_status (Ok day.ReadFault) = ReadFault
 day_status (Ok day.WriteFault) = WriteFault
 day_status (Err fault) = Memory
+
+-- the status of a trial that ended so, or for which memory was wanting
+abbrev pub trial_status : {E : Type 0} → Result TrialEnded E → Status
+trial_status (Ok trial.Done) = Done
+trial_status (Ok trial.Unproved) = Unproved
+trial_status (Ok trial.WriteFault) = WriteFault
+trial_status (Err fault) = Memory

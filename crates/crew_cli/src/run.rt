@@ -1,11 +1,11 @@
 // The top call.
-ghost use Rattle.std.specs.Prelude.{◌≡◌, ◌≢◌, ◌≤◌, ◌↔◌, ◌⊎◌, [], ◌∷◌, map, string_bytes, IfSome, IsTrue, MatchOption};
+ghost use Rattle.std.specs.Prelude.{◌≡◌, ◌≢◌, ◌≤◌, ◌↔◌, ◌⊎◌, [], ◌∷◌, true, false, map, string_bytes, IfSome, IsTrue, MatchOption};
 ghost use Rattle.crew_io.specs.Io.{HasEnded, Rose};
 ghost use Rattle.crew_io.specs.Bytes.{OfBytes};
 ghost use Rattle.dossier_commands.specs.Outputs.{output_of};
 ghost use Rattle.day_commands.specs.Rounds.{IsFineDay, change_stop};
-ghost use Rattle.crew_cli.specs.Status.{dossiers_status, day_status, is_done};
-ghost use Rattle.crew_cli.specs.Run.{Answers, AskFor, AreDossiers, DaySays, DossiersSay, StatusSays, IsFine, day_ends_with, dossiers_end_with, ends_with};
+ghost use Rattle.crew_cli.specs.Status.{dossiers_status, day_status, trial_status, is_done};
+ghost use Rattle.crew_cli.specs.Run.{Answers, AskFor, AreDossiers, DaySays, DossiersSay, StatusSays, IsFine, IsInRange, day_ends_with, dossiers_end_with, ends_with, reads_input};
 
 pub use crate::status::Status;
 use crew_io::sink::Sink;
@@ -13,6 +13,7 @@ use crew_io::source::Source;
 use day_commands::{DayOutput, write_rounds};
 use dossier_commands::{Output, read_dossiers};
 use std::alloc::{AllocError, Global};
+use trial_command::{Trial, TrialEnded, write_trial};
 
 /// What the words ask for.
 #[derive(Clone, Copy, Debug, PartialEq, Eq)]
@@ -25,6 +26,8 @@ pub enum Command {
     Apply,
     /// `day`: read a day, and write a dossier of each round.
     Day,
+    /// `trial`: read nothing; plan a generated day, and write the line of its dossier.
+    Trial(Trial),
 }
 
 /// Whether the words are the one word.
@@ -51,7 +54,7 @@ impl Command {
         if asks_for(words, "day") {
             return Some(Command::Day);
         }
-        None
+        Some(Command::Trial(Trial::of(words)?))
     }
 }
 
@@ -82,6 +85,18 @@ fn of_day(ended: Result<day_commands::Ended, AllocError>) -> Status
     }
 }
 
+/// The status of a trial.
+fn of_trial(ended: Result<TrialEnded, AllocError>) -> Status
+    ensures { result ≡ trial_status ended }
+{
+    match ended {
+        Ok(TrialEnded::Done) => Status::Done,
+        Ok(TrialEnded::Unproved) => Status::Unproved,
+        Ok(TrialEnded::WriteFault) => Status::WriteFault,
+        Err(AllocError) => Status::Memory,
+    }
+}
+
 /// Reads dossiers, and writes what is asked for of each good one.
 fn over_dossiers<S: Source, K: Sink>(
     alloc: Global,
@@ -89,7 +104,7 @@ fn over_dossiers<S: Source, K: Sink>(
     src: &mut S,
     out: &mut K,
 ) -> Status
-    ensures { Answers S.Source K.Sink (DossiersSay (output_of output)) dossiers_end_with AreDossiers
+    ensures { Answers S.Source K.Sink (DossiersSay (output_of output)) dossiers_end_with true AreDossiers
         src.old src.new out.old out.new result }
 {
     of_dossiers(read_dossiers(alloc, output, src, out))
@@ -102,7 +117,7 @@ fn over_day<S: Source, K: Sink>(
     src: &mut S,
     out: &mut K,
 ) -> Status
-    ensures { Answers S.Source K.Sink (DaySays output) (day_ends_with output) (IsFineDay change_stop)
+    ensures { Answers S.Source K.Sink (DaySays output) (day_ends_with output) true (IsFineDay change_stop)
         src.old src.new out.old out.new result }
 {
     of_day(write_rounds(alloc, output, src, out))
@@ -110,7 +125,8 @@ fn over_day<S: Source, K: Sink>(
 
 /// Does what a command asks for, but for the flush.
 fn answer<S: Source, K: Sink>(alloc: Global, command: Command, src: &mut S, out: &mut K) -> Status
-    ensures { Answers S.Source K.Sink (StatusSays command) (ends_with command) (IsFine command)
+    requires { IsInRange command }
+    ensures { Answers S.Source K.Sink (StatusSays command) (ends_with command) (reads_input command) (IsFine command)
         src.old src.new out.old out.new result }
 {
     match command {
@@ -118,6 +134,7 @@ fn answer<S: Source, K: Sink>(alloc: Global, command: Command, src: &mut S, out:
         Command::Rosters => over_dossiers(alloc, Output::Rosters, src, out),
         Command::Apply => over_day(alloc, DayOutput::Instances, src, out),
         Command::Day => over_day(alloc, DayOutput::Dossiers, src, out),
+        Command::Trial(trial) => of_trial(write_trial(alloc, trial, out)),
     }
 }
 
@@ -126,7 +143,8 @@ fn answer<S: Source, K: Sink>(alloc: Global, command: Command, src: &mut S, out:
 /// and ends. With `rosters` it does the same, and writes the roster of each good dossier in place of its line. With
 /// `apply` it reads a day, and writes the instance of each round, up to the first record that is refused, and a line
 /// `refused` for that one. With `day` it does the same, and plans each round: it writes a dossier of it, which `check` says
-/// yes to. Other words have no form: nothing is read or written.
+/// yes to. With `trial` it reads nothing: it plans a generated day, and writes one line with the numbers of its dossier. Other
+/// words have no form: nothing is read or written.
 pub fn run<S: Source, K: Sink>(alloc: Global, words: &[String], src: &mut S, out: &mut K) -> Status
     // Each status tells what the input is and what was written, also at a fault.
     ensures says { (command : Command) → AskFor command (map (λ w. string_bytes w) words.now)
@@ -135,8 +153,10 @@ pub fn run<S: Source, K: Sink>(alloc: Global, words: &[String], src: &mut S, out
     // Each command ends with one of its own statuses, whatever the source and the sink tell.
     ensures ends { (command : Command) → AskFor command (map (λ w. string_bytes w) words.now) → IsTrue (ends_with command result) }
 
-    // What is done was read to its end.
-    ensures ended { IsTrue (is_done result) → HasEnded (S.left src.new) }
+    // What is done was read to its end, but by a command that reads nothing: it leaves the source as it was.
+    ensures ended { (command : Command) → AskFor command (map (λ w. string_bytes w) words.now) → IsTrue (reads_input command)
+        → IsTrue (is_done result) → HasEnded (S.left src.new) }
+    ensures unread { (command : Command) → AskFor command (map (λ w. string_bytes w) words.now) → reads_input command ≡ false → src.new ≡ src.old }
 
     // Without a write fault, all that was written is passed on.
     ensures flushed { result ≢ Status.Words → result ≢ Status.WriteFault → K.held out.new ≡ [] }

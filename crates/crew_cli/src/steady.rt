@@ -1,7 +1,7 @@
 // The top call over sources and sinks in memory, and over such as do not fail.
-ghost use Rattle.std.specs.Prelude.{◌≡◌, ◌≢◌, ◌≤◌, ◌↔◌, ◌⊎◌, ◌++◌, ℕ, List, Some, [], length, map, string_bytes, IsTrue};
+ghost use Rattle.std.specs.Prelude.{◌≡◌, ◌≢◌, ◌≤◌, ◌↔◌, ◌⊎◌, ◌++◌, ℕ, List, Some, [], false, length, map, string_bytes, IsTrue};
 ghost use Rattle.crew_io.specs.Io.{Rose};
-ghost use Rattle.crew_cli.specs.Run.{AskFor, StatusSays, IsFine};
+ghost use Rattle.crew_cli.specs.Run.{AskFor, StatusSays, IsFine, reads_input};
 ghost use Rattle.crew_cli.specs.Status.{is_done};
 ghost use Rattle.crew_cli.specs.declared.run.Command.{Command};
 
@@ -28,7 +28,9 @@ pub fn run_steady(
 
     ensures words { (result ≡ Status.Words) ↔ ((command : Command) → AskFor command (map (λ w. string_bytes w) words.now) → ⊥) }
     ensures untouched { result ≡ Status.Words → src.new ≡ src.old }
-    ensures ended { IsTrue (is_done result) → src.new.left ≡ [] }
+    ensures ended { (command : Command) → AskFor command (map (λ w. string_bytes w) words.now) → IsTrue (reads_input command)
+        → IsTrue (is_done result) → src.new.left ≡ [] }
+    ensures unread { (command : Command) → AskFor command (map (λ w. string_bytes w) words.now) → reads_input command ≡ false → src.new ≡ src.old }
     ensures reads { result ≢ Status.ReadFault }
     ensures writes { result ≢ Status.WriteFault }
 {
@@ -49,7 +51,9 @@ pub fn run_in_memory(
 
     ensures words { (result ≡ Status.Words) ↔ ((command : Command) → AskFor command (map (λ w. string_bytes w) words.now) → ⊥) }
     ensures untouched { result ≡ Status.Words → (src.new ≡ src.old) × (out.new ≡ out.old) }
-    ensures ended { IsTrue (is_done result) → src.new.left ≡ [] }
+    ensures ended { (command : Command) → AskFor command (map (λ w. string_bytes w) words.now) → IsTrue (reads_input command)
+        → IsTrue (is_done result) → src.new.left ≡ [] }
+    ensures unread { (command : Command) → AskFor command (map (λ w. string_bytes w) words.now) → reads_input command ≡ false → src.new ≡ src.old }
 
     // No fault is told where no call is due to fail, of the sink while room is left.
     ensures reads { src.old.fails ≡ [] → result ≢ Status.ReadFault }

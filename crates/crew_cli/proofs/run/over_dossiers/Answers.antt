@@ -1,4 +1,4 @@
-use Rattle.std.proofs.Common.{sym, subst}
+use Rattle.std.proofs.Common.{true, sym, subst}
 use Rattle.dossier_commands.specs.Outputs.{output_of}
 use Rattle.crew_cli.specs.Run.{Answers, AreDossiers, DossiersSay, dossiers_end_with}
 use Rattle.crew_cli.specs.declared.status.Status.{Status}
@@ -8,6 +8,6 @@ use Rattle.crew_cli.proofs.run.over_dossiers.Goals as goal
 pub returns : goal.returns
 returns g c =
     let text = output_of c.args.output in
-    subst (λ (s : Status). Answers g.S.Source g.K.Sink (DossiersSay text) dossiers_end_with AreDossiers c.args.src.now c.read_dossiers.new.src c.args.out.now c.read_dossiers.new.out s)
+    subst (λ (s : Status). Answers g.S.Source g.K.Sink (DossiersSay text) dossiers_end_with true AreDossiers c.args.src.now c.read_dossiers.new.src c.args.out.now c.read_dossiers.new.out s)
     (sym c.of_dossiers.ensures)
     (dossiers_answer g.S.Source g.K.Sink c.args.src.now c.read_dossiers.new.src c.args.out.now c.read_dossiers.new.out text c.read_dossiers.result c.read_dossiers.ensures)

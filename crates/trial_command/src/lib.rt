@@ -1,0 +1,11 @@
+// The command `trial`: a generated day is planned, its dossier is checked as it is written, and one line tells its numbers.
+#![tactic(auto)]
+
+mod check_sink;
+mod line_front;
+mod plan;
+mod trial;
+mod words;
+
+pub use trial::{TrialEnded, write_trial};
+pub use words::Trial;
