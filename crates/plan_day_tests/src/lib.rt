@@ -9,4 +9,6 @@ mod days;
 #[cfg(test)]
 mod faults;
 #[cfg(test)]
+mod few_pivots;
+#[cfg(test)]
 mod rounds;

@@ -22,10 +22,14 @@ fn has_line(text: &[u8], line: &[u8]) -> bool {
     text.split(|b| *b == b'\n').any(|l| l == line)
 }
 
-/// Asserts that `crew check` and `crew rosters` take the dossiers to their end.
+/// Asserts that `crew check` and `crew rosters` take the dossiers to their end, and that each split shows why it was made.
 fn assert_taken(rt: &impl Abort, alloc: Global, dossiers: &[u8]) -> Result<(), Fail> {
-    let (checked, _) = answer(alloc, "check", dossiers)?;
+    let (checked, lines) = answer(alloc, "check", dossiers)?;
     assert_eq!(rt; checked, Status::Done);
+    let shown = lines
+        .split(|b| *b == b'\n')
+        .all(|line| line.is_empty() || line.ends_with(b" unshown 0"));
+    assert!(rt; shown, "{:?}", Shown(&lines));
     let (listed, _) = answer(alloc, "rosters", dossiers)?;
     assert_eq!(rt; listed, Status::Done);
     Ok(())
@@ -115,6 +119,25 @@ plan,1
     lines: &[b"plan 3 3", b"tree 0 1 0 0"],
 };
 
+/// Two teams that can hardly meet at a joint task, and a third one that is to do two tasks at once. One node does not settle it.
+const HARDLY_MEETING_AND_TWO_AT_ONCE: Row = Row {
+    records: b"team,T1,BASE,06:50,07:40,1
+team,T2,BASE,07:20,08:10,1
+team,T3,BASE,06:00,14:00,2
+task,J,G1,07:00,08:00,30,2,1
+task,A,G1,07:00,07:00,30,1,2
+task,B,G1,07:00,07:00,30,1,2
+plan,1
+",
+    status: Status::Done,
+    lines: &[b"plan 2 2", b"tree 1 0 2 1", b"why loose 2 1 3"],
+};
+
+#[test]
+fn teams_of_two_skills(rt: HostRuntime) -> Result<(), Fail> {
+    assert_row(&rt, rt.alloc(), &HARDLY_MEETING_AND_TWO_AT_ONCE)
+}
+
 #[test]
 fn a_task_that_the_first_plan_does(rt: HostRuntime) -> Result<(), Fail> {
     assert_row(&rt, rt.alloc(), &ONE_DONE)
@@ -170,6 +193,7 @@ fn a_route_that_comes_back(rt: HostRuntime) -> Result<(), Fail> {
     assert_eq!(rt; status, Status::Done);
     assert!(rt; has_line(&dossiers, b"plan 1 1"));
     assert!(rt; stand_so(&dossiers, b"tree ", b"window 0 "));
+    assert!(rt; stand_so(&dossiers, b"window 0 ", b"why loose 1 "));
     assert_taken(&rt, alloc, &dossiers)
 }
 

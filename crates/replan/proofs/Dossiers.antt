@@ -4,7 +4,7 @@ use Rattle.std.proofs.Common.{◌≡◌, ◌≤◌, ◌∙◌, ℕ, List, Result
 use Rattle.std.specs.Prelude.{All, take}
 use Rattle.crew_io.specs.declared.sink.Sink.{Ghosts}
 use Rattle.branch_tree.specs.Trees.{BranchTree, preorder}
-use Rattle.cert_write.specs.Dossiers.{IsDossierOf, IsPricedTree, WritesDossier}
+use Rattle.cert_write.specs.Dossiers.{IsDossierOf, IsPricedTree, WritesDossier, causes_of}
 use Rattle.cert_write.specs.declared.faults.PutFault.{PutFault}
 use Rattle.cert_write.specs.declared.faults.PutFault.TheVariants.{WriteFault, OutOfMemory}
 use Rattle.cert_write.specs.Given.{AreWritable, Given}
@@ -23,16 +23,20 @@ use Rattle.replan.specs.Given.{IsOfOutcome, kept_in, parts_of}
 use Rattle.replan.specs.Planning.{IsRoundPut, fault_of_put}
 use Rattle.replan.specs.declared.round.Planned.{Planned}
 use Rattle.replan.specs.Rounds.{EachLeftProves, IsLeastLeft, IsRoundDossier, kept_of, outcome_of}
-use Rattle.replan.proofs.Trees.{KeepPrices, handed_proves, no_more, priced_as, writable_tree}
+use Rattle.replan.proofs.Trees.{KeepPrices, handed_proves, no_more, priced_as}
 use Rattle.route_terms.specs.Kept.{AreKeptIn}
 use Rattle.route_terms.specs.Named.{NamedRoute, by_names}
+use Rattle.search_core.specs.Searching.{split_cause}
 use Rattle.search_core.specs.Steps.{IsOutcome, IsSolved}
+use Rattle.search_core.specs.declared.causes.Cause.{Cause as SplitReason}
 use Rattle.search_core.specs.declared.causes.Outcome.{Outcome}
+use Rattle.search_terms.specs.Caused.{AreLooseShown, IsCaused}
 use Rattle.search_terms.specs.Search.{IsHandedOut, IsSearchRun, IsSearched, SearchOutcome, SearchState}
+use Rattle.search_terms.specs.SearchTree.{SplitCause, causes}
 use Rattle.solved_laws.specs.Proved.{IsProvedOutcome}
 use Rattle.tree_outlines.specs.Outline.{IsPricedAs, handed_out}
-use Rattle.solved_laws.specs.Told.{AreTold}
-use Rattle.written_laws.specs.Proved.{AreCauses, IsProvedGiven, IsProvedTree}
+use Rattle.solved_laws.specs.Told.{AreTold, Tell}
+use Rattle.written_laws.specs.Proved.{AreCauses, IsProvedGiven, IsProvedTree, proved_is_writable}
 
 -- ---- the laws that stand below
 
@@ -45,6 +49,13 @@ OneTree = (t u : BranchTree) → preorder t ≡ preorder u → t ≡ u
 abbrev pub AreSearched : Type 0
 AreSearched = (i : Instance) (budget : ℕ) (kept pool : List Route) (s : SearchState) (o : Outcome) (t : Tree) → IsSearchRun i budget kept pool s → IsOutcome i pool s o
     → IsPricedAs (handed_out s) t → IsSearched i budget kept (record { plan = o.plan; tree = t; pool = pool }) s
+
+abbrev pub AreCaused : Type 0
+AreCaused = (i : Instance) (budget : ℕ) (kept : List Route) (o : SearchOutcome) (s : SearchState) → IsSearched i budget kept o s → AreLooseShown (root_limits i) s.tree
+    → IsCaused i budget kept o (causes s.tree)
+
+abbrev pub CausesTell : Type 0
+CausesTell = (pool : List Route) (cs : List SplitReason) (told : List Cause) → AreTold cs told → Tell pool told (map (split_cause pool) cs)
 
 abbrev pub PoolsAreOf : Type 0
 PoolsAreOf = (i : Instance) (nodes : ℕ) (kept pool : List Route) (s : SearchState) → IsInstance i → IsSearchRun i nodes kept pool s → All (IsPooled i) kept → All (IsPooled i) pool
@@ -90,7 +101,7 @@ module _ (proved : AreProved) (count : ToldCount) (g : Given) (o : Outcome) (of 
   writable = record {
     tree = outcome.tree;
     nodes = of.tree ∙ outcome.nodes;
-    valid = writable_tree (root_limits g.instance) o.bound (unassigned_count o.plan) outcome.tree outcome.proved;
+    valid = proved_is_writable (root_limits g.instance) o.bound (unassigned_count o.plan) outcome.tree outcome.proved;
     causes = count o g.causes of.causes ∙ outcome.causes;
   }
 
@@ -132,7 +143,7 @@ module _ (proved : AreProved) (count : ToldCount) (g : Given) (o : Outcome) (of 
 
 -- ---- the dossier
 
-module _ (proved : AreProved) (count : ToldCount) (may : MayBeTold) (pools : PoolsAreOf) (goods : AreGood) (keep : KeepPrices) (bounds : BoundsHold) (one : OneTree) (searched : AreSearched)
+module _ (proved : AreProved) (count : ToldCount) (may : MayBeTold) (pools : PoolsAreOf) (goods : AreGood) (keep : KeepPrices) (bounds : BoundsHold) (one : OneTree) (searched : AreSearched) (caused : AreCaused) (tell : CausesTell)
     (handed : List NamedRoute) (g : Given) (o : Outcome) (d : Dossier) (of : IsOfOutcome g o) (kept : AreKeptIn (root_limits g.instance) handed (kept_in g)) (is : IsDossierOf g d) where
   abbrev state : SearchState
   state = of.solved.state
@@ -172,6 +183,17 @@ module _ (proved : AreProved) (count : ToldCount) (may : MayBeTold) (pools : Poo
       let e = subst (λ (n : ℕ). IsSearched g.instance n (kept_of d) (outcome_of d) state) (sym is.budget) c in
       subst (λ (i : Instance). IsSearched i d.budget (kept_of d) (outcome_of d) state) (sym is.instance) e
 
+  is_caused : IsCaused d.instance d.budget (kept_of d) (outcome_of d) (causes state.tree)
+  is_caused = caused d.instance d.budget (kept_of d) (outcome_of d) state is_searched
+      (subst (λ (i : Instance). AreLooseShown (root_limits i) state.tree) (sym is.instance) of.solved.loose)
+
+  -- the causes that it tells are those of the search
+  causes_told : Tell d.pool (causes_of d.tree) (causes state.tree)
+  causes_told =
+      let at_given = subst (λ (cs : List SplitCause). Tell g.columns g.causes cs) of.solved.outcome.causes (tell g.columns o.causes.items g.causes of.causes) in
+      let a = subst (λ (cs : List Cause). Tell g.columns cs (causes state.tree)) (sym is.tree.causes) at_given in
+      subst (λ (pool : List Route). Tell pool (causes_of d.tree) (causes state.tree)) (sym is.pool) a
+
   same_best : unassigned_count d.plan ≡ unassigned_count state.plan
   same_best = ap unassigned_count (is.plan ∙ of.plan ∙ of.solved.outcome.plan)
 
@@ -208,8 +230,9 @@ module _ (proved : AreProved) (count : ToldCount) (may : MayBeTold) (pools : Poo
     least = λ p legal. bounds d p is_good legal;
     bound = is_least;
     kept = subst (AreKeptIn (root_limits d.instance) handed) (sym kept_same) (subst (λ (i : Instance). AreKeptIn (root_limits i) handed (kept_in g)) (sym is.instance) kept);
-    state = state;
-    searched = is_searched;
+    causes = causes state.tree;
+    told = causes_told;
+    caused = is_caused;
   }
 
 -- ---- what was written

@@ -2,7 +2,7 @@
 use Rattle.std.proofs.Common.{◌≡◌, ◌≤◌, ◌∙◌, ℕ, ap, subst, sym, refl, arith}
 use Rattle.branch_tree.specs.Trees.{BranchTree}
 use Rattle.cert_write.specs.Dossiers.{IsPricedLeaf, IsPricedTree}
-use Rattle.cert_write.specs.Given.{IsPriced, IsWritable}
+use Rattle.cert_write.specs.Given.{IsPriced}
 use Rattle.crew_terms.specs.Branches.{LeafNode, SplitNode, Bare, Open, Closed}
 use Rattle.crew_terms.specs.Leaf.{Prices}
 use Rattle.crew_terms.specs.Limits.{Limits, root_limits}
@@ -22,12 +22,6 @@ use Rattle.written_laws.specs.Proved.{IsProvedTree}
 
 abbrev pub KeepPrices : Type 0
 KeepPrices = (n : Limits) (p : Prices) (leaf : Leaf) → IsInstance n.instance → IsPriced n p → IsPricedLeaf n p leaf → prices_of n leaf ≡ p
-
--- a tree that is proved can be written
-pub writable_tree : (n : Limits) (l u : ℕ) (t : BranchTree) → IsProvedTree n l u t → IsWritable n t
-writable_tree n l u (LeafNode leaf) is = is.0
-writable_tree n l u (SplitNode choice first second) is =
-    (is.0, writable_tree (child n choice First) l u first is.1, writable_tree (child n choice Second) l u second is.2)
 
 -- what is written of it has its prices
 pub priced_as : KeepPrices → (n : Limits) → IsInstance n.instance → (l u : ℕ) (t : BranchTree) (w : Written) → IsProvedTree n l u t → IsPricedTree n t w → IsPricedAs t (tree_of n w)

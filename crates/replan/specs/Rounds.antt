@@ -11,7 +11,11 @@ use Rattle.dossier_terms.specs.Dossier.{Dossier, IsGood, tree_of}
 use Rattle.route_terms.specs.Named.{NamedRoute, by_names}
 use Rattle.route_terms.specs.Kept.{AreKeptIn}
 use Rattle.search_terms.specs.Proven.{PricesProve}
-use Rattle.search_terms.specs.Search.{SearchOutcome, SearchState, IsSearched}
+use Rattle.cert_write.specs.Dossiers.{causes_of}
+use Rattle.search_terms.specs.Caused.{IsCaused}
+use Rattle.search_terms.specs.Search.{SearchOutcome}
+use Rattle.search_terms.specs.SearchTree.{SplitCause}
+use Rattle.solved_laws.specs.Told.{Tell}
 use Rattle.day_terms.specs.Rounds.{Round}
 
 -- ---- what the leaves prove that are not closed
@@ -53,7 +57,8 @@ outcome_of d = record { plan = d.plan; tree = tree_of (root_limits d.instance) d
 
 -- a dossier of the round, which is handed these routes: a good one of its instance and its budget. Its plan is packed, and
 -- no legal plan leaves fewer tasks unassigned than its bound. It keeps the routes that are routes at its root, and a run of
--- the search that begins with these made its plan, its tree and its pool
+-- the search that begins with these made its plan, its tree and its pool. It tells why each node was split, and each split shows
+-- that by the search over the pool
 pub record IsRoundDossier (handed : List NamedRoute) (round : Round) (d : Dossier) : Type 0 where
   pub good : IsGood d
   pub form : d.form ≡ Two
@@ -64,8 +69,9 @@ pub record IsRoundDossier (handed : List NamedRoute) (round : Round) (d : Dossie
   pub least : (p : Plan) → IsLegal d.instance p → d.bound ≤ unassigned_count p
   pub bound : IsLeastLeft d
   pub kept : AreKeptIn (root_limits d.instance) handed (kept_of d)
-  pub state : SearchState
-  pub searched : IsSearched d.instance d.budget (kept_of d) (outcome_of d) state
+  pub causes : List SplitCause
+  pub told : Tell d.pool (causes_of d.tree) causes
+  pub caused : IsCaused d.instance d.budget (kept_of d) (outcome_of d) causes
 
 -- a dossier for each of the rounds, in order: the first is handed these routes, and each further one those of the pool
 -- before it

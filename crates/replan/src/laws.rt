@@ -17,8 +17,10 @@ ghost use Rattle.search_core.specs.declared.causes.Outcome.{Outcome};
 use branch_tree::one_tree;
 use dossier_laws::good_bounds;
 use search_core::outcomes_are_searched;
+use search_laws::searches_are_caused;
 use solved_laws::{
     solved_causes_may_be_told, solved_pools_are_of_the_instance, solved_trees_are_proved,
+    told_causes_tell,
 };
 use written_laws::{leaves_keep_their_prices, written_dossiers_are_good};
 
@@ -36,9 +38,11 @@ pub(crate) fn outcomes_are_rounds()
     leaves_keep_their_prices();
     one_tree();
     outcomes_are_searched();
+    searches_are_caused();
     solved_causes_may_be_told();
     solved_pools_are_of_the_instance();
     solved_trees_are_proved();
+    told_causes_tell();
     written_dossiers_are_good();
 }
 

@@ -5,3 +5,4 @@ pub mod Sites
 pub mod Starting
 pub mod HandingOut
 pub mod Showing
+pub mod Pricing

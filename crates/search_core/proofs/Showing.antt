@@ -88,7 +88,7 @@ module _ (columns added : List Route) (n : Limits) where
         route = subst (IsRouteIn n) (sym (get_or_append_left columns added no_column id legal.known)) legal.route;
       }
 
-  choice_grown : (den : ℤ) (shares : List Share) (left_open : List ℤ) → All (λ (s : Share). IsLegalColumn n columns s.column) shares
+  pub choice_grown : (den : ℤ) (shares : List Share) (left_open : List ℤ) → All (λ (s : Share). IsLegalColumn n columns s.column) shares
       → fractional_of (columns ++ added) den shares left_open ≡ fractional_of columns den shares left_open
   choice_grown den shares left_open legal =
       ap (λ (xs : List RouteShare). record (fractional_of columns den shares left_open) { shares = xs }) (shares_grown shares legal)

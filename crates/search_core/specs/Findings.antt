@@ -14,19 +14,21 @@ use Rattle.search_core.specs.Shown.{IsShownWhy}
 use Rattle.search_core.specs.declared.finding.Ending.{Ending}
 use Rattle.search_core.specs.declared.finding.Ending.TheVariants.{Closed, Split}
 use Rattle.search_core.specs.declared.finding.Finding.{Finding}
+use Rattle.search_terms.specs.Caused.{LooseProves}
 use Rattle.search_terms.specs.Choice.{IsValidChoice}
 use Rattle.search_terms.specs.Earned.{IsEarned}
 use Rattle.search_terms.specs.Proven.{PricesProve}
 use Rattle.search_terms.specs.Search.{Extends}
 
--- the choice splits the node, the columns earn it, its reason shows in the node, and what is handed on proves what the found
--- prices and the own prove
+-- the choice splits the node, the columns earn it, its reason shows in the node, the found prices prove what loose shares nearly
+-- prove, and what is handed on proves what these and the own prove
 pub record IsHandedSplit (n : Limits) (now pivots : ℕ) (columns : List Route) (own : Prices) (choice : Choice) (why : Why) (handed : Handed) : Type 0 where
   pub valid : IsValidChoice n choice
   pub some : 1 ≤ now
   pub found : Prices
   pub earned : IsEarned n now found pivots columns (cause_of columns why)
   pub shown : IsShownWhy columns n now why
+  pub near : LooseProves n found (cause_of columns why)
   pub on : IsHanded n choice own found handed
 
 -- the prices close the node

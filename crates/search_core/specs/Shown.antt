@@ -1,5 +1,5 @@
 -- what the causes of splits show in their nodes
-use Rattle.std.specs.Prelude.{◌≤◌, ◌<◌, ◌+◌, ◌-◌, ◌*◌, ℕ, ℤ, List, length}
+use Rattle.std.specs.Prelude.{◌≤◌, ◌<◌, ◌+◌, ◌-◌, ◌*◌, ◌++◌, ℕ, ℤ, List, length}
 use Rattle.crew_num.specs.Exact.{IsOverflow}
 use Rattle.crew_terms.specs.Leaf.{Prices}
 use Rattle.crew_terms.specs.Limits.{Limits, Route, root_limits, tasks_in}
@@ -10,8 +10,9 @@ use Rattle.node_solver.specs.Loose.{AreHeld}
 use Rattle.node_solver.specs.declared.step.Why.{Why}
 use Rattle.node_solver.specs.declared.step.Why.TheVariants as whys
 use Rattle.search_core.specs.Ordered.{cause_with}
-use Rattle.search_core.specs.Searching.{Searching}
+use Rattle.search_core.specs.Searching.{Searching, state_of}
 use Rattle.search_core.specs.declared.causes.Cause.{Cause}
+use Rattle.search_terms.specs.Caused.{AreLooseShown}
 use Rattle.search_terms.specs.Earned.{Spent}
 use Rattle.search_terms.specs.Shares.{IsFractional, IsLoose}
 use Rattle.search_terms.specs.SearchTree.{EachSplit, SplitCause}
@@ -52,3 +53,7 @@ pub record IsShownNumber (columns : List Route) (u : ℕ) (causes : List Cause) 
 abbrev pub AreShown : List Route → Searching → Type 0
 AreShown columns s = (p : ℕ → Prices) → EachSplit (λ n k t. IsShownNumber columns (unassigned_count s.plan) s.causes n k)
     (root_limits s.instance) (tree_of p numbered s.keyed.nodes)
+
+-- each open leaf below a loose split proves what its shares nearly prove, of these columns, and of more
+abbrev pub AreLoosePriced : List Route → Searching → Type 0
+AreLoosePriced columns s = (rest : List Route) → AreLooseShown (root_limits s.instance) (state_of (columns ++ rest) s).tree

@@ -9,9 +9,10 @@ use Rattle.crew_terms.specs.Limits.{Route, root_limits}
 use Rattle.crew_terms.specs.Plan.{Plan, unassigned_count}
 use Rattle.keyed_tree.specs.Keyed.{IsKeyed, Keyed}
 use Rattle.search_core.specs.Searching.{Searching, IsOpenKey, split_cause, state_of, way_to}
-use Rattle.search_core.specs.Shown.{AreShown, IsShownCause}
+use Rattle.search_core.specs.Shown.{AreLoosePriced, AreShown, IsShownCause}
 use Rattle.search_core.specs.declared.causes.Cause.{Cause}
 use Rattle.search_core.specs.declared.causes.Outcome.{Outcome}
+use Rattle.search_terms.specs.Caused.{AreLooseShown}
 use Rattle.search_terms.specs.Search.{IsBound, IsRun, IsSearchRun, IsSearchStep, SearchState, best}
 use Rattle.search_terms.specs.SearchTree.{ClosedLeaf, causes, closed_leaves}
 use Rattle.search_terms.specs.Ways.{replaced}
@@ -41,6 +42,8 @@ pub record IsKeyStep (key pivots : ℕ) (columns more : List Route) (s t : Searc
   pub budget : t.budget ≡ s.budget
   -- where the causes of splits show by the columns of before, all do by those of after
   pub shown : AreShown columns s → AreShown more t
+  -- and where the open leaves below loose splits prove what their shares nearly prove, they go on to
+  pub priced : AreLoosePriced columns s → AreLoosePriced more t
   pub step : (held : List Route) → IsSearchStep s.instance (way_to s key) pivots columns more (state_of held s) (state_of held t)
   -- the other keys stay, with their leaves
   pub stay : (other : ℕ) → other ≢ key → IsOpenKey s other → IsOpenKey t other × (way_to t other ≡ way_to s other)
@@ -77,4 +80,5 @@ pub record IsSolved (i : Instance) (nodes : ℕ) (kept pool : List Route) (o : O
   pub run : IsSearchRun i nodes kept pool state
   pub outcome : IsOutcome i pool state o
   pub shown : IsShownOutcome i pool state o
+  pub loose : AreLooseShown (root_limits i) state.tree
   pub done : IsDone i state

@@ -17,7 +17,7 @@ use crew_instance::Plan;
 use crew_terms::Choice;
 use handed_prices::{Handed, hand_on};
 use kept_prices::KeptPrices;
-use label_pricing::Pricer;
+use label_pricing::{Pricer, worths_decide};
 use node_limits::Limits;
 use node_solver::{Effort as NodeEffort, NodeEnd, Step, Why, process};
 use node_walk::{Turn, ascend, descend};
@@ -79,6 +79,10 @@ fn examine<C: Columns>(
             why,
             prices,
         } => {
+            worths_decide();
+            // It is known from here on that the limits are of an instance, and the prices in their range.
+            let _ = limits.instance();
+            let _ = prices.tasks();
             let handed = hand_on(alloc, limits, pricer, choice, own, bound, &prices)?;
             let ending = Ending::Split {
                 choice,

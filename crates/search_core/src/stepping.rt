@@ -22,7 +22,7 @@ ghost use Rattle.search_tree.specs.declared.nodes.Content.TheVariants as content
 
 use keyed_steps::{run_leaves, steps_at_closed, steps_at_split};
 use keyed_tree::{numbers_stay, same_numbers_same_tree};
-use search_laws::run_keeps;
+use search_laws::{loose_splits_stay_shown, run_keeps};
 
 /// Where the prices that were found close the leaf under a key, that is a step, and what always holds goes on to hold.
 pub(crate) fn closings_are_steps()
@@ -34,6 +34,8 @@ pub(crate) fn closings_are_steps()
         IsPutClosed s.keyed keyed s.prices prices key n kept →
         IsKeptSearch (after_step s found keyed prices s.causes) × IsKeyStep key pivots columns more s (after_step s found keyed prices s.causes) }
 {
+    loose_splits_stay_shown();
+    run_leaves();
     steps_at_closed();
     same_numbers_same_tree();
     numbers_stay();
@@ -52,6 +54,7 @@ pub(crate) fn splits_are_steps()
         IsKeptSearch (after_step s found keyed prices causes) × IsKeyStep key pivots columns more s (after_step s found keyed prices causes) }
 {
     run_keeps();
+    loose_splits_stay_shown();
     run_leaves();
     steps_at_split();
     same_numbers_same_tree();

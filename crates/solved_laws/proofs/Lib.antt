@@ -2,3 +2,4 @@ pub mod Trees
 pub mod Pools
 pub mod Told
 pub mod OneMore
+pub mod SameCauses

@@ -113,7 +113,7 @@ parts_rise : (from : ℕ) (shares : List Share) → Rise from (map column_in sha
 parts_rise from [] rise = tt
 parts_rise from (s ∷ shares) rise = (rise.0, parts_rise (suc s.column) shares rise.1)
 
-told_shares : (pool : List Route) (shares : List Share) → map (told_share pool) (map part_of shares) ≡ map (share_of pool) shares
+pub told_shares : (pool : List Route) (shares : List Share) → map (told_share pool) (map part_of shares) ≡ map (share_of pool) shares
 told_shares pool [] = refl
 told_shares pool (s ∷ shares) = ap (λ (xs : List RouteShare). share_of pool s ∷ xs) (told_shares pool shares)
 

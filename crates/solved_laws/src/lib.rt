@@ -2,19 +2,24 @@
 // causes as a dossier tells them. Each law is the contract of a function with nothing to do.
 #![tactic(auto)]
 
-ghost use Rattle.std.specs.Prelude.{◌≡◌, ◌≤◌, ℕ, List, All, length};
+ghost use Rattle.std.specs.Prelude.{◌≡◌, ◌≤◌, ℕ, List, All, length, map};
 ghost use Rattle.branch_tree.specs.Trees.{BranchTree, preorder};
+ghost use Rattle.cert_write.specs.Given.{IsWritable};
+ghost use Rattle.crew_terms.specs.Branches.{splits};
 ghost use Rattle.crew_terms.specs.Instance.{Instance};
 ghost use Rattle.crew_terms.specs.Limits.{Route, root_limits};
 ghost use Rattle.crew_terms.specs.Plan.{unassigned_count};
 ghost use Rattle.crew_terms.specs.Rules.{IsInstance};
 ghost use Rattle.dossier_terms.specs.Causes.{Cause as ToldCause};
 ghost use Rattle.dossier_terms.specs.Dossier.{IsPooled};
-ghost use Rattle.search_core.specs.Steps.{IsSolved};
+ghost use Rattle.search_core.specs.Searching.{split_cause};
+ghost use Rattle.search_core.specs.Steps.{IsOutcome, IsSolved};
+ghost use Rattle.search_core.specs.declared.causes.Cause.{Cause};
 ghost use Rattle.search_core.specs.declared.causes.Outcome.{Outcome};
-ghost use Rattle.search_terms.specs.Search.{IsSearchRun, SearchState};
+ghost use Rattle.search_terms.specs.Search.{IsRun, IsSearchRun, SearchState};
 ghost use Rattle.solved_laws.specs.Proved.{IsProvedOutcome};
-ghost use Rattle.solved_laws.specs.Told.{AreTold};
+ghost use Rattle.solved_laws.specs.Told.{AreTold, Tell};
+ghost use Rattle.tree_outlines.specs.Outline.{handed_out};
 ghost use Rattle.written_laws.specs.Proved.{AreCauses};
 
 mod telling;
@@ -31,6 +36,17 @@ pub fn solved_trees_are_proved()
     run_is_sound();
     run_keeps();
     search_run_is_run();
+}
+
+/// What a search comes to after any steps can be written: each split is one of its node, and has a cause, and each leaf has prices
+/// of its node.
+pub fn run_outcomes_are_writable()
+    ensures tree { (i : Instance) (budget : ℕ) (pool : List Route) (s : SearchState) (o : Outcome) → IsRun i budget s →
+        IsOutcome i pool s o → IsWritable (root_limits i) (handed_out s) }
+    ensures causes { (i : Instance) (pool : List Route) (s : SearchState) (o : Outcome) → IsOutcome i pool s o →
+        length o.causes.items ≡ splits (handed_out s) }
+{
+    run_is_sound();
 }
 
 /// A pool that the steps of a search leave is one of the instance, where the kept routes are.
@@ -51,3 +67,9 @@ pub fn solved_causes_may_be_told()
 {
     one_tree();
 }
+
+/// What a dossier tells of the causes of a search is what the search has of them, with the columns of the dossier's pool.
+pub fn told_causes_tell()
+    ensures { (pool : List Route) (causes : List Cause) (told : List ToldCause) → AreTold causes told →
+        Tell pool told (map (split_cause pool) causes) }
+{}

@@ -1,18 +1,20 @@
 -- the parts of a dossier, and their rules
-use Rattle.std.proofs.Common.{◌≡◌, ◌∷◌, [], ◌++◌, ℕ, List, length, drop, ap, refl, subst, sym, ◌∙◌, append_assoc, append-nil, arith}
+use Rattle.std.proofs.Common.{◌≡◌, [], ◌++◌, ℕ, List, length, drop, ap, refl, subst, sym, ◌∙◌, append_assoc, append-nil, arith}
 use Rattle.std.proofs.lemmas.List.{length-append}
 use Rattle.std.proofs.Math.Seq.{drop-append_seam}
-use Rattle.crew_terms.specs.Branches.{LeafNode, SplitNode, Claim, Bare, Open, Closed, closed, closed_in, splits}
+use Rattle.crew_terms.specs.Branches.{LeafNode, SplitNode, closed, splits}
 use Rattle.crew_terms.specs.Limits.{Limits, Route, root_limits}
 use Rattle.crew_terms.specs.Plan.{unassigned_count}
 use Rattle.crew_terms.specs.Tree.{IsSound, child}
 use Rattle.crew_terms.specs.declared.Side.TheVariants.{First, Second}
-use Rattle.branch_tree.specs.Trees.{BranchTree, ClaimedLeaf, claim_in, closed as given_closed}
+use Rattle.crew_terms.specs.declared.TreeCounts.{TreeCounts}
+use Rattle.branch_tree.specs.Trees.{BranchTree, closed as given_closed}
 use Rattle.dossier_terms.specs.Causes.{Cause}
-use Rattle.dossier_terms.specs.Dossier.{AreCaused, AreWritten, Dossier, IsGood, Leaf, Written, tree_of}
+use Rattle.dossier_terms.specs.Dossier.{AreCaused, AreWritten, Dossier, IsGood, Written, tree_of}
 use Rattle.dossier_terms.specs.declared.DossierForm.TheVariants.{Two}
+use Rattle.cert_write.specs.Counted.{same_counts, same_splits}
 use Rattle.cert_write.specs.Given.{Given}
-use Rattle.cert_write.specs.Dossiers.{IsDossierOf, IsPricedClaim, IsPricedTree, IsTreeOfGiven, causes_of}
+use Rattle.cert_write.specs.Dossiers.{IsDossierOf, IsPricedTree, IsTreeOfGiven, causes_of}
 use Rattle.written_laws.specs.Proved.{AreCauses, IsProvedGiven}
 
 -- the dossier of these parts with this tree
@@ -31,28 +33,8 @@ dossier_is g d is =
 
 -- ---- numbers of the tree
 
-same_splits : (n : Limits) (t : BranchTree) (w : Written) → IsPricedTree n t w → splits t ≡ splits w
-same_splits n (LeafNode given) (LeafNode claim) is = refl
-same_splits n (LeafNode given) (SplitNode split low high) is = absurd is
-same_splits n (SplitNode choice first second) (LeafNode claim) is = absurd is
-same_splits n (SplitNode choice first second) (SplitNode split low high) is =
-    let a = same_splits (child n choice First) first low is.1 in
-    let b = same_splits (child n choice Second) second high is.2 in
-    omega (arith, a, b)
-
-closed_same : (n : Limits) (given : ClaimedLeaf) (claim : Claim Leaf) → IsPricedClaim n given claim → closed_in (claim_in given.state) ≡ closed_in claim
-closed_same n given Bare is = ap (λ s. closed_in (claim_in s)) is
-closed_same n given (Open leaf) is = ap (λ s. closed_in (claim_in s)) is.0
-closed_same n given (Closed leaf) is = ap (λ s. closed_in (claim_in s)) is.0
-
 same_closed : (n : Limits) (t : BranchTree) (w : Written) → IsPricedTree n t w → given_closed t ≡ closed w
-same_closed n (LeafNode given) (LeafNode claim) is = closed_same n given claim is
-same_closed n (LeafNode given) (SplitNode split low high) is = absurd is
-same_closed n (SplitNode choice first second) (LeafNode claim) is = absurd is
-same_closed n (SplitNode choice first second) (SplitNode split low high) is =
-    let a = same_closed (child n choice First) first low is.1 in
-    let b = same_closed (child n choice Second) second high is.2 in
-    omega (arith, a, b)
+same_closed n t w is = ap (λ (c : TreeCounts). c.closed) (same_counts n t w is)
 
 -- a cause for each split
 causes_count : (w : Written) → length (causes_of w) ≡ splits w

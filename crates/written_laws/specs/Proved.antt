@@ -16,7 +16,7 @@ use Rattle.branch_tree.specs.Trees.{BranchTree, closed, preorder}
 use Rattle.branch_tree.specs.declared.tree.LeafState.{LeafState}
 use Rattle.branch_tree.specs.declared.tree.LeafState.TheVariants.{Bare, Open, Closed}
 use Rattle.search_terms.specs.Proven.{PricesProve}
-use Rattle.cert_write.specs.Given.{Given, IsPriced}
+use Rattle.cert_write.specs.Given.{Given, IsPriced, IsWritable}
 
 -- what a leaf in this state claims of its prices holds: that they prove l and, where it is closed, u too
 abbrev pub IsProvedLeaf : Limits → ℕ → ℕ → LeafState → Prices → Type 0
@@ -29,6 +29,12 @@ abbrev pub IsProvedTree : Limits → ℕ → ℕ → BranchTree → Type 0
 IsProvedTree n l u (LeafNode leaf) = IsPriced n leaf.prices × IsProvedLeaf n l u leaf.state leaf.prices
 IsProvedTree n l u (SplitNode choice first second) =
     CanSplit n choice × IsProvedTree (child n choice First) l u first × IsProvedTree (child n choice Second) l u second
+
+-- such a tree can be written
+pub proved_is_writable : (n : Limits) (l u : ℕ) (t : BranchTree) → IsProvedTree n l u t → IsWritable n t
+proved_is_writable n l u (LeafNode leaf) is = is.0
+proved_is_writable n l u (SplitNode choice first second) is =
+    (is.0, proved_is_writable (child n choice First) l u first is.1, proved_is_writable (child n choice Second) l u second is.2)
 
 -- the causes of a tree's splits, in preorder, may be told of their nodes, where the plan leaves u tasks unassigned
 abbrev pub AreCauses : List Route → ℕ → Limits → BranchTree → List Cause → Type 0

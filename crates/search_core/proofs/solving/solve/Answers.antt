@@ -8,7 +8,9 @@ use Rattle.crew_terms.specs.Limits.{Route, root_limits}
 use Rattle.search_core.specs.Searching.{state_of, way_to}
 use Rattle.search_core.specs.Steps.{IsDone, IsOutcome, IsShownOutcome, IsSolved}
 use Rattle.search_core.specs.declared.causes.Outcome.{Outcome}
+use Rattle.search_terms.specs.Caused.{AreLooseShown}
 use Rattle.search_terms.specs.Search.{Goes, IsSearchRun, IsSearchStep, Starts}
+use Rattle.search_terms.specs.SearchTree.{SearchTree}
 use Rattle.search_terms.specs.declared.TheConstants.{PIVOTS}
 use Rattle.search_core.proofs.Showing.{start_shown}
 use Rattle.search_core.proofs.solving.solve.Goals as goal
@@ -21,6 +23,8 @@ pub loop-key-init : goal.loop-key-init
 loop-key-init g c = record {
   run = λ held. Starts (state_of held c.in_ok-search.search) (c.in_ok-search.ensures.start held);
   instance = c.in_ok-search.ensures.instance;
+  priced = λ rest. subst (λ (t : SearchTree). AreLooseShown (root_limits c.in_ok-search.search.instance) t)
+      (sym (c.in_ok-search.ensures.start (g.C.Columns.columns c.args.columns.now ++ rest)).tree) tt;
   shown = start_shown (g.C.Columns.columns c.args.columns.now) c.in_ok-search.search (zero_prices (root_limits c.args.instance.now)) (c.in_ok-search.ensures.start []).tree;
   grown = record { added = []; all = sym (append-nil (g.C.Columns.columns c.args.columns.now)) };
 }
@@ -40,6 +44,7 @@ loop-key-preserved g c =
           (subst (λ (i : Instance). IsSearchStep i way PIVOTS was pool (state_of held s) (state_of held t)) inv.instance (step.step held));
       instance = step.instance ∙ inv.instance;
       shown = step.shown inv.shown;
+      priced = step.priced inv.priced;
       grown = record {
         added = inv.grown.added ++ more.added;
         all = more.all ∙ ap (λ (xs : List Route). xs ++ more.added) inv.grown.all
@@ -60,5 +65,6 @@ returns-clause-outcome g c =
       run = subst (λ (i : Instance). IsSearchRun i c.args.nodes kept pool (state_of pool s)) (sym inv.instance) (inv.run pool);
       outcome = is;
       shown = shows;
+      loose = subst (λ (cs : List Route). AreLooseShown (root_limits s.instance) (state_of cs s).tree) (append-nil pool) (inv.priced []);
       done = done;
     }) (c.close.ensures.outcome pool) (c.close.ensures.shown pool inv.shown))

@@ -1,4 +1,4 @@
-use Rattle.std.proofs.Common.{◌≡◌, ◌≢◌, ◌≤◌, ◌<◌, ◌+◌, ◌-◌, ◌*◌, ◌++◌, ◌∙◌, ◌∷◌, [], ℕ, ℤ, List, Some, length, refl, ap, sym, subst, arith}
+use Rattle.std.proofs.Common.{◌≡◌, ◌≢◌, ◌≤◌, ◌<◌, ◌+◌, ◌-◌, ◌*◌, ◌++◌, ◌∙◌, ◌∷◌, [], ℕ, ℤ, List, Some, length, refl, ap, sym, subst, append_assoc, arith}
 use Rattle.std.specs.Prelude.{All, unwrap_or}
 use Rattle.std.proofs.lemmas.List.{length-append, length-set}
 use Rattle.crew_terms.specs.Leaf.{Prices}
@@ -13,7 +13,11 @@ use Rattle.search_core.specs.Kept.{IsKeptSearch}
 use Rattle.search_core.specs.Searching.{Searching, cause_at, price_at, state_of, way_to}
 use Rattle.search_core.specs.Steps.{IsKeyStep, after_step}
 use Rattle.search_terms.specs.Proven.{PricesProve}
-use Rattle.search_terms.specs.Search.{IsSearchStep, Then}
+use Rattle.crew_terms.specs.Branches.{LeafNode}
+use Rattle.search_terms.specs.Caused.{AreLooseShown}
+use Rattle.search_terms.specs.Search.{Closes, IsSearchStep, Then}
+use Rattle.search_terms.specs.SearchTree.{ClosedLeaf, SearchTree}
+use Rattle.search_terms.specs.Ways.{replaced}
 use Rattle.search_tree.specs.declared.nodes.Content.TheVariants as content
 use Rattle.search_tree.specs.declared.nodes.Node.{Node}
 use Rattle.search_tree.specs.Numbered.{node_of, tree_of, way_of, with_content}
@@ -76,6 +80,21 @@ returns x = λ s key n own pivots bound columns more found kept keyed prices ins
       record {
         instance = refl;
         budget = refl;
+        priced = λ old rest.
+            let held = more ++ rest in
+            let way = way_of s.keyed.nodes n in
+            let open_node = was.leaves key n bound w in
+            let has = x.run_leaves.ensures i s.budget s.left key n open_node.1 bound (price_at s.prices) (cause_at held s.causes) s.plan s.keyed inst (is.run held) was w open_node.2 in
+            let new : SearchTree = LeafNode (ClosedLeaf (price_at prices last)) in
+            let changed : IsSearchStep i way pivots columns more (state_of held s) (state_of held t) = record (step held) {
+              new = new;
+              becomes = Closes (price_at prices last)
+                  (subst (λ (m : Limits). PricesProve m (price_at prices last) (unassigned_count (unwrap_or found s.plan))) (sym has.limits) proved) refl;
+              tree = taken.tree (price_at prices) (cause_at held s.causes) ∙ ap (λ (u : SearchTree). replaced u way new) (tree held);
+            } in
+            let more_is : columns ++ (extends.added ++ rest) ≡ held = sym (append_assoc columns extends.added rest) ∙ ap (λ (xs : List Route). xs ++ rest) (sym extends.all) in
+            x.loose_splits_stay_shown.ensures.step i way pivots columns more (state_of held s) (state_of held t) changed inst tt
+            (subst (λ (cs : List Route). AreLooseShown root (state_of cs s).tree) more_is (old (extends.added ++ rest)));
         shown = shown_closed s columns more N.instance N found extends plan key n keyed prices kept put;
         step = λ held. subst (λ (y : List Side). IsSearchStep i y pivots columns more (state_of held s) (state_of held t)) (sym way) (step held);
         stay = λ other ne o.

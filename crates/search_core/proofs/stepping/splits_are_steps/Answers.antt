@@ -1,4 +1,4 @@
-use Rattle.std.proofs.Common.{◌≡◌, ◌≢◌, ◌≤◌, ◌<◌, ◌+◌, ◌-◌, ◌*◌, ◌++◌, ◌∙◌, ◌∷◌, [], ℕ, ℤ, List, length, refl, ap, sym, subst, arith}
+use Rattle.std.proofs.Common.{◌≡◌, ◌≢◌, ◌≤◌, ◌<◌, ◌+◌, ◌-◌, ◌*◌, ◌++◌, ◌∙◌, ◌∷◌, [], ℕ, ℤ, List, length, refl, ap, sym, subst, append_assoc, arith}
 use Rattle.std.specs.Prelude.{All, unwrap_or}
 use Rattle.std.proofs.lemmas.List.{length-append, length-set}
 use Rattle.crew_terms.specs.Leaf.{Prices}
@@ -18,9 +18,13 @@ use Rattle.search_core.specs.Settled.{number_of}
 use Rattle.search_core.specs.Shown.{IsShownCause, numbered}
 use Rattle.search_core.specs.Steps.{after_step}
 use Rattle.search_core.specs.declared.causes.Cause.{Cause}
-use Rattle.search_terms.specs.Search.{IsHandedOn, IsSearchStep, IsSplit, Then}
-use Rattle.search_terms.specs.SearchTree.{SplitCause}
-use Rattle.search_terms.specs.Ways.{limits_at}
+use Rattle.crew_terms.specs.Branches.{LeafNode, SplitNode}
+use Rattle.node_solver.specs.Causes.{cause_of}
+use Rattle.search_terms.specs.Caused.{AreLooseShown, IsLooseShown, LooseProves}
+use Rattle.search_terms.specs.Earned.{IsEarned, Why as Reason}
+use Rattle.search_terms.specs.Search.{IsHandedOn, IsSearchStep, IsSplit, Splits, Then}
+use Rattle.search_terms.specs.SearchTree.{OpenLeaf, SearchTree, Split, SplitCause}
+use Rattle.search_terms.specs.Ways.{limits_at, prices_at, replaced}
 use Rattle.search_tree.specs.declared.nodes.Content.{Content}
 use Rattle.search_tree.specs.declared.nodes.Content.TheVariants as content
 use Rattle.search_tree.specs.declared.nodes.Node.{Node}
@@ -29,6 +33,7 @@ use Rattle.search_tree.specs.Ways.{turns_of}
 use Rattle.search_core.proofs.Exploring.{after_instance}
 use Rattle.search_core.proofs.StepLemmas.{cause_last, cause_stays, earned_any, handed_known, handed_more, handed_price, handed_shapes, improves, now_is, price_stays, same_shape, way_is}
 use Rattle.search_core.proofs.Keeping.{few_unassigned}
+use Rattle.search_core.proofs.Pricing.{proves_grown}
 use Rattle.search_core.proofs.Showing.{plan_less, same_limits, shown_split}
 use Rattle.search_core.proofs.stepping.splits_are_steps.Goals as goal
 
@@ -128,6 +133,37 @@ returns x = λ s key n own pivots bound columns more found choice why handed key
       record {
         instance = refl;
         budget = refl;
+        priced = λ old rest.
+            let held = more ++ rest in
+            let way = way_of s.keyed.nodes n in
+            let has = x.run_leaves.ensures i s.budget s.left key n own bound (price_at s.prices) (cause_at held s.causes) s.plan s.keyed inst (is.run held) was w content_is in
+            let the_split : Split = record { choice = choice; cause = cause_at held causes last } in
+            let new : SearchTree = SplitNode the_split (LeafNode (OpenLeaf (price_at prices number))) (LeafNode (OpenLeaf (price_at prices number))) in
+            let why_is = ap (λ (y : SplitCause). y.why) (cause held) in
+            let valid : IsSplit (unassigned_count better) pivots more N (price_at s.prices own) (price_at prices number) the_split = record {
+              valid = splits.valid;
+              some = let one = splits.some in omega (arith, one, count);
+              count = ap (λ (y : SplitCause). y.now) (cause held) ∙ count;
+              found = splits.found;
+              earned = subst (λ (y : Reason). IsEarned N (unassigned_count better) splits.found pivots more y) (sym why_is)
+                  (subst (λ m. IsEarned N m splits.found pivots more (cause_of held why)) count
+                  (earned_any N (now_after (unassigned_count s.plan) found) pivots splits.found more more held why splits.earned));
+              on = subst (λ (p : Prices). IsHandedOn N (price_at s.prices own) splits.found p) (sym price) splits.on.on;
+            } in
+            let near = subst (λ (y : Reason). LooseProves N splits.found y) (sym why_is)
+            (proves_grown N (now_after (unassigned_count s.plan) found) more rest why splits.found splits.shown splits.near) in
+            let shows = x.loose_splits_stay_shown.ensures.new (unassigned_count better) pivots more N (price_at s.prices own) (price_at prices number) the_split valid has.node.limits near in
+            let changed : IsSearchStep i way pivots columns more (state_of held s) (state_of held t) = record (step held) {
+              new = new;
+              becomes = Splits the_split (price_at prices number)
+                  (subst (λ (m : Limits). IsSplit (unassigned_count better) pivots more m (prices_at (state_of held s).tree way) (price_at prices number) the_split) (sym has.limits)
+                  (subst (λ (p : Prices). IsSplit (unassigned_count better) pivots more N p (price_at prices number) the_split) (sym has.prices) valid)) refl;
+              tree = turned.tree (price_at prices) (cause_at held causes) ∙ ap (λ (u : SearchTree). replaced u way new) (tree held);
+            } in
+            let more_is : columns ++ (extends.added ++ rest) ≡ held = sym (append_assoc columns extends.added rest) ∙ ap (λ (xs : List Route). xs ++ rest) (sym extends.all) in
+            x.loose_splits_stay_shown.ensures.step i way pivots columns more (state_of held s) (state_of held t) changed inst
+            (subst (λ (m : Limits). IsLooseShown m new the_split.cause.why) (sym has.limits) shows, tt, tt)
+            (subst (λ (cs : List Route). AreLooseShown root (state_of cs s).tree) more_is (old (extends.added ++ rest)));
         shown = shown_split s columns more N.instance N found extends plan key n own choice the_cause handed keyed prices causes put at here;
         step = λ held. subst (λ (y : List Side). IsSearchStep i y pivots columns more (state_of held s) (state_of held t)) (sym way) (step held);
         stay = λ other ne o.
