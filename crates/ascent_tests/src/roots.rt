@@ -49,9 +49,11 @@ fn a_task_that_no_team_can_do(rt: HostRuntime) -> Result<(), Fail> {
 /// No prices prove more here: half of each team's routes serve the task whole.
 #[test]
 fn shares_of_two_routes(rt: HostRuntime) -> Result<(), Fail> {
-    let instance = hardly_overlapping(rt.alloc(), 450)?;
-    let (proved, _) = proved_at_root(rt.alloc(), &instance, 1, ROOT)?;
-    assert_eq!(rt; proved, 0);
+    for latest in [450, 480] {
+        let instance = hardly_overlapping(rt.alloc(), latest)?;
+        let (proved, _) = proved_at_root(rt.alloc(), &instance, 1, ROOT)?;
+        assert_eq!(rt; proved, 0);
+    }
     Ok(())
 }
 
@@ -96,7 +98,22 @@ fn uses_of_the_last_rounds(rt: HostRuntime) -> Result<(), Fail> {
 #[test]
 fn no_rounds(rt: HostRuntime) -> Result<(), Fail> {
     let instance = two_at_once(rt.alloc())?;
-    let (proved, rounds) = proved_at_root(rt.alloc(), &instance, 1, Effort { rounds: 0, ..ROOT })?;
-    assert_eq!(rt; (proved, rounds), (0, 0));
+    let limits = Limits::root(rt.alloc(), &instance)?;
+    let mut start = Prices::zero(rt.alloc(), &limits)?;
+    assert!(rt; start.tasks() == 2);
+    start.set_pi(1, -7);
+    let found = ascend(rt.alloc(), &limits, start, 1, Effort { rounds: 0, ..ROOT })?;
+    assert_eq!(rt; (found.proved, found.rounds), (0, 0));
+    assert!(rt; found.prices.tasks() == 2);
+    assert_eq!(rt; (found.prices.pi(0), found.prices.pi(1)), (0, -7));
+    Ok(())
+}
+
+/// With nothing to look at it makes one round.
+#[test]
+fn few_looks(rt: HostRuntime) -> Result<(), Fail> {
+    let instance = two_at_once(rt.alloc())?;
+    let (_, rounds) = proved_at_root(rt.alloc(), &instance, 2, Effort { looks: 0, ..ROOT })?;
+    assert_eq!(rt; rounds, 1);
     Ok(())
 }

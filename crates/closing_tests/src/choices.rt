@@ -1,6 +1,7 @@
 // Where a node is split.
-ghost use Rattle.std.specs.Prelude.{All, IsTrue};
+ghost use Rattle.std.specs.Prelude.{All, IfOk, IsTrue};
 ghost use Rattle.branch_choice.specs.Uses.{IsPermittedUse};
+ghost use Rattle.crew_fixtures.specs.Sizes.{HasSizes};
 
 use branch_choice::{Use, choose};
 use crew_fixtures::{
@@ -24,7 +25,7 @@ fn used(team: u32, task: u32, start: u32) -> Use {
 }
 
 /// Whether the team of each use may begin the task at the minute.
-fn are_permitted(limits: &Limits<'_>, uses: &[Use]) -> bool
+pub fn are_permitted(limits: &Limits<'_>, uses: &[Use]) -> bool
     ensures { IsTrue result → All (IsPermittedUse limits.now.limits) uses.now }
 {
     let instance = limits.instance();
@@ -68,7 +69,9 @@ fn takes_a_pair_of_one_minute(rt: HostRuntime) -> Result<(), Fail> {
 }
 
 /// Two teams, and two tasks that either of them may begin from 07:00 to 07:30.
-fn tied(alloc: Global) -> Result<Instance, FixtureFault> {
+pub fn tied(alloc: Global) -> Result<Instance, FixtureFault>
+    ensures { IfOk result (HasSizes 2 2 2) }
+{
     gate_instance(
         alloc,
         &[team(b"T1")?, team(b"T2")?],

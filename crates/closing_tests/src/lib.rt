@@ -5,3 +5,5 @@
 mod choices;
 #[cfg(test)]
 mod closings;
+#[cfg(test)]
+mod splits;
