@@ -30,7 +30,8 @@ pub fn run_steady(
     ensures untouched { result ≡ Status.Words → src.new ≡ src.old }
     ensures ended { (command : Command) → AskFor command (map (λ w. string_bytes w) words.now) → IsTrue (reads_input command)
         → IsTrue (is_done result) → src.new.left ≡ [] }
-    ensures unread { (command : Command) → AskFor command (map (λ w. string_bytes w) words.now) → reads_input command ≡ false → src.new ≡ src.old }
+    ensures unread { (command : Command) → AskFor command (map (λ w. string_bytes w) words.now) → reads_input command ≡ false
+        → src.new ≡ src.old }
     ensures reads { result ≢ Status.ReadFault }
     ensures writes { result ≢ Status.WriteFault }
 {
@@ -53,7 +54,8 @@ pub fn run_in_memory(
     ensures untouched { result ≡ Status.Words → (src.new ≡ src.old) × (out.new ≡ out.old) }
     ensures ended { (command : Command) → AskFor command (map (λ w. string_bytes w) words.now) → IsTrue (reads_input command)
         → IsTrue (is_done result) → src.new.left ≡ [] }
-    ensures unread { (command : Command) → AskFor command (map (λ w. string_bytes w) words.now) → reads_input command ≡ false → src.new ≡ src.old }
+    ensures unread { (command : Command) → AskFor command (map (λ w. string_bytes w) words.now) → reads_input command ≡ false
+        → src.new ≡ src.old }
 
     // No fault is told where no call is due to fail, of the sink while room is left.
     ensures reads { src.old.fails ≡ [] → result ≢ Status.ReadFault }

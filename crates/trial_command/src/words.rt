@@ -19,7 +19,8 @@ pub struct Trial {
 
 /// The natural number whose canonical decimal the word is; None exactly where it is that of none up to `MOST_NUMBER`.
 fn natural(word: &str) -> Option<u64>
-    ensures { MatchOption result ((n : ℕ) → n ≤ MOST_NUMBER → word.now ≢ decimal n) (λ n. (n ≤ MOST_NUMBER) × (word.now ≡ decimal n)) }
+    ensures { MatchOption result ((n : ℕ) → n ≤ MOST_NUMBER → word.now ≢ decimal n)
+        (λ n. (n ≤ MOST_NUMBER) × (word.now ≡ decimal n)) }
 {
     let Some(z) = read_number(word.as_bytes()) else {
         return None;
@@ -33,7 +34,8 @@ fn natural(word: &str) -> Option<u64>
 /// The number of this range whose canonical decimal the word is; None exactly where it is that of none.
 fn number_in(word: &str, least: u64, most: u64) -> Option<u64>
     requires { most ≤ MOST_NUMBER }
-    ensures { MatchOption result ((n : ℕ) → least ≤ n → n ≤ most → word.now ≢ decimal n) (λ n. (least ≤ n) × (n ≤ most) × (word.now ≡ decimal n)) }
+    ensures { MatchOption result ((n : ℕ) → least ≤ n → n ≤ most → word.now ≢ decimal n)
+        (λ n. (least ≤ n) × (n ≤ most) × (word.now ≡ decimal n)) }
 {
     let Some(n) = natural(word) else {
         return None;
