@@ -44,8 +44,8 @@ impl Builder {
     }
 }
 
-/// The task that a fault names, the first of two.
-fn task_of_verdict(verdict: PlanVerdict) -> Option<u32>
+/// The task that a plan's first fault names, the first of two; None where the plan is feasible.
+pub fn task_of_verdict(verdict: PlanVerdict) -> Option<u32>
     ensures { result ≡ task_named verdict }
 {
     match verdict {

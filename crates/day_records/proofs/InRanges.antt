@@ -5,7 +5,7 @@ use Rattle.std.proofs.lemmas.Int.{ints}
 use Rattle.crew_terms.specs.Words.{Words}
 use Rattle.field_table.specs.Fields.{Accepts}
 use Rattle.field_table.specs.declared.fields.Kind.{Kind}
-use Rattle.day_terms.specs.Forms.{Form, form_of, place_form, travel_form, route_time_form, default_travel_form, team_form, task_form, cancel_form, move_form, longer_form, needs_form, sick_form, shift_form, skill_form, unskill_form, plan_form}
+use Rattle.day_terms.specs.Forms.{Form, form_of, place_form, travel_form, route_time_form, default_travel_form, team_form, task_form, cancel_form, move_form, longer_form, needs_form, sick_form, shift_form, skill_form, unskill_form, plan_form, now_form, thaw_form}
 use Rattle.day_terms.specs.Forms.Slot.{Ranged}
 use Rattle.day_terms.specs.Fields.{field_in, AllGive}
 use Rattle.day_terms.specs.Ranges.{IsInRange}
@@ -72,6 +72,12 @@ unskill_range fields entry (n1, named1, (t, given, e)) = subst IsInRange (sym e)
 plan_range : KeepsRange plan_form
 plan_range fields entry (t, given, e) = subst IsInRange (sym e) (most given)
 
+now_range : KeepsRange now_form
+now_range fields entry (t, given, e) = subst IsInRange (sym e) (most given)
+
+thaw_range : KeepsRange thaw_form
+thaw_range fields entry (n1, named1, e) = subst IsInRange (sym e) (tt)
+
 all_ranges : (kind : RecordKind) → KeepsRange (form_of kind)
 all_ranges kinds.Place = place_range
 all_ranges kinds.Travel = travel_range
@@ -88,6 +94,8 @@ all_ranges kinds.Shift = shift_range
 all_ranges kinds.Skill = skill_range
 all_ranges kinds.Unskill = unskill_range
 all_ranges kinds.Plan = plan_range
+all_ranges kinds.Now = now_range
+all_ranges kinds.Thaw = thaw_range
 
 pub said_range : (fields : Words) (entry : Entry) → ReadsRecord fields (Ok entry) → IsInRange entry
 said_range fields entry (OfNoKind unknown is) = cc

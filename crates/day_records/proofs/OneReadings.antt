@@ -159,7 +159,9 @@ kind_by key =
     if bytes_eq (codes "shift") key then kinds.Shift else
     if bytes_eq (codes "skill") key then kinds.Skill else
     if bytes_eq (codes "unskill") key then kinds.Unskill else
-    kinds.Plan
+    if bytes_eq (codes "plan") key then kinds.Plan else
+    if bytes_eq (codes "now") key then kinds.Now else
+    kinds.Thaw
 
 kind_back : (kind : RecordKind) → kind_by (form_of kind).key ≡ kind
 unfolding kind_by
@@ -178,6 +180,8 @@ kind_back kinds.Shift = refl
 kind_back kinds.Skill = refl
 kind_back kinds.Unskill = refl
 kind_back kinds.Plan = refl
+kind_back kinds.Now = refl
+kind_back kinds.Thaw = refl
 
 -- so a record is of one kind
 kind_one : (fields : Words) (f g : RecordKind) → IsOfKind fields f → IsOfKind fields g → f ≡ g

@@ -25,6 +25,8 @@ pub(crate) fn kind_of(key: &[u8]) -> Option<RecordKind>
         b"skill" => Some(RecordKind::Skill),
         b"unskill" => Some(RecordKind::Unskill),
         b"plan" => Some(RecordKind::Plan),
+        b"now" => Some(RecordKind::Now),
+        b"thaw" => Some(RecordKind::Thaw),
         _ => None,
     }
 }
@@ -35,7 +37,7 @@ pub(crate) fn field_count(kind: RecordKind) -> usize
 {
     match kind {
         RecordKind::Place | RecordKind::DefaultTravel | RecordKind::Plan => 2,
-        RecordKind::Cancel | RecordKind::Sick => 2,
+        RecordKind::Cancel | RecordKind::Sick | RecordKind::Now | RecordKind::Thaw => 2,
         RecordKind::Longer | RecordKind::Needs | RecordKind::Skill | RecordKind::Unskill => 3,
         RecordKind::Travel | RecordKind::RouteTime | RecordKind::Move | RecordKind::Shift => 4,
         RecordKind::Team => 6,

@@ -2,7 +2,7 @@
 ghost use Rattle.std.specs.Prelude.{◌≡◌, ◌<◌, ◌+◌, length};
 ghost use Rattle.crew_terms.specs.Name.{IsName};
 ghost use Rattle.day_terms.specs.Records.{field_of};
-ghost use Rattle.day_terms.specs.Forms.{form_of, place_form, travel_form, route_time_form, default_travel_form, team_form, task_form, cancel_form, move_form, longer_form, needs_form, sick_form, shift_form, skill_form, unskill_form, plan_form};
+ghost use Rattle.day_terms.specs.Forms.{form_of, place_form, travel_form, route_time_form, default_travel_form, team_form, task_form, cancel_form, move_form, longer_form, needs_form, sick_form, shift_form, skill_form, unskill_form, plan_form, now_form, thaw_form};
 ghost use Rattle.day_records.specs.Rows.{ReadsFields};
 
 use crate::skills::read_skills;
@@ -212,6 +212,24 @@ fn read_plan(words: &RecordWords<'_>) -> Result<Entry, FieldFault>
     })
 }
 
+fn read_now(words: &RecordWords<'_>) -> Result<Entry, FieldFault>
+    requires { length words.now ≡ 2 }
+    ensures { ReadsFields now_form words.now result }
+{
+    fields!(words, time: TIME; else fault => fault);
+    Ok(Entry::Now { time: time as u32 })
+}
+
+fn read_thaw(words: &RecordWords<'_>) -> Result<Entry, FieldFault>
+    requires { length words.now ≡ 2 }
+    ensures { ReadsFields thaw_form words.now result }
+{
+    fields!(words, _task: NAME; else fault => fault);
+    Ok(Entry::Thaw {
+        task: name_at(words, 1),
+    })
+}
+
 /// The entry of a record of the kind that has the kind's number of fields, or the first bad field.
 pub(crate) fn read_row(kind: RecordKind, words: &RecordWords<'_>) -> Result<Entry, FieldFault>
     requires { length words.now ≡ length (form_of kind).slots + 1 }
@@ -233,5 +251,7 @@ pub(crate) fn read_row(kind: RecordKind, words: &RecordWords<'_>) -> Result<Entr
         RecordKind::Skill => read_skill(words),
         RecordKind::Unskill => read_unskill(words),
         RecordKind::Plan => read_plan(words),
+        RecordKind::Now => read_now(words),
+        RecordKind::Thaw => read_thaw(words),
     }
 }

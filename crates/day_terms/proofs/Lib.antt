@@ -8,3 +8,4 @@ pub mod Minutes
 pub mod Rounds
 pub mod Conditions
 pub mod Missing
+pub mod Free

@@ -5,7 +5,7 @@ use Rattle.std.proofs.lemmas.Option.{slice_get-map, get_or_from_slice_get}
 use Rattle.std.proofs.lemmas.Slice.Eq.{bytes_eq-Decides}
 use Rattle.crew_terms.specs.Instance.{minutes_between}
 use Rattle.day_terms.specs.State.{DayState}
-use Rattle.day_terms.specs.Rounds.{minutes_given, minutes_by_name, day_instance}
+use Rattle.day_terms.specs.Instances.{minutes_given, minutes_by_name, day_instance}
 use Rattle.day_terms.proofs.Times.{Bytes, no_tie}
 
 -- what a list that is mapped has at a place

@@ -6,7 +6,8 @@ use Rattle.std.proofs.lemmas.Bool.{cases_eq, cases_lt}
 use Rattle.std.proofs.Math.Pow.{pow-lt}
 use Rattle.std.proofs.lemmas.Nat.Bits.{bit_at_and, bit_at_or, bit_at_not, bit_at_above, bit_at-lt, bit_at-pow_same, bit_at-pow_other}
 use Rattle.crew_terms.specs.declared.Team.{Team}
-use Rattle.day_terms.specs.State.{DayState, after_entry}
+use Rattle.day_terms.specs.State.{DayState}
+use Rattle.day_terms.specs.Entries.{after_entry}
 use Rattle.day_terms.specs.declared.Entry.TheVariants.{Skill, Unskill}
 use Rattle.day_terms.proofs.Named.{changed_named}
 use Rattle.day_terms.proofs.Places.{same_some}

@@ -4,7 +4,7 @@ use Rattle.std.specs.Prelude.{bytes_eq, find, option_map}
 use Rattle.std.proofs.lemmas.Bool.Decides.{not_from_Decides}
 use Rattle.std.proofs.lemmas.Slice.Eq.{bytes_eq-Decides}
 use Rattle.day_terms.specs.State.{DayState, Given, is_way, given_time, with_time_between}
-use Rattle.day_terms.specs.Rounds.{minutes_given}
+use Rattle.day_terms.specs.Instances.{minutes_given}
 use Rattle.day_terms.specs.ByTest.{by_test, find_here, find_later}
 
 abbrev pub Bytes : Type 0

@@ -7,7 +7,7 @@ use Rattle.day_terms.specs.declared.TheConstants.{GREATEST_COUNT}
 use Rattle.day_terms.specs.declared.RecordKind.{RecordKind}
 use Rattle.day_terms.specs.declared.RecordKind.TheVariants as kinds
 use Rattle.day_terms.specs.declared.Entry.{Entry}
-use Rattle.day_terms.specs.declared.Entry.TheVariants.{Place, Travel, RouteTime, DefaultTravel, Team, Task, Cancel, Move, Longer, Needs, Sick, Shift, Skill, Unskill, Plan}
+use Rattle.day_terms.specs.declared.Entry.TheVariants.{Place, Travel, RouteTime, DefaultTravel, Team, Task, Cancel, Move, Longer, Needs, Sick, Shift, Skill, Unskill, Plan, Now, Thaw}
 
 -- what a field must be: a name, a number or a time in a range, or a list of skills
 pub data Slot : Type 0 where
@@ -124,6 +124,14 @@ unskill_form = record { key = codes "unskill"; slots = Named ∷ skill ∷ []; e
 abbrev pub plan_form : Form
 plan_form = record { key = codes "plan"; slots = nodes ∷ []; entry = λ n. Plan n }
 
+-- what is to begin before this time is frozen
+abbrev pub now_form : Form
+now_form = record { key = codes "now"; slots = time ∷ []; entry = λ n. Now n }
+
+-- a task whose frozen job is frozen no more
+abbrev pub thaw_form : Form
+thaw_form = record { key = codes "thaw"; slots = Named ∷ []; entry = λ task. Thaw task }
+
 -- what the records of a kind must be
 abbrev pub form_of : RecordKind → Form
 form_of kinds.Place = place_form
@@ -141,3 +149,5 @@ form_of kinds.Shift = shift_form
 form_of kinds.Skill = skill_form
 form_of kinds.Unskill = unskill_form
 form_of kinds.Plan = plan_form
+form_of kinds.Now = now_form
+form_of kinds.Thaw = thaw_form

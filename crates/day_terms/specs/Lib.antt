@@ -4,6 +4,10 @@ pub mod Fields
 pub mod Days
 pub mod Ranges
 pub mod State
+pub mod Faulty
+pub mod Instances
+pub mod Work
+pub mod Entries
 pub mod Rounds
 pub mod Refusal
 pub mod Laws

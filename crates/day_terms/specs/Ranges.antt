@@ -3,7 +3,7 @@ use Rattle.std.specs.Prelude.{◌≤◌, ◌<◌, ℕ}
 use Rattle.crew_terms.specs.declared.TheConstants.{LAST_MINUTE, MOST_NODES, SKILLS}
 use Rattle.day_terms.specs.declared.TheConstants.{GREATEST_COUNT}
 use Rattle.day_terms.specs.declared.Entry.{Entry}
-use Rattle.day_terms.specs.declared.Entry.TheVariants.{Place, Travel, RouteTime, DefaultTravel, Team, Task, Cancel, Move, Longer, Needs, Sick, Shift, Skill, Unskill, Plan}
+use Rattle.day_terms.specs.declared.Entry.TheVariants.{Place, Travel, RouteTime, DefaultTravel, Team, Task, Cancel, Move, Longer, Needs, Sick, Shift, Skill, Unskill, Plan, Now, Thaw}
 
 -- a minute of the day, or of a way
 abbrev pub IsMinute : ℕ → Type 0
@@ -38,3 +38,5 @@ IsInRange (Shift team from until) = IsMinute from × IsMinute until
 IsInRange (Skill team skill) = skill < SKILLS
 IsInRange (Unskill team skill) = skill < SKILLS
 IsInRange (Plan nodes) = nodes ≤ MOST_NODES
+IsInRange (Now time) = IsMinute time
+IsInRange (Thaw task) = Unit {0}

@@ -7,6 +7,7 @@ ghost use Rattle.crew_terms.specs.declared.Team.{Team};
 ghost use Rattle.crew_terms.specs.declared.Task.{Task};
 ghost use Rattle.crew_terms.specs.Instance.{minutes_between};
 ghost use Rattle.crew_terms.specs.Rules.{IsShift, IsTeamCount, IsWindow};
+ghost use Rattle.crew_terms.specs.Plan.{Plan as Jobs};
 ghost use Rattle.crew_terms.specs.Words.{Words};
 ghost use Rattle.field_table.specs.Fields.{Spells};
 ghost use Rattle.field_table.specs.declared.fields.FieldFault.{FieldFault};
@@ -16,10 +17,12 @@ ghost use Rattle.day_terms.specs.declared.Entry.TheVariants.{Cancel, Plan, Sick,
 ghost use Rattle.day_terms.specs.Forms.{Slot, Maker};
 ghost use Rattle.day_terms.specs.Fields.{AllGive, IsFirstBad, SpellAll};
 ghost use Rattle.day_terms.specs.Days.{ReadsRecord, SayEntries};
-ghost use Rattle.day_terms.specs.State.{DayState, start, has_place, has_team, has_task, place_number, with_time_between, with_changed_team, with_changed_task, after_entry, state_after};
-ghost use Rattle.day_terms.specs.Rounds.{first_missing, day_instance, lacks_time, minutes_by_name, minutes_given, round_at, rounds_from, rounds_of};
+ghost use Rattle.day_terms.specs.State.{DayState, start_with, has_place, has_team, has_task, place_number, with_time_between, with_changed_team, with_changed_task};
+ghost use Rattle.day_terms.specs.Entries.{after_entry, state_after};
+ghost use Rattle.day_terms.specs.Rounds.{first_missing, lacks_time, round_at, rounds_from, rounds_of};
+ghost use Rattle.day_terms.specs.Instances.{day_instance, minutes_by_name, minutes_given};
 ghost use Rattle.day_terms.specs.Ranges.{IsDuration, IsMinute};
-ghost use Rattle.day_terms.specs.Refusal.{Refusal, first_of, is_bad_count, is_bad_shift, is_bad_window};
+ghost use Rattle.day_terms.specs.Refusal.{AreTaken, Refusal, first_of, is_bad_count, is_bad_shift, is_bad_window, refusal_of, work_against};
 ghost use Rattle.day_terms.specs.Laws.{HasGood, IsBadAt, IsFirstLack, is_plan};
 
 /// A law: words spell numbers where they are as many, and each word spells the number at its place.
@@ -176,32 +179,54 @@ pub fn minutes_are_by_name()
         minutes_by_name s from to ≡ minutes }
 {}
 
-/// A law: after no entries the state is that of the start; one more entry changes the state after those before it.
+/// A law: after no entries the state is that of the start; one more entry changes the state after those before it. Where
+/// as many plans are known as there are rounds among entries, plans of later rounds change nothing of their state, of
+/// their rounds and of whether they are taken.
 pub fn state_goes_on()
-    ensures none { state_after [] ≡ start }
-    ensures one_more { (entries : List Entry) (entry : Entry) →
-        state_after (entries ++ entry ∷ []) ≡ after_entry (state_after entries) entry }
+    ensures none { (plans : List Jobs) → state_after plans [] ≡ start_with plans }
+    ensures one_more { (plans : List Jobs) (entries : List Entry) (entry : Entry) →
+        state_after plans (entries ++ entry ∷ []) ≡ after_entry (state_after plans entries) entry }
+    ensures later { (plans more : List Jobs) (entries : List Entry) → length plans ≡ count_by is_plan entries →
+        state_after (plans ++ more) entries ≡ record (state_after plans entries) { plans = more } }
+    ensures rounds { (plans more : List Jobs) (entries : List Entry) → length plans ≡ count_by is_plan entries →
+        rounds_of (plans ++ more) entries ≡ rounds_of plans entries }
+    ensures taken { (plans more : List Jobs) (entries : List Entry) → length plans ≡ count_by is_plan entries →
+        AreTaken (start_with plans) entries → AreTaken (start_with (plans ++ more)) entries }
+{}
+
+/// A law: whether an entry is refused, and the round that it begins, do not depend on the plans of rounds to come.
+pub fn plans_to_come_decide_nothing()
+    ensures refusal { (s : DayState) (plans : List Jobs) (entry : Entry) →
+        refusal_of (record s { plans = plans }) entry ≡ refusal_of s entry }
+    ensures round { (s : DayState) (plans : List Jobs) (entry : Entry) →
+        round_at (record s { plans = plans }) entry ≡ round_at s entry }
+{}
+
+/// A law: where no job is frozen, frozen work forbids nothing.
+pub fn free_days_forbid_nothing()
+    ensures { (s : DayState) (entry : Entry) → s.frozen ≡ [] → work_against s entry ≡ None }
 {}
 
 /// A law: no entries have no rounds. Behind the rounds of entries come those of the entries after them, begun in
 /// the state that the first come to; one more entry adds the round that it begins, if it is one of a plan.
 pub fn rounds_go_on()
-    ensures none { rounds_of [] ≡ [] }
-    ensures appended { (front back : List Entry) →
-        rounds_of (front ++ back) ≡ rounds_of front ++ rounds_from (state_after front) back }
-    ensures one_more { (entries : List Entry) (entry : Entry) →
-        rounds_of (entries ++ entry ∷ []) ≡
-        rounds_of entries ++ round_at (state_after entries) entry }
+    ensures none { (plans : List Jobs) → rounds_of plans [] ≡ [] }
+    ensures appended { (plans : List Jobs) (front back : List Entry) →
+        rounds_of plans (front ++ back) ≡ rounds_of plans front ++ rounds_from (state_after plans front) back }
+    ensures one_more { (plans : List Jobs) (entries : List Entry) (entry : Entry) →
+        rounds_of plans (entries ++ entry ∷ []) ≡
+        rounds_of plans entries ++ round_at (state_after plans entries) entry }
 {}
 
 /// A law: there are as many rounds as plans among the entries, in the same order. Where a plan stands behind
 /// other entries, the round with as many before it as there are plans among those has the instance of the state
 /// after them, and the plan's budget.
 pub fn rounds_are_of_plans()
-    ensures count { (entries : List Entry) → length (rounds_of entries) ≡ count_by is_plan entries }
-    ensures each { (front back : List Entry) (nodes : ℕ) →
-        slice_get (rounds_of (front ++ Plan nodes ∷ back)) (count_by is_plan front)
-        ≡ Some (record { instance = day_instance (state_after front); nodes = nodes }) }
+    ensures count { (plans : List Jobs) (entries : List Entry) →
+        length (rounds_of plans entries) ≡ count_by is_plan entries }
+    ensures each { (plans : List Jobs) (front back : List Entry) (nodes : ℕ) →
+        slice_get (rounds_of plans (front ++ Plan nodes ∷ back)) (count_by is_plan front)
+        ≡ Some (record { instance = day_instance (state_after plans front); nodes = nodes }) }
 {
     rounds_go_on();
 }

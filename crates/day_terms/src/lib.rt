@@ -8,10 +8,11 @@ use crew_terms::Name;
 use field_table::FieldFault;
 pub use laws::{
     cancelled_task_goes, entries_are_said_by_place, first_bad_is_first, first_condition_counts,
-    good_fields_make_an_entry, minutes_are_by_name, missing_is_first, names_are_known,
-    numbers_are_spelled_by_place, one_skill_changes, places_are_numbered,
-    refused_numbers_break_rules, rounds_are_of_plans, rounds_go_on, sick_team_goes, state_goes_on,
-    task_changes_by_name, team_changes_by_name, time_is_given, travel_is_both_ways,
+    free_days_forbid_nothing, good_fields_make_an_entry, minutes_are_by_name, missing_is_first,
+    names_are_known, numbers_are_spelled_by_place, one_skill_changes, places_are_numbered,
+    plans_to_come_decide_nothing, refused_numbers_break_rules, rounds_are_of_plans, rounds_go_on,
+    sick_team_goes, state_goes_on, task_changes_by_name, team_changes_by_name, time_is_given,
+    travel_is_both_ways,
 };
 
 /// The greatest number of teams that a record may say for a task.
@@ -35,6 +36,8 @@ pub enum RecordKind {
     Skill,
     Unskill,
     Plan,
+    Now,
+    Thaw,
 }
 
 /// What one record of a day says. Times are minutes of the day, as are travel times; durations are 1 minute or more, and
@@ -122,6 +125,14 @@ pub enum Entry {
     /// A plan is due, with at most so many nodes of the search.
     Plan {
         nodes: u32,
+    },
+    /// The jobs of the last plan that begin before this time are frozen: each plan from now on has them.
+    Now {
+        time: u32,
+    },
+    /// The task's frozen job is frozen no more.
+    Thaw {
+        task: Name,
     },
 }
 

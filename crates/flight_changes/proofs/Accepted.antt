@@ -4,7 +4,7 @@ use Rattle.std.proofs.lemmas.Bool.Decides.{nat_tests}
 use Rattle.crew_terms.specs.Rules.{IsTeamCount}
 use Rattle.crew_terms.specs.declared.TheConstants.{MOST_PLACES, MOST_TEAMS, MOST_TASKS, MOST_TEAMS_PER_TASK, WIDEST_WINDOW}
 use Rattle.day_terms.specs.State.{DayState, has_place, has_team, has_task}
-use Rattle.day_terms.specs.Refusal.{Refusal, TooMany, SameName, NoPlace, NoTask, NoTeam, BadWindow, BadShift, BadTeams, first_of, refusal_of, is_bad_window, is_bad_count}
+use Rattle.day_terms.specs.Refusal.{Refusal, TooMany, SameName, NoPlace, NoTask, NoTeam, BadWindow, BadShift, BadTeams, first_of, refusal_by_lists, is_bad_window, is_bad_count}
 use Rattle.day_terms.specs.declared.Entry.TheVariants.{Place, Team, Task, Cancel, Move, Needs, Sick, Shift}
 
 -- no first condition holds, so the first one fails, and none of the rest holds
@@ -43,7 +43,7 @@ good_count teams e =
     record { some = not_less teams 1 n.0; few = not_less MOST_TEAMS_PER_TASK teams n.1 }
 
 module _ (s : DayState) where
-  pub place_accepted : (name : List ℕ) → refusal_of s (Place name) ≡ None → (length s.places < MOST_PLACES) × (has_place s name ≡ false)
+  pub place_accepted : (name : List ℕ) → refusal_by_lists s (Place name) ≡ None → (length s.places < MOST_PLACES) × (has_place s name ≡ false)
   place_accepted name e =
       let p = passes (nat_le MOST_PLACES (length s.places)) TooMany ((has_place s name, SameName) ∷ []) e in
       let q = passes (has_place s name) SameName [] p.1 in
@@ -56,7 +56,7 @@ module _ (s : DayState) where
     pub home_known : has_place s home ≡ true
     pub shift : from < until
 
-  pub team_accepted : (name home : List ℕ) (from until skills : ℕ) → refusal_of s (Team name home from until skills) ≡ None → IsNewTeam name home from until
+  pub team_accepted : (name home : List ℕ) (from until skills : ℕ) → refusal_by_lists s (Team name home from until skills) ≡ None → IsNewTeam name home from until
   team_accepted name home from until skills e =
       let bad = (nat_le until from, BadShift) ∷ [] in
       let none = (not (has_place s home), NoPlace) ∷ bad in
@@ -74,7 +74,7 @@ module _ (s : DayState) where
     pub window : IsGoodWindow earliest latest
     pub count : IsTeamCount teams
 
-  pub task_accepted : (name place : List ℕ) (earliest latest minutes teams skills : ℕ) → refusal_of s (Task name place earliest latest minutes teams skills) ≡ None → IsNewTask name place earliest latest teams
+  pub task_accepted : (name place : List ℕ) (earliest latest minutes teams skills : ℕ) → refusal_by_lists s (Task name place earliest latest minutes teams skills) ≡ None → IsNewTask name place earliest latest teams
   task_accepted name place earliest latest minutes teams skills e =
       let count = (is_bad_count teams, BadTeams) ∷ [] in
       let window = (is_bad_window earliest latest, BadWindow) ∷ count in
@@ -92,25 +92,25 @@ module _ (s : DayState) where
         count = good_count teams u.0;
       }
 
-  pub task_known : (task : List ℕ) → refusal_of s (Cancel task) ≡ None → has_task s task ≡ true
+  pub task_known : (task : List ℕ) → refusal_by_lists s (Cancel task) ≡ None → has_task s task ≡ true
   task_known task e = true_by_not (has_task s task) (passes (not (has_task s task)) NoTask [] e).0
 
-  pub move_accepted : (task : List ℕ) (earliest latest : ℕ) → refusal_of s (Move task earliest latest) ≡ None → (has_task s task ≡ true) × IsGoodWindow earliest latest
+  pub move_accepted : (task : List ℕ) (earliest latest : ℕ) → refusal_by_lists s (Move task earliest latest) ≡ None → (has_task s task ≡ true) × IsGoodWindow earliest latest
   move_accepted task earliest latest e =
       let p = passes (not (has_task s task)) NoTask ((is_bad_window earliest latest, BadWindow) ∷ []) e in
       let q = passes (is_bad_window earliest latest) BadWindow [] p.1 in
       (true_by_not (has_task s task) p.0, good_window earliest latest q.0)
 
-  pub needs_accepted : (task : List ℕ) (teams : ℕ) → refusal_of s (Needs task teams) ≡ None → (has_task s task ≡ true) × IsTeamCount teams
+  pub needs_accepted : (task : List ℕ) (teams : ℕ) → refusal_by_lists s (Needs task teams) ≡ None → (has_task s task ≡ true) × IsTeamCount teams
   needs_accepted task teams e =
       let p = passes (not (has_task s task)) NoTask ((is_bad_count teams, BadTeams) ∷ []) e in
       let q = passes (is_bad_count teams) BadTeams [] p.1 in
       (true_by_not (has_task s task) p.0, good_count teams q.0)
 
-  pub team_known : (team : List ℕ) → refusal_of s (Sick team) ≡ None → has_team s team ≡ true
+  pub team_known : (team : List ℕ) → refusal_by_lists s (Sick team) ≡ None → has_team s team ≡ true
   team_known team e = true_by_not (has_team s team) (passes (not (has_team s team)) NoTeam [] e).0
 
-  pub shift_accepted : (team : List ℕ) (from until : ℕ) → refusal_of s (Shift team from until) ≡ None → (has_team s team ≡ true) × (from < until)
+  pub shift_accepted : (team : List ℕ) (from until : ℕ) → refusal_by_lists s (Shift team from until) ≡ None → (has_team s team ≡ true) × (from < until)
   shift_accepted team from until e =
       let p = passes (not (has_team s team)) NoTeam ((nat_le until from, BadShift) ∷ []) e in
       let q = passes (nat_le until from) BadShift [] p.1 in

@@ -6,7 +6,7 @@ use Rattle.std.proofs.lemmas.List.Elements.{All-map, All-head, All-tail}
 use Rattle.crew_terms.specs.Rules.{AreTimes}
 use Rattle.crew_terms.specs.declared.TheConstants.{LAST_MINUTE}
 use Rattle.day_terms.specs.State.{DayState, Given, is_way}
-use Rattle.day_terms.specs.Rounds.{minutes_given, minutes_by_name, day_instance}
+use Rattle.day_terms.specs.Instances.{minutes_given, minutes_by_name, day_instance}
 use Rattle.flight_changes.specs.Limits.{IsState}
 use Rattle.day_terms.specs.ByTest.{by_test}
 use Rattle.flight_changes.proofs.Keyed.{Bytes}

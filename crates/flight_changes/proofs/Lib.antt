@@ -6,3 +6,8 @@ pub mod Known
 pub mod Skills
 pub mod Missing
 pub mod Instances
+pub mod NamedJobs
+pub mod ByPlace
+pub mod Entries
+pub mod Refusals
+pub mod PlansSoFar

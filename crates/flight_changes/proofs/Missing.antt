@@ -2,7 +2,8 @@
 use Rattle.std.proofs.Common.{◌≡◌, ◌<◌, ◌+◌, ◌&&◌, ℕ, suc, Bool, true, false, not, List, [], ◌∷◌, Option, Some, None, is_some, is_none, length, map, drop, get_or, arith, refl, sym, ap, ◌∙◌}
 use Rattle.std.specs.Prelude.{bytes_eq, find, flat_map}
 use Rattle.day_terms.specs.State.{DayState}
-use Rattle.day_terms.specs.Rounds.{lacks_time, minutes_given}
+use Rattle.day_terms.specs.Rounds.{lacks_time}
+use Rattle.day_terms.specs.Instances.{minutes_given}
 use Rattle.std.specs.Option.{option_or}
 use Rattle.std.proofs.Math.Seq.{drop-cons}
 use Rattle.std.proofs.lemmas.List.Folds.{find-append}

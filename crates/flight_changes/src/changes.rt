@@ -1,22 +1,23 @@
 // What each entry that is not refused makes of the state.
-ghost use Rattle.std.specs.Prelude.{◌≡◌, ◌≤◌, ◌<◌, ◌++◌, ◌∷◌, [], None, Some, true, false, length, find, OnOk, OnErr};
+ghost use Rattle.std.specs.Prelude.{◌≡◌, ◌≤◌, ◌<◌, ◌++◌, ◌∷◌, [], None, Some, true, false, length, find, IfOk, OnOk, OnErr};
 ghost use Rattle.crew_terms.specs.Rules.{IsTask, IsTeam, IsShift, IsTeamCount, IsWindow};
 ghost use Rattle.crew_terms.specs.declared.TheConstants.{LAST_MINUTE, MOST_TASKS, MOST_TEAMS, SKILLS};
 ghost use Rattle.day_terms.specs.Ranges.{IsInRange};
-ghost use Rattle.day_terms.specs.Refusal.{refusal_of};
+ghost use Rattle.day_terms.specs.Refusal.{refusal_by_lists};
 ghost use Rattle.flight_changes.specs.Limits.{IsState};
-ghost use Rattle.day_terms.specs.State.{after_entry, has_place, has_task, has_team, is_task, is_team, place_number, with_changed_task, with_changed_team};
+ghost use Rattle.day_terms.specs.State.{has_place, has_task, has_team, is_task, is_team, place_number, with_changed_task, with_changed_team};
+ghost use Rattle.day_terms.specs.Entries.{after_entry};
 
-use crate::desks::Desk;
+use crate::lists::Lists;
 use crew_terms::{Name, Task, Team};
 use day_terms::Entry;
 use std::alloc::AllocError;
 
-impl Desk {
-    /// Changes the state by an entry that is not refused.
+impl Lists {
+    /// Changes the lists by an entry that they do not refuse; one of a plan or of frozen jobs leaves them as they are.
     pub(crate) fn change(&mut self, entry: &Entry) -> Result<(), AllocError>
         requires range { IsInRange entry.now }
-        requires accepted { refusal_of self.old entry.now ≡ None }
+        requires accepted { refusal_by_lists self.old entry.now ≡ None }
         ensures ok { OnOk result (self.new ≡ after_entry self.old entry.now) }
         ensures err { OnErr result (self.new ≡ self.old) }
     {
@@ -53,13 +54,26 @@ impl Desk {
             Entry::Shift { team, from, until } => self.set_shift(&team, from, until),
             Entry::Skill { team, skill } => self.add_skill(&team, skill),
             Entry::Unskill { team, skill } => self.drop_skill(&team, skill),
-            Entry::Plan { .. } => {}
+            Entry::Plan { .. } | Entry::Now { .. } | Entry::Thaw { .. } => {
+                let _ = &self.places;
+            }
         }
         Ok(())
     }
 
+    /// The lists after an entry that they do not refuse, with memory of their own.
+    pub(crate) fn after(&self, entry: &Entry) -> Result<Lists, AllocError>
+        requires range { IsInRange entry.now }
+        requires accepted { refusal_by_lists self.now entry.now ≡ None }
+        ensures { IfOk result (λ lists. lists ≡ after_entry self.now entry.now) }
+    {
+        let mut lists = self.copy()?;
+        lists.change(entry)?;
+        Ok(lists)
+    }
+
     fn add_place(&mut self, name: Name) -> Result<(), AllocError>
-        requires { refusal_of self.old (Entry.Place name) ≡ None }
+        requires { refusal_by_lists self.old (Entry.Place name) ≡ None }
         ensures ok { OnOk result (self.new ≡ after_entry self.old (Entry.Place name)) }
         ensures err { OnErr result (self.new ≡ self.old) }
     {
@@ -114,7 +128,7 @@ impl Desk {
         skills: u64,
     ) -> Result<(), AllocError>
         requires range { IsInRange (Entry.Team name home.now shift.0 shift.1 skills) }
-        requires accepted { refusal_of self.old
+        requires accepted { refusal_by_lists self.old
             (Entry.Team name home.now shift.0 shift.1 skills) ≡ None }
         ensures ok { OnOk result
             (self.new ≡ after_entry self.old (Entry.Team name home.now shift.0 shift.1 skills)) }
@@ -143,7 +157,7 @@ impl Desk {
     ) -> Result<(), AllocError>
         requires range { IsInRange
             (Entry.Task name place.now window.0 window.1 minutes teams skills) }
-        requires accepted { refusal_of self.old
+        requires accepted { refusal_by_lists self.old
             (Entry.Task name place.now window.0 window.1 minutes teams skills) ≡ None }
         ensures ok { OnOk result (self.new ≡ after_entry self.old
             (Entry.Task name place.now window.0 window.1 minutes teams skills)) }
@@ -241,7 +255,7 @@ impl Desk {
 
     fn set_window(&mut self, task: &Name, earliest: u32, latest: u32)
         requires day { latest ≤ LAST_MINUTE }
-        requires accepted { refusal_of self.old (Entry.Move task.now earliest latest) ≡ None }
+        requires accepted { refusal_by_lists self.old (Entry.Move task.now earliest latest) ≡ None }
         ensures { self.new ≡ after_entry self.old (Entry.Move task.now earliest latest) }
     {
         let old = self.task(task);
@@ -255,7 +269,7 @@ impl Desk {
     fn set_minutes(&mut self, task: &Name, minutes: u32)
         requires some { 1 ≤ minutes }
         requires day { minutes ≤ LAST_MINUTE }
-        requires accepted { refusal_of self.old (Entry.Longer task.now minutes) ≡ None }
+        requires accepted { refusal_by_lists self.old (Entry.Longer task.now minutes) ≡ None }
         ensures { self.new ≡ after_entry self.old (Entry.Longer task.now minutes) }
     {
         let old = self.task(task);
@@ -263,7 +277,7 @@ impl Desk {
     }
 
     fn set_teams(&mut self, task: &Name, teams: u32)
-        requires { refusal_of self.old (Entry.Needs task.now teams) ≡ None }
+        requires { refusal_by_lists self.old (Entry.Needs task.now teams) ≡ None }
         ensures { self.new ≡ after_entry self.old (Entry.Needs task.now teams) }
     {
         let old = self.task(task);
@@ -272,7 +286,7 @@ impl Desk {
 
     fn set_shift(&mut self, team: &Name, from: u32, until: u32)
         requires day { until ≤ LAST_MINUTE }
-        requires accepted { refusal_of self.old (Entry.Shift team.now from until) ≡ None }
+        requires accepted { refusal_by_lists self.old (Entry.Shift team.now from until) ≡ None }
         ensures { self.new ≡ after_entry self.old (Entry.Shift team.now from until) }
     {
         let old = self.team(team);
@@ -281,7 +295,7 @@ impl Desk {
 
     fn add_skill(&mut self, team: &Name, skill: u32)
         requires range { skill < SKILLS }
-        requires accepted { refusal_of self.old (Entry.Skill team.now skill) ≡ None }
+        requires accepted { refusal_by_lists self.old (Entry.Skill team.now skill) ≡ None }
         ensures { self.new ≡ after_entry self.old (Entry.Skill team.now skill) }
     {
         let old = self.team(team);
@@ -293,7 +307,7 @@ impl Desk {
 
     fn drop_skill(&mut self, team: &Name, skill: u32)
         requires range { skill < SKILLS }
-        requires accepted { refusal_of self.old (Entry.Unskill team.now skill) ≡ None }
+        requires accepted { refusal_by_lists self.old (Entry.Unskill team.now skill) ≡ None }
         ensures { self.new ≡ after_entry self.old (Entry.Unskill team.now skill) }
     {
         let old = self.team(team);

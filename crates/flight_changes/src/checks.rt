@@ -2,10 +2,10 @@
 ghost use Rattle.std.specs.Prelude.{◌≡◌, ℕ};
 ghost use Rattle.day_terms.specs.Refusal.{is_bad_count, is_bad_window};
 ghost use Rattle.day_terms.specs.State.{has_place, has_task, has_team};
-ghost use Rattle.flight_changes.specs.Faults.{answer_to};
+ghost use Rattle.flight_changes.specs.Faults.{answer_by_lists};
 
-use crate::desks::Desk;
 use crate::faults::ChangeFault;
+use crate::lists::Lists;
 use crew_terms::{MOST_PLACES, MOST_TASKS, MOST_TEAMS, MOST_TEAMS_PER_TASK, Name, WIDEST_WINDOW};
 use day_terms::Entry;
 
@@ -23,10 +23,10 @@ fn is_bad_count(teams: u32) -> bool
     teams < 1 || teams as usize > MOST_TEAMS_PER_TASK
 }
 
-impl Desk {
+impl Lists {
     /// Refuses an entry where a condition of its kind holds, by the first that does.
     pub(crate) fn check(&self, entry: &Entry) -> Result<(), ChangeFault>
-        ensures { result ≡ answer_to self.now entry.now }
+        ensures { result ≡ answer_by_lists self.now entry.now }
     {
         match *entry {
             Entry::Place { name } => self.check_place(&name),
@@ -60,7 +60,8 @@ impl Desk {
             Entry::Shift { team, from, until } => self.check_shift(&team, from, until),
             Entry::Skill { team, .. } => self.find_team(&team),
             Entry::Unskill { team, .. } => self.find_team(&team),
-            Entry::Plan { .. } => self.check_times(),
+            Entry::Plan { .. } | Entry::Now { .. } => self.check_times(),
+            Entry::Thaw { task } => self.find_task(&task),
         }
     }
 
@@ -86,7 +87,7 @@ impl Desk {
     }
 
     fn check_place(&self, name: &Name) -> Result<(), ChangeFault>
-        ensures { result ≡ answer_to self.now (Entry.Place name.now) }
+        ensures { result ≡ answer_by_lists self.now (Entry.Place name.now) }
     {
         if self.places.len() >= MOST_PLACES {
             return Err(ChangeFault::TooMany);
@@ -99,7 +100,7 @@ impl Desk {
 
     fn check_way(&self, from: &Name, to: &Name) -> Result<(), ChangeFault>
         ensures { (minutes : ℕ) →
-            result ≡ answer_to self.now (Entry.RouteTime from.now to.now minutes) }
+            result ≡ answer_by_lists self.now (Entry.RouteTime from.now to.now minutes) }
     {
         if !self.has_place(from) || !self.has_place(to) {
             return Err(ChangeFault::NoPlace);
@@ -109,7 +110,7 @@ impl Desk {
 
     fn check_team(&self, name: &Name, home: &Name, from: u32, until: u32) -> Result<(), ChangeFault>
         ensures { (skills : ℕ) →
-            result ≡ answer_to self.now (Entry.Team name.now home.now from until skills) }
+            result ≡ answer_by_lists self.now (Entry.Team name.now home.now from until skills) }
     {
         if self.teams.len() >= MOST_TEAMS {
             return Err(ChangeFault::TooMany);
@@ -136,7 +137,7 @@ impl Desk {
     ) -> Result<(), ChangeFault>
         ensures { (minutes skills : ℕ) →
             let task = Entry.Task name.now place.now earliest latest minutes teams skills in
-            result ≡ answer_to self.now task }
+            result ≡ answer_by_lists self.now task }
     {
         if self.tasks.len() >= MOST_TASKS {
             return Err(ChangeFault::TooMany);
@@ -158,7 +159,7 @@ impl Desk {
 
     /// Refuses a name that no task has.
     fn find_task(&self, task: &Name) -> Result<(), ChangeFault>
-        ensures { result ≡ answer_to self.now (Entry.Cancel task.now) }
+        ensures { result ≡ answer_by_lists self.now (Entry.Cancel task.now) }
     {
         if !self.has_task(task) {
             return Err(ChangeFault::NoTask);
@@ -167,7 +168,7 @@ impl Desk {
     }
 
     fn check_move(&self, task: &Name, earliest: u32, latest: u32) -> Result<(), ChangeFault>
-        ensures { result ≡ answer_to self.now (Entry.Move task.now earliest latest) }
+        ensures { result ≡ answer_by_lists self.now (Entry.Move task.now earliest latest) }
     {
         if !self.has_task(task) {
             return Err(ChangeFault::NoTask);
@@ -179,7 +180,7 @@ impl Desk {
     }
 
     fn check_needs(&self, task: &Name, teams: u32) -> Result<(), ChangeFault>
-        ensures { result ≡ answer_to self.now (Entry.Needs task.now teams) }
+        ensures { result ≡ answer_by_lists self.now (Entry.Needs task.now teams) }
     {
         if !self.has_task(task) {
             return Err(ChangeFault::NoTask);
@@ -192,7 +193,7 @@ impl Desk {
 
     /// Refuses a name that no team has.
     fn find_team(&self, team: &Name) -> Result<(), ChangeFault>
-        ensures { result ≡ answer_to self.now (Entry.Sick team.now) }
+        ensures { result ≡ answer_by_lists self.now (Entry.Sick team.now) }
     {
         if !self.has_team(team) {
             return Err(ChangeFault::NoTeam);
@@ -201,7 +202,7 @@ impl Desk {
     }
 
     fn check_shift(&self, team: &Name, from: u32, until: u32) -> Result<(), ChangeFault>
-        ensures { result ≡ answer_to self.now (Entry.Shift team.now from until) }
+        ensures { result ≡ answer_by_lists self.now (Entry.Shift team.now from until) }
     {
         if !self.has_team(team) {
             return Err(ChangeFault::NoTeam);

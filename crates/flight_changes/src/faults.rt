@@ -36,6 +36,9 @@ pub enum ChangeFault {
     /// No travel time from the one place to the other was given, and no default stands.
     #[error("no travel time between two places")]
     MissingTravel { from: Name, to: Name },
+    /// The job of this task is frozen, and couldn't be done any more.
+    #[error("work that has begun")]
+    FrozenWork { task: Name },
 }
 
 impl From<AllocError> for ChangeFault {

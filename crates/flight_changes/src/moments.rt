@@ -1,29 +1,22 @@
 // The instance of a moment, and what travel time it lacks.
-ghost use Rattle.std.specs.Prelude.{◌≡◌, ℕ, List, None, Some, find, map, option_map, IfOk, IfErr};
+ghost use Rattle.std.specs.Prelude.{◌≡◌, ℕ, List, [], None, Some, find, map, option_map, IfOk, IfErr};
 ghost use Rattle.crew_instance.specs.Draft.{rows_of};
-ghost use Rattle.day_terms.specs.Rounds.{first_missing, day_instance, lacks_time, minutes_by_name, minutes_given};
-ghost use Rattle.flight_changes.specs.Faults.{answer_to};
+ghost use Rattle.day_terms.specs.Rounds.{first_missing, lacks_time};
+ghost use Rattle.day_terms.specs.Instances.{day_instance, minutes_by_name, minutes_given};
+ghost use Rattle.flight_changes.specs.Faults.{answer_by_lists};
 
-use crate::desks::Desk;
 use crate::faults::ChangeFault;
+use crate::lists::Lists;
 use crew_instance::Instance;
 use crew_terms::{Name, Task, Team};
 use day_terms::Entry;
 use std::alloc::AllocError;
 
-impl Desk {
-    /// The instance of the state as it stands. There is none where two different places have no travel time
-    /// and no default stands; the first such pair, by `from` and then by `to`, is told. Memory may run out.
-    pub fn instance(&self) -> Result<Instance, ChangeFault>
-        ensures ok { IfOk result (λ instance. instance ≡ day_instance self.now) }
-        ensures missing { (from to : List ℕ) → first_missing self.now ≡ Some (from, to) →
-            result ≡ Err (ChangeFault.MissingTravel from to) }
-        ensures whole { first_missing self.now ≡ None →
-            IfErr result (λ fault. fault ≡ ChangeFault.OutOfMemory) }
+impl Lists {
+    /// The instance of the lists, with no frozen job; a missing travel time counts as 0. Memory may run out.
+    pub(crate) fn instance(&self) -> Result<Instance, AllocError>
+        ensures { IfOk result (λ instance. instance ≡ day_instance (record self.now { frozen = [] })) }
     {
-        if let Some((from, to)) = self.first_missing() {
-            return Err(ChangeFault::MissingTravel { from, to });
-        }
         let places = Vec::from_slice(self.alloc, self.places.as_slice())?;
         let teams = self.all_teams()?;
         let tasks = self.all_tasks()?;
@@ -45,7 +38,7 @@ impl Desk {
 
     /// Refuses a state that lacks a travel time.
     pub(crate) fn check_times(&self) -> Result<(), ChangeFault>
-        ensures { (nodes : ℕ) → result ≡ answer_to self.now (Entry.Plan nodes) }
+        ensures { (nodes : ℕ) → result ≡ answer_by_lists self.now (Entry.Plan nodes) }
     {
         match self.first_missing() {
             Some((from, to)) => Err(ChangeFault::MissingTravel { from, to }),

@@ -5,4 +5,4 @@ pub returns-clause-count : goal.returns-clause-count
 returns-clause-count c = count
 
 pub returns-clause-each : goal.returns-clause-each
-returns-clause-each c = each c.rounds_go_on.ensures.appended
+returns-clause-each c = λ plans. each plans (c.rounds_go_on.ensures.appended plans)

@@ -1,8 +1,0 @@
-use Rattle.std.proofs.Common.{◌∙◌, ap}
-use Rattle.std.specs.List.{list_any}
-use Rattle.day_terms.specs.State.{is_team}
-use Rattle.flight_changes.proofs.Keyed.{is_there}
-use Rattle.flight_changes.proofs.desks.Desk.has_team.Goals as goal
-
-pub returns : goal.returns
-returns c = c.contains_key.ensures ∙ is_there (λ t. t.name) c.self.inside.teams.entries c.args.name.now c.self.invariant.teams_by_name ∙ ap (λ s. list_any (is_team c.args.name.now) s.teams) c.self.view_is

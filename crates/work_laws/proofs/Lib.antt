@@ -1,0 +1,6 @@
+mod FirstOf
+mod GoodJobs
+mod Clashes
+mod CalmTeams
+mod ClashFree
+mod FirstFaults
