@@ -11,13 +11,13 @@ use Rattle.crew_io.specs.Chains.{writes_none, writes_then}
 use Rattle.crew_io.specs.declared.sink.Sink.{Ghosts as SinkTells}
 use Rattle.crew_io.specs.declared.source.Source.{Ghosts as SourceTells}
 use Rattle.dossier_terms.specs.Dossier.{Dossier}
-use Rattle.day_terms.specs.Rounds.{Round}
 use Rattle.dossier_commands.specs.Says.{SaysNo, ReadsDossiers}
 use Rattle.dossier_commands.specs.declared.read.Ended.{Ended as DossiersEnded}
 use Rattle.dossier_commands.specs.declared.read.Ended.TheVariants as dossiers
-use Rattle.day_commands.specs.Rounds.{Stops, DayStop, ComesTo, IsFineDay, IsRefusedOutput, IsTooLong, IsStopped, SaysFirstRounds, SaysOutputPart, change_stop}
-use Rattle.day_commands.specs.Outputs.{TextsOf}
+use Rattle.day_commands.specs.Rounds.{PlansOf, Stops, IsFineDay, IsRefusedOutput, IsTooLong, IsStopped, SaysFirstRounds, SaysOutputPart, change_stop}
+use Rattle.day_commands.specs.Outputs.{MayHave, TextsOf}
 use Rattle.day_commands.specs.Fronts.{part_of, first_are_part}
+use Rattle.day_commands.specs.Legal.{may_have}
 use Rattle.day_commands.specs.Says.{SaysAt, ReadsDay}
 use Rattle.day_commands.specs.declared.ended.DayOutput.{DayOutput}
 use Rattle.day_commands.specs.declared.ended.DayOutput.TheVariants.{Instances, Dossiers}
@@ -49,9 +49,9 @@ no_is_not_fine : (text : Dossier → List ℕ) (left got later : Option (List �
 no_is_not_fine text None got later A B C says = tt
 no_is_not_fine text (Some input) got later A B C says = λ fine a b. absurd (says.2.not_accepted fine.0 fine.1)
 
-refused_is_not_fine : (stops : Stops) (left : Option (List ℕ)) (A B C : Type 0) → IfSome left (λ input. IsFineDay stops input → ⊥) → IfSome left (λ input. IsFineDay stops input → A → B → C)
-refused_is_not_fine stops None A B C says = tt
-refused_is_not_fine stops (Some input) A B C says = λ fine a b. absurd (says fine)
+refused_is_not_fine : (stops : Stops) (Plans : PlansOf) (left : Option (List ℕ)) (A B C : Type 0) → IfSome left (λ input. IsFineDay stops Plans input → ⊥) → IfSome left (λ input. IsFineDay stops Plans input → A → B → C)
+refused_is_not_fine stops Plans None A B C says = tt
+refused_is_not_fine stops Plans (Some input) A B C says = λ fine a b. absurd (says fine)
 
 module _ {S K : Type 0} (source : SourceTells S) (sink : SinkTells K) (src later : S) (out new : K) where
   -- the same fault by another name
@@ -122,7 +122,7 @@ module _ {S K : Type 0} (source : SourceTells S) (sink : SinkTells K) (src later
 
   -- a command over days answers by the status of its end
   pub day_answers : {E : Type 0} (output : DayOutput) (ended : Result DayEnded E) → ReadsDay source sink output src later out new ended
-      → Answers source sink (DaySays output) (day_ends_with output) true (IsFineDay change_stop) src later out new (day_status ended)
+      → Answers source sink (DaySays output) (day_ends_with output) true (IsFineDay change_stop (MayHave output)) src later out new (day_status ended)
   day_answers output (Ok day.Done) r = record {
     says = r.says;
     part = day_part output day.Done r.says;
@@ -151,7 +151,7 @@ module _ {S K : Type 0} (source : SourceTells S) (sink : SinkTells K) (src later
     unread = λ e. absurd (cc);
     reads = tells_read r.reads (λ e. absurd (cc)) (λ e. absurd (cc));
     writes = tells_write r.writes (λ e. absurd (cc)) (λ e. absurd (cc));
-    complete = refused_is_not_fine change_stop (source.left src) _ _ _ (r.refused refl);
+    complete = refused_is_not_fine change_stop (MayHave output) (source.left src) _ _ _ (r.refused refl);
   }
   day_answers output (Ok day.ReadFault) r = record {
     says = r.says;
@@ -243,13 +243,10 @@ module _ {S K : Type 0} (source : SourceTells S) (sink : SinkTells K) (src : S) 
     complete = if_some (source.left src) _ (λ input fine nr nw. inr refl);
   }
 
--- a day comes to one thing
-abbrev pub ComesToOne : Type 0
-ComesToOne = (stops : Stops) (text : List ℕ) (rounds others : List Round) (stop other : Option DayStop) → ComesTo stops text rounds stop → ComesTo stops text others other → (rounds ≡ others) × (stop ≡ other)
-
-refused_not_fine : ComesToOne → (stops : Stops) (Texts : List Round → List ℕ → Type 0) (text written : List ℕ) → IsRefusedOutput stops Texts text written → IsFineDay stops text → ⊥
-refused_not_fine law stops Texts text written (IsTooLong more is) fine = let b = fine.0 in absurd (omega (arith, more, b))
-refused_not_fine law stops Texts text written (IsStopped within rounds stop c lines texts is) fine = absurd (let e = (law stops text fine.1.0 rounds None (Some stop) fine.1.1 c).1 in cc)
+refused_not_fine : (output : DayOutput) (text written : List ℕ) → IsRefusedOutput change_stop (TextsOf output) text written → IsFineDay change_stop (MayHave output) text → ⊥
+refused_not_fine output text written (IsTooLong more is) fine = let b = fine.0 in absurd (omega (arith, more, b))
+refused_not_fine output text written (IsStopped within plans rounds stop c lines texts is) fine =
+    absurd (let e = fine.1 plans rounds (Some stop) c (may_have output plans rounds lines texts) in cc)
 
 -- an input that is fine is not refused
 dossiers_done : (text : Dossier → List ℕ) (answer : Status) (unseen : Option (List ℕ)) (input written : List ℕ) (Full : Type 0) → DossiersSay text answer unseen input written → AreDossiers input
@@ -264,16 +261,16 @@ dossiers_done text status.Memory unseen input written Full says fine read write 
 dossiers_done text status.Unproved unseen input written Full says fine read write = absurd says
 
 -- nor is a day that is fine
-day_done : ComesToOne → (output : DayOutput) (answer : Status) (unseen : Option (List ℕ)) (input written : List ℕ) (Full : Type 0) → DaySays output answer unseen input written → IsFineDay change_stop input
+day_done : (output : DayOutput) (answer : Status) (unseen : Option (List ℕ)) (input written : List ℕ) (Full : Type 0) → DaySays output answer unseen input written → IsFineDay change_stop (MayHave output) input
     → answer ≢ status.ReadFault → (answer ≡ status.WriteFault → Full) → IsTrue (is_done answer) ⊎ (answer ≡ status.Memory) ⊎ ((answer ≡ status.WriteFault) × Full)
-day_done law output status.Done unseen input written Full says fine read write = inl refl
-day_done law output status.No unseen input written Full says fine read write = absurd says
-day_done law output status.Words unseen input written Full says fine read write = absurd says
-day_done law output status.Refused unseen input written Full says fine read write = absurd (refused_not_fine law change_stop (TextsOf output) input written says fine)
-day_done law output status.ReadFault unseen input written Full says fine read write = absurd (read refl)
-day_done law output status.WriteFault unseen input written Full says fine read write = inr (inr (refl, write refl))
-day_done law output status.Memory unseen input written Full says fine read write = inr (inl refl)
-day_done law output status.Unproved unseen input written Full says fine read write = inl refl
+day_done output status.Done unseen input written Full says fine read write = inl refl
+day_done output status.No unseen input written Full says fine read write = absurd says
+day_done output status.Words unseen input written Full says fine read write = absurd says
+day_done output status.Refused unseen input written Full says fine read write = absurd (refused_not_fine output input written says fine)
+day_done output status.ReadFault unseen input written Full says fine read write = absurd (read refl)
+day_done output status.WriteFault unseen input written Full says fine read write = inr (inr (refl, write refl))
+day_done output status.Memory unseen input written Full says fine read write = inr (inl refl)
+day_done output status.Unproved unseen input written Full says fine read write = inl refl
 
 -- nor does a trial fail but for a write fault or want of memory
 trial_done : (t : TrialWords) (answer : Status) (unseen : Option (List ℕ)) (input written : List ℕ) (Full : Type 0) → TrialSays t answer unseen input written
@@ -287,11 +284,11 @@ trial_done t status.WriteFault unseen input written Full says write = inr (inr (
 trial_done t status.Memory unseen input written Full says write = inr (inl refl)
 trial_done t status.Unproved unseen input written Full says write = inl refl
 
-pub fine_is_done : (command : Command) (answer : Status) (unseen : Option (List ℕ)) (input written : List ℕ) (Full : Type 0) → ComesToOne
+pub fine_is_done : (command : Command) (answer : Status) (unseen : Option (List ℕ)) (input written : List ℕ) (Full : Type 0)
     → StatusSays command answer unseen input written → IsFine command input → answer ≢ status.ReadFault → (answer ≡ status.WriteFault → Full)
     → IsTrue (is_done answer) ⊎ (answer ≡ status.Memory) ⊎ ((answer ≡ status.WriteFault) × Full)
-fine_is_done Check answer unseen input written Full law says fine read write = dossiers_done _ answer unseen input written Full says fine read write
-fine_is_done Rosters answer unseen input written Full law says fine read write = dossiers_done _ answer unseen input written Full says fine read write
-fine_is_done Apply answer unseen input written Full law says fine read write = day_done law Instances answer unseen input written Full says fine read write
-fine_is_done Day answer unseen input written Full law says fine read write = day_done law Dossiers answer unseen input written Full says fine read write
-fine_is_done (Trial t) answer unseen input written Full law says fine read write = trial_done t answer unseen input written Full says write
+fine_is_done Check answer unseen input written Full says fine read write = dossiers_done _ answer unseen input written Full says fine read write
+fine_is_done Rosters answer unseen input written Full says fine read write = dossiers_done _ answer unseen input written Full says fine read write
+fine_is_done Apply answer unseen input written Full says fine read write = day_done Instances answer unseen input written Full says fine read write
+fine_is_done Day answer unseen input written Full says fine read write = day_done Dossiers answer unseen input written Full says fine read write
+fine_is_done (Trial t) answer unseen input written Full says fine read write = trial_done t answer unseen input written Full says write

@@ -12,7 +12,7 @@ use Rattle.dossier_terms.specs.Accepted.{IsAccepted}
 use Rattle.dossier_commands.specs.Outputs.{roster_of}
 use Rattle.dossier_commands.specs.Says.{SaysYes, SaysNo, SaysFront, SaysReadFault, SaysTexts}
 use Rattle.day_commands.specs.Rounds.{IsFineDay, SaysRounds, IsRefusedOutput, SaysOutputPart, SaysFirstRounds, SaysNothingRead, change_stop}
-use Rattle.day_commands.specs.Outputs.{TextsOf, ProvedOf, UnprovedOf, are_dossiers}
+use Rattle.day_commands.specs.Outputs.{MayHave, TextsOf, ProvedOf, UnprovedOf, are_dossiers}
 use Rattle.day_commands.specs.declared.ended.DayOutput.{DayOutput}
 use Rattle.day_commands.specs.declared.ended.DayOutput.TheVariants.{Instances, Dossiers}
 use Rattle.day_commands.specs.Dossiers.{IsProved, IsUnproved}
@@ -120,13 +120,13 @@ AreDossiers input = (dossiers : List Dossier) × IsAccepted input dossiers
 abbrev pub AnyInput : List ℕ → Type 0
 AnyInput input = Unit {0}
 
--- what a command takes to its end: bytes that are accepted as dossiers, or a day of which it refuses no record; any, where it
--- reads none
+-- what a command takes to its end: bytes that are accepted as dossiers, or a day of which it refuses no record, whichever
+-- legal plans its rounds get; any, where it reads none
 abbrev pub IsFine : Command → List ℕ → Type 0
 IsFine Check = AreDossiers
 IsFine Rosters = AreDossiers
-IsFine Apply = IsFineDay change_stop
-IsFine Day = IsFineDay change_stop
+IsFine Apply = IsFineDay change_stop (MayHave Instances)
+IsFine Day = IsFineDay change_stop (MayHave Dossiers)
 IsFine (Trial trial) = AnyInput
 
 -- a command that has said this, can end with these statuses, reads its source or not, and takes such input to its end: what

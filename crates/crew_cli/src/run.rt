@@ -3,6 +3,7 @@ ghost use Rattle.std.specs.Prelude.{◌≡◌, ◌≢◌, ◌≤◌, ◌↔◌, 
 ghost use Rattle.crew_io.specs.Io.{HasEnded, Rose};
 ghost use Rattle.crew_io.specs.Bytes.{OfBytes};
 ghost use Rattle.dossier_commands.specs.Outputs.{output_of};
+ghost use Rattle.day_commands.specs.Outputs.{MayHave};
 ghost use Rattle.day_commands.specs.Rounds.{IsFineDay, change_stop};
 ghost use Rattle.crew_cli.specs.Status.{dossiers_status, day_status, trial_status, is_done};
 ghost use Rattle.crew_cli.specs.Run.{Answers, AskFor, AreDossiers, DaySays, DossiersSay, StatusSays, IsFine, IsInRange, day_ends_with, dossiers_end_with, ends_with, reads_input};
@@ -117,7 +118,7 @@ fn over_day<S: Source, K: Sink>(
     src: &mut S,
     out: &mut K,
 ) -> Status
-    ensures { Answers S.Source K.Sink (DaySays output) (day_ends_with output) true (IsFineDay change_stop)
+    ensures { Answers S.Source K.Sink (DaySays output) (day_ends_with output) true (IsFineDay change_stop (MayHave output))
         src.old src.new out.old out.new result }
 {
     of_day(write_rounds(alloc, output, src, out))

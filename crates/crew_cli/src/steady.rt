@@ -8,7 +8,6 @@ ghost use Rattle.crew_cli.specs.declared.run.Command.{Command};
 use crate::run::{Status, run};
 use crew_io::sink::{MemSink, SteadySink};
 use crew_io::source::{MemSource, SteadySource};
-use day_commands::laws::one_coming;
 use std::alloc::Global;
 
 /// The top call over a source and a sink that never fail: it answers no fault.
@@ -77,6 +76,5 @@ pub fn run_in_memory(
     ensures source_later { src.old.faults ≤ src.new.faults }
     ensures sink_later { out.old.faults ≤ out.new.faults }
 {
-    one_coming();
     run(alloc, words, src, out)
 }

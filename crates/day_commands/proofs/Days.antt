@@ -3,11 +3,13 @@ use Rattle.std.proofs.Common.{◌≡◌, ◌↔◌, ◌+◌, ◌++◌, ◌∷◌
 use Rattle.std.specs.List.{fold}
 use Rattle.std.proofs.lemmas.List.Sums.{fold-append}
 use Rattle.std.proofs.lemmas.List.Concat.{flat_map-append}
+use Rattle.crew_terms.specs.Plan.{Plan}
 use Rattle.dossier_terms.specs.Lines.{instance_text}
 use Rattle.day_terms.specs.declared.Entry.{Entry}
 use Rattle.day_terms.specs.declared.Refused.{Refused}
 use Rattle.day_terms.specs.Days.{IsDayOf}
-use Rattle.day_terms.specs.State.{DayState, start, after_entry, state_after}
+use Rattle.day_terms.specs.State.{DayState, start_with}
+use Rattle.day_terms.specs.Entries.{after_entry, state_after}
 use Rattle.day_terms.specs.Refusal.{AreTaken, Refusal, refusal_of}
 use Rattle.day_terms.specs.Rounds.{Round, round_at, rounds_from, rounds_of}
 use Rattle.day_commands.specs.declared.refused.DayFault.{DayFault}
@@ -25,8 +27,8 @@ round_text r = instance_text r.instance r.nodes
 abbrev pub after_all : DayState → List Entry → DayState
 after_all s entries = fold after_entry s entries
 
-pub state_more : (entries : List Entry) (entry : Entry) → state_after (entries ++ entry ∷ []) ≡ after_entry (state_after entries) entry
-state_more entries entry = fold-append after_entry start entries (entry ∷ [])
+pub state_more : (plans : List Plan) (entries : List Entry) (entry : Entry) → state_after plans (entries ++ entry ∷ []) ≡ after_entry (state_after plans entries) entry
+state_more plans entries entry = fold-append after_entry (start_with plans) entries (entry ∷ [])
 
 rounds_more_from : (s : DayState) (entries : List Entry) (entry : Entry) → rounds_from s (entries ++ entry ∷ []) ≡ rounds_from s entries ++ round_at (after_all s entries) entry
 rounds_more_from s [] entry = append-nil (round_at s entry)
@@ -34,8 +36,8 @@ rounds_more_from s (x ∷ xs) entry =
     ap (λ r. round_at s x ++ r) (rounds_more_from (after_entry s x) xs entry)
     ∙ sym (append_assoc (round_at s x) (rounds_from (after_entry s x) xs) (round_at (after_all (after_entry s x) xs) entry))
 
-pub rounds_more : (entries : List Entry) (entry : Entry) → rounds_of (entries ++ entry ∷ []) ≡ rounds_of entries ++ round_at (state_after entries) entry
-rounds_more entries entry = rounds_more_from start entries entry
+pub rounds_more : (plans : List Plan) (entries : List Entry) (entry : Entry) → rounds_of plans (entries ++ entry ∷ []) ≡ rounds_of plans entries ++ round_at (state_after plans entries) entry
+rounds_more plans entries entry = rounds_more_from (start_with plans) entries entry
 
 pub instances_more : (rounds more : List Round) → rounds_text (rounds ++ more) ≡ rounds_text rounds ++ rounds_text more
 instances_more rounds more = flat_map-append round_text rounds more
@@ -54,18 +56,18 @@ taken_by_state : (s : DayState) (entries : List Entry) → AreTakenBy change_sto
 taken_by_state s [] taken = tt
 taken_by_state s (x ∷ xs) taken = (none_told (refusal_of s x) taken.0, taken_by_state (after_entry s x) xs taken.1)
 
-pub state_takes_entries : (entries : List Entry) → AreTakenBy change_stop start entries ↔ AreTaken start entries
-state_takes_entries entries = (taken_by_state start entries, state_takes start entries)
+pub state_takes_entries : (plans : List Plan) (entries : List Entry) → AreTakenBy change_stop (start_with plans) entries ↔ AreTaken (start_with plans) entries
+state_takes_entries plans entries = (taken_by_state (start_with plans) entries, state_takes (start_with plans) entries)
 
 -- a day's text has one list of entries and one stop
 abbrev IsOneReading : Type 0
 IsOneReading = (text : List ℕ) (entries others : List Entry) (stop other : Option Refused) → IsDayOf text entries stop → IsDayOf text others other → (entries ≡ others) × (stop ≡ other)
 
 -- what a day comes to, whose first rounds are these
-pub record GoesOn (stops : Stops) (text : List ℕ) (first : List Round) : Type 0 where
+pub record GoesOn (stops : Stops) (plans : List Plan) (text : List ℕ) (first : List Round) : Type 0 where
   pub rest : List Round
   pub stop : Option DayStop
-  pub comes_to : ComesTo stops text (first ++ rest) stop
+  pub comes_to : ComesTo stops plans text (first ++ rest) stop
 
 -- ---- where entries are taken
 
@@ -74,8 +76,9 @@ module _ (stops : Stops) where
   taken_from s [] entry taken e = (e, tt)
   taken_from s (x ∷ xs) entry taken e = (taken.0, taken_from (after_entry s x) xs entry taken.1 e)
 
-  pub taken_more : (entries : List Entry) (entry : Entry) → AreTakenBy stops start entries → stops (state_after entries) entry ≡ None → AreTakenBy stops start (entries ++ entry ∷ [])
-  taken_more entries entry taken e = taken_from start entries entry taken e
+  pub taken_more : (plans : List Plan) (entries : List Entry) (entry : Entry) → AreTakenBy stops (start_with plans) entries → stops (state_after plans entries) entry ≡ None
+      → AreTakenBy stops (start_with plans) (entries ++ entry ∷ [])
+  taken_more plans entries entry taken e = taken_from (start_with plans) entries entry taken e
 
   taken_within : (s : DayState) (front back : List Entry) (entry : Entry) → AreTakenBy stops s (front ++ entry ∷ back) → stops (after_all s front) entry ≡ None
   taken_within s [] back entry taken = taken.0
@@ -94,37 +97,37 @@ module _ (stops : Stops) where
   all_taken s [] each = tt
   all_taken s (x ∷ xs) each = (each 0 x refl, all_taken (after_entry s x) xs (λ n entry e. each (suc n) entry e))
 
-  pub taken_in_turn : (entries : List Entry) → AreTakenBy stops start entries ↔ IsEachTaken start entries
-  taken_in_turn entries = (each_taken start entries, all_taken start entries)
+  pub taken_in_turn : (plans : List Plan) (entries : List Entry) → AreTakenBy stops (start_with plans) entries ↔ IsEachTaken (start_with plans) entries
+  taken_in_turn plans entries = (each_taken (start_with plans) entries, all_taken (start_with plans) entries)
 
   -- behind entries that are taken, a day comes to something
-  pub goes_on : (text : List ℕ) (front back : List Entry) (last : Option Refused) → IsDayOf text (front ++ back) last → AreTakenBy stops start front → GoesOn stops text (rounds_of front)
-  goes_on text front [] None day taken = record {
+  pub goes_on : (plans : List Plan) (text : List ℕ) (front back : List Entry) (last : Option Refused) → IsDayOf text (front ++ back) last → AreTakenBy stops (start_with plans) front → GoesOn stops plans text (rounds_of plans front)
+  goes_on plans text front [] None day taken = record {
     rest = [];
     stop = None;
-    comes_to = AllTaken front (subst (λ es. IsDayOf text es None) (append-nil front) day) taken (append-nil (rounds_of front)) refl;
+    comes_to = AllTaken front (subst (λ es. IsDayOf text es None) (append-nil front) day) taken (append-nil (rounds_of plans front)) refl;
   }
-  goes_on text front [] (Some refused) day taken = record {
+  goes_on plans text front [] (Some refused) day taken = record {
     rest = [];
     stop = Some (record { number = refused.number; cause = InItself refused.cause });
-    comes_to = BadRecord front refused (subst (λ es. IsDayOf text es (Some refused)) (append-nil front) day) taken (append-nil (rounds_of front)) refl;
+    comes_to = BadRecord front refused (subst (λ es. IsDayOf text es (Some refused)) (append-nil front) day) taken (append-nil (rounds_of plans front)) refl;
   }
-  goes_on text front (entry ∷ back) last day taken =
-      by (stops (state_after front) entry) refl
-      (λ e. goes_on text (front ++ entry ∷ []) back last (subst (λ es. IsDayOf text es last) (sym (append_assoc front (entry ∷ []) back)) day) (taken_more front entry taken e))
+  goes_on plans text front (entry ∷ back) last day taken =
+      by (stops (state_after plans front) entry) refl
+      (λ e. goes_on plans text (front ++ entry ∷ []) back last (subst (λ es. IsDayOf text es last) (sym (append_assoc front (entry ∷ []) back)) day) (taken_more plans front entry taken e))
     where
-      by : (told : Option DayFault) → stops (state_after front) entry ≡ told → (stops (state_after front) entry ≡ None → GoesOn stops text (rounds_of (front ++ entry ∷ []))) → GoesOn stops text (rounds_of front)
+      by : (told : Option DayFault) → stops (state_after plans front) entry ≡ told → (stops (state_after plans front) entry ≡ None → GoesOn stops plans text (rounds_of plans (front ++ entry ∷ []))) → GoesOn stops plans text (rounds_of plans front)
       by (Some fault) e more = record {
         rest = [];
         stop = Some (record { number = length front + 1; cause = fault });
-        comes_to = BadEntry front back entry last day taken fault e (append-nil (rounds_of front)) refl;
+        comes_to = BadEntry front back entry last day taken fault e (append-nil (rounds_of plans front)) refl;
       }
       by None e more =
           let g = more e in
           record {
-            rest = round_at (state_after front) entry ++ g.rest;
+            rest = round_at (state_after plans front) entry ++ g.rest;
             stop = g.stop;
-            comes_to = subst (λ rs. ComesTo stops text rs g.stop) (ap (λ rs. rs ++ g.rest) (rounds_more front entry) ∙ append_assoc (rounds_of front) (round_at (state_after front) entry) g.rest) g.comes_to;
+            comes_to = subst (λ rs. ComesTo stops plans text rs g.stop) (ap (λ rs. rs ++ g.rest) (rounds_more plans front entry) ∙ append_assoc (rounds_of plans front) (round_at (state_after plans front) entry) g.rest) g.comes_to;
           }
 
   -- the entries before the first that is stopped, and why, are the same
@@ -149,38 +152,41 @@ module _ (stops : Stops) where
       (ap (λ l. a ∷ l) p.0 ∙ ap (λ z. z ∷ ys) (sym same), p.1)
 
   -- an entry that is stopped is not among those that are taken
-  not_taken : (entries front back : List Entry) (entry : Entry) (fault : DayFault) → entries ≡ front ++ entry ∷ back → AreTakenBy stops start entries → stops (state_after front) entry ≡ Some fault → ⊥
-  not_taken entries front back entry fault e taken refused =
-      let t = taken_within start front back entry (subst (AreTakenBy stops start) e taken) in
+  not_taken : (plans : List Plan) (entries front back : List Entry) (entry : Entry) (fault : DayFault) → entries ≡ front ++ entry ∷ back → AreTakenBy stops (start_with plans) entries → stops (state_after plans front) entry ≡ Some fault → ⊥
+  not_taken plans entries front back entry fault e taken refused =
+      let t = taken_within (start_with plans) front back entry (subst (AreTakenBy stops (start_with plans)) e taken) in
       let k = sym refused ∙ t in cc
 
-  pub one_coming : IsOneReading → (text : List ℕ) (rounds others : List Round) (stop other : Option DayStop) → ComesTo stops text rounds stop → ComesTo stops text others other → (rounds ≡ others) × (stop ≡ other)
-  one_coming law text rounds others stop other (AllTaken entries day taken are is) (AllTaken entries2 day2 taken2 are2 is2) =
+  pub one_coming : IsOneReading → (plans : List Plan) (text : List ℕ) (rounds others : List Round) (stop other : Option DayStop) → ComesTo stops plans text rounds stop → ComesTo stops plans text others other → (rounds ≡ others) × (stop ≡ other)
+  one_coming law plans text rounds others stop other (AllTaken entries day taken are is) (AllTaken entries2 day2 taken2 are2 is2) =
       let l = law text entries entries2 None None day day2 in
-      (are ∙ ap rounds_of l.0 ∙ sym are2, is ∙ sym is2)
-  one_coming law text rounds others stop other (AllTaken entries day taken are is) (BadRecord entries2 refused2 day2 taken2 are2 is2) =
+      (are ∙ ap (rounds_of plans) l.0 ∙ sym are2, is ∙ sym is2)
+  one_coming law plans text rounds others stop other (AllTaken entries day taken are is) (BadRecord entries2 refused2 day2 taken2 are2 is2) =
       let l = law text entries entries2 None (Some refused2) day day2 in absurd (let e = l.1 in cc)
-  one_coming law text rounds others stop other (AllTaken entries day taken are is) (BadEntry front2 back2 entry2 later2 day2 taken2 fault2 refused2 are2 is2) =
-      let l = law text entries (front2 ++ entry2 ∷ back2) None later2 day day2 in absurd (not_taken entries front2 back2 entry2 fault2 l.0 taken refused2)
-  one_coming law text rounds others stop other (BadRecord entries refused day taken are is) (AllTaken entries2 day2 taken2 are2 is2) =
+  one_coming law plans text rounds others stop other (AllTaken entries day taken are is) (BadEntry front2 back2 entry2 later2 day2 taken2 fault2 refused2 are2 is2) =
+      let l = law text entries (front2 ++ entry2 ∷ back2) None later2 day day2 in absurd (not_taken plans entries front2 back2 entry2 fault2 l.0 taken refused2)
+  one_coming law plans text rounds others stop other (BadRecord entries refused day taken are is) (AllTaken entries2 day2 taken2 are2 is2) =
       let l = law text entries entries2 (Some refused) None day day2 in absurd (let e = l.1 in cc)
-  one_coming law text rounds others stop other (BadRecord entries refused day taken are is) (BadRecord entries2 refused2 day2 taken2 are2 is2) =
+  one_coming law plans text rounds others stop other (BadRecord entries refused day taken are is) (BadRecord entries2 refused2 day2 taken2 are2 is2) =
       let l = law text entries entries2 (Some refused) (Some refused2) day day2 in
       let same : refused ≡ refused2 = (let e = l.1 in cc) in
-      (are ∙ ap rounds_of l.0 ∙ sym are2, is ∙ ap (λ r. Some (record { number = r.number; cause = InItself r.cause })) same ∙ sym is2)
-  one_coming law text rounds others stop other (BadRecord entries refused day taken are is) (BadEntry front2 back2 entry2 later2 day2 taken2 fault2 refused2 are2 is2) =
-      let l = law text entries (front2 ++ entry2 ∷ back2) (Some refused) later2 day day2 in absurd (not_taken entries front2 back2 entry2 fault2 l.0 taken refused2)
-  one_coming law text rounds others stop other (BadEntry front back entry later day taken fault refused are is) (AllTaken entries2 day2 taken2 are2 is2) =
-      let l = law text entries2 (front ++ entry ∷ back) None later day2 day in absurd (not_taken entries2 front back entry fault l.0 taken2 refused)
-  one_coming law text rounds others stop other (BadEntry front back entry later day taken fault refused are is) (BadRecord entries2 refused2 day2 taken2 are2 is2) =
-      let l = law text entries2 (front ++ entry ∷ back) (Some refused2) later day2 day in absurd (not_taken entries2 front back entry fault l.0 taken2 refused)
-  one_coming law text rounds others stop other (BadEntry front back entry later day taken fault refused are is) (BadEntry front2 back2 entry2 later2 day2 taken2 fault2 refused2 are2 is2) =
+      (are ∙ ap (rounds_of plans) l.0 ∙ sym are2, is ∙ ap (λ r. Some (record { number = r.number; cause = InItself r.cause })) same ∙ sym is2)
+  one_coming law plans text rounds others stop other (BadRecord entries refused day taken are is) (BadEntry front2 back2 entry2 later2 day2 taken2 fault2 refused2 are2 is2) =
+      let l = law text entries (front2 ++ entry2 ∷ back2) (Some refused) later2 day day2 in absurd (not_taken plans entries front2 back2 entry2 fault2 l.0 taken refused2)
+  one_coming law plans text rounds others stop other (BadEntry front back entry later day taken fault refused are is) (AllTaken entries2 day2 taken2 are2 is2) =
+      let l = law text entries2 (front ++ entry ∷ back) None later day2 day in absurd (not_taken plans entries2 front back entry fault l.0 taken2 refused)
+  one_coming law plans text rounds others stop other (BadEntry front back entry later day taken fault refused are is) (BadRecord entries2 refused2 day2 taken2 are2 is2) =
+      let l = law text entries2 (front ++ entry ∷ back) (Some refused2) later day2 day in absurd (not_taken plans entries2 front back entry fault l.0 taken2 refused)
+  one_coming law plans text rounds others stop other (BadEntry front back entry later day taken fault refused are is) (BadEntry front2 back2 entry2 later2 day2 taken2 fault2 refused2 are2 is2) =
       let l = law text (front ++ entry ∷ back) (front2 ++ entry2 ∷ back2) later later2 day day2 in
-      let p = same_stop start front front2 back back2 entry entry2 fault fault2 l.0 taken taken2 refused refused2 in (
-        are ∙ ap rounds_of p.0 ∙ sym are2,
+      let p = same_stop (start_with plans) front front2 back back2 entry entry2 fault fault2 l.0 taken taken2 refused refused2 in (
+        are ∙ ap (rounds_of plans) p.0 ∙ sym are2,
         is ∙ ap (λ (f : List Entry). Some (record { number = length f + 1; cause = fault })) p.0 ∙ ap (λ r. Some (record { number = length front2 + 1; cause = r })) p.1 ∙ sym is2,
       )
 
-  -- a day with a refusal is none without one
-  pub one_end : (text : List ℕ) (rounds others : List Round) (stop : DayStop) → IsOneReading → ComesTo stops text rounds None → ComesTo stops text others (Some stop) → ⊥
-  one_end text rounds others stop law whole stopped = let e = (one_coming law text rounds others None (Some stop) whole stopped).1 in cc
+-- ---- plans of later rounds
+
+-- what the day's state takes does not depend on them
+pub stop_same : ((s : DayState) (plans : List Plan) (entry : Entry) → refusal_of (record s { plans = plans }) entry ≡ refusal_of s entry)
+    → (s : DayState) (plans : List Plan) (entry : Entry) → change_stop (record s { plans = plans }) entry ≡ change_stop s entry
+stop_same law s plans entry = ap (λ told. option_map (λ refusal. Change (fault_of refusal)) told) (law s plans entry)

@@ -1,7 +1,8 @@
 -- what is written of a day, entry by entry
 use Rattle.std.proofs.Common.{◌≡◌, ◌≢◌, ◌≤◌, ◌<◌, ◌+◌, ◌&&◌, ◌++◌, ◌∷◌, [], ℕ, Bool, true, false, List, Option, None, Some, Result, Ok, Err, length, take, drop, get_or, ap, subst, sym, refl, ◌∙◌, arith, append_assoc, append-nil, length-take}
-use Rattle.std.specs.Prelude.{IfSome, IfOk, IsErr, IsTrue, OnErr}
-use Rattle.std.proofs.lemmas.List.{take_more, take_all, take-append-le, take-append-drop}
+use Rattle.std.specs.Prelude.{IfSome, IsErr, IsTrue, OnErr, count_by}
+use Rattle.std.proofs.lemmas.List.{take_more, take_all, take-append-drop}
+use Rattle.crew_terms.specs.Plan.{Plan}
 use Rattle.crew_terms.specs.declared.TheConstants.{LONGEST_DAY}
 use Rattle.crew_io.specs.Io.{Appended, AppendedPart, HasEnded}
 use Rattle.crew_io.specs.Text.{TookAtMost, ReadsText}
@@ -12,15 +13,19 @@ use Rattle.route_terms.specs.Named.{NamedRoute}
 use Rattle.day_terms.specs.declared.Entry.{Entry}
 use Rattle.day_terms.specs.declared.Refused.{Refused}
 use Rattle.day_terms.specs.Days.{IsDayOf}
-use Rattle.day_terms.specs.State.{DayState, start, after_entry, state_after}
+use Rattle.day_terms.specs.State.{DayState, start, start_with}
+use Rattle.day_terms.specs.Entries.{after_entry, state_after}
+use Rattle.day_terms.specs.Laws.{is_plan}
+use Rattle.day_terms.specs.Refusal.{AreTaken, refusal_of}
 use Rattle.day_terms.specs.Rounds.{Round, round_at, rounds_of}
 use Rattle.replan.specs.Planning.{Planning}
 use Rattle.day_commands.specs.Refused.{refused_line}
-use Rattle.day_commands.specs.Rounds.{Stops, AreTakenBy, DayStop, ComesTo, AllTaken, BadRecord, BadEntry, IsFineDay, IsRefusedOutput, IsTooLong, IsStopped, SaysOutputPart, OfRounds, OfRefusal, SaysFirstRounds, NoRound, Rounds, change_stop}
-use Rattle.day_commands.specs.Outputs.{TextsOf}
+use Rattle.day_commands.specs.Rounds.{AreTakenBy, DayStop, ComesTo, AllTaken, BadRecord, BadEntry, IsFineDay, IsRefusedOutput, IsTooLong, IsStopped, OfRounds, OfRefusal, SaysFirstRounds, NoRound, Rounds, change_stop}
+use Rattle.day_commands.specs.Outputs.{MayHave, TextsOf}
 use Rattle.day_commands.specs.Says.{SaysAt, whole_end, is_refused_or_write_fault, is_of_text, is_whole, can_end}
-use Rattle.day_commands.specs.Taken.{AreTextsFrom, IsFrontFrom, IsTakenSo, IsDay, Wrote}
+use Rattle.day_commands.specs.Taken.{AreTextsFrom, IsTakenSo, IsDay, Wrote}
 use Rattle.day_commands.specs.Fronts.{take_front}
+use Rattle.day_commands.specs.Legal.{may_have}
 use Rattle.day_commands.specs.declared.ended.DayOutput.{DayOutput}
 use Rattle.day_commands.specs.declared.ended.DayOutput.TheVariants.{Instances, Dossiers}
 use Rattle.day_commands.specs.declared.ended.Ended.{Ended}
@@ -30,8 +35,9 @@ use Rattle.day_commands.specs.declared.entries.Taken.TheVariants.{Whole, Refused
 use Rattle.day_commands.specs.declared.refused.DayFault.{DayFault}
 use Rattle.day_commands.specs.declared.refused.DayFault.TheVariants.{TooLong, InItself, Change}
 use Rattle.flight_changes.specs.declared.faults.ChangeFault.TheVariants.{OutOfMemory}
-use Rattle.day_commands.proofs.Days.{goes_on, one_end, rounds_more, taken_more, state_more}
-use Rattle.day_commands.proofs.Texts.{texts_none, texts_then, texts_are, texts_proved, texts_unproved}
+use Rattle.day_commands.proofs.Applied.{known_none}
+use Rattle.day_commands.proofs.Days.{goes_on, rounds_more, state_takes_entries, stop_same, taken_more, state_more}
+use Rattle.day_commands.proofs.Texts.{HasAll, has_all, texts_none, texts_then, texts_are, texts_proved, texts_unproved}
 
 pub on_err : {X E : Type 0} (r : Result X E) (P : Type 0) → P → OnErr r P
 on_err (Ok x) P p = tt
@@ -54,26 +60,28 @@ front_behind xs ys n = sym (take_past xs ys n)
 
 -- what was written of the rounds of these entries, up to routes that are handed on
 pub record SoFar (output : DayOutput) (entries : List Entry) (proved : Bool) (s : Planning) (got later : Option (List ℕ)) : Type 0 where
-  pub state : s.day ≡ state_after entries
+  pub plans : List Plan
+  pub state : s.day ≡ state_after plans entries
+  pub unknown : s.day.plans ≡ []
   pub open_yet : s.failed ≡ None
-  pub taken : AreTakenBy change_stop start entries
+  pub taken : AreTakenBy change_stop (start_with plans) entries
   pub text : List ℕ
-  pub texts : AreTextsFrom output [] (rounds_of entries) text proved s.handed
+  pub texts : AreTextsFrom output [] plans (rounds_of plans entries) text proved s.handed
   pub wrote : Appended got later text
 
 -- the rounds of entries that are taken are the first of those that the day comes to
-first_rounds : (output : DayOutput) (text : List ℕ) (front back : List Entry) (last : Option Refused) (written : List ℕ) → length text ≤ LONGEST_DAY → IsDayOf text (front ++ back) last
-    → AreTakenBy change_stop start front → TextsOf output (rounds_of front) written → SaysFirstRounds change_stop (TextsOf output) text written
-first_rounds output text front back last written within day taken texts =
-    let g = goes_on change_stop text front back last day taken in
-    Rounds within (rounds_of front ++ g.rest) g.stop g.comes_to (length (rounds_of front))
-    (subst (λ rounds. TextsOf output rounds written) (sym (take_front (rounds_of front) g.rest)) texts)
+first_rounds : (output : DayOutput) (plans : List Plan) (text : List ℕ) (front back : List Entry) (last : Option Refused) (written : List ℕ) → length text ≤ LONGEST_DAY → IsDayOf text (front ++ back) last
+    → AreTakenBy change_stop (start_with plans) front → TextsOf output plans (rounds_of plans front) written → SaysFirstRounds change_stop (TextsOf output) text written
+first_rounds output plans text front back last written within day taken texts =
+    let g = goes_on change_stop plans text front back last day taken in
+    Rounds within plans (rounds_of plans front ++ g.rest) g.stop g.comes_to (length (rounds_of plans front))
+    (subst (λ rounds. TextsOf output plans rounds written) (sym (take_front (rounds_of plans front) g.rest)) texts)
 
 -- memory was wanting behind entries that are taken
 pub says_first : (output : DayOutput) (text : List ℕ) (front back : List Entry) (last : Option Refused) (proved : Bool) (s : Planning) (got later : Option (List ℕ)) → length text ≤ LONGEST_DAY → IsDayOf text (front ++ back) last
     → SoFar output front proved s got later → Wrote got later (SaysFirstRounds change_stop (TextsOf output) text)
 says_first output text front back last proved s got later within day so =
-    (so.text, so.wrote, first_rounds output text front back last so.text within day so.taken (texts_are output (rounds_of front) so.text proved s.handed so.texts))
+    (so.text, so.wrote, first_rounds output so.plans text front back last so.text within day so.taken (texts_are output so.plans (rounds_of so.plans front) so.text proved s.handed so.texts))
 
 -- no record was refused
 pub says_rounds : (output : DayOutput) (text : List ℕ) (entries : List Entry) (proved : Bool) (s : Planning) (got later : Option (List ℕ)) → length text ≤ LONGEST_DAY → IsDayOf text entries None
@@ -81,31 +89,65 @@ pub says_rounds : (output : DayOutput) (text : List ℕ) (entries : List Entry) 
 says_rounds output text entries true s got later within day so = (
   so.text,
   so.wrote,
-  record { within = within; rounds = rounds_of entries; comes_to = AllTaken entries day so.taken refl refl; texts = texts_proved output (rounds_of entries) so.text s.handed so.texts },
+  record { within = within; plans = so.plans; rounds = rounds_of so.plans entries; comes_to = AllTaken entries day so.taken refl refl; texts = texts_proved output so.plans (rounds_of so.plans entries) so.text s.handed so.texts },
 )
 says_rounds output text entries false s got later within day so = (
   so.text,
   so.wrote,
-  record { within = within; rounds = rounds_of entries; comes_to = AllTaken entries day so.taken refl refl; texts = texts_unproved output (rounds_of entries) so.text s.handed so.texts },
+  record { within = within; plans = so.plans; rounds = rounds_of so.plans entries; comes_to = AllTaken entries day so.taken refl refl; texts = texts_unproved output so.plans (rounds_of so.plans entries) so.text s.handed so.texts },
 )
 
 -- a record is refused
-pub says_stop : (output : DayOutput) (text : List ℕ) (rounds : List Round) (stop : DayStop) (written : List ℕ) (got mid later : Option (List ℕ)) (answer : Ended) → length text ≤ LONGEST_DAY
-    → ComesTo change_stop text rounds (Some stop) → TextsOf output rounds written → Appended got mid written
+pub says_stop : (output : DayOutput) (plans : List Plan) (text : List ℕ) (rounds : List Round) (stop : DayStop) (written : List ℕ) (got mid later : Option (List ℕ)) (answer : Ended) → length text ≤ LONGEST_DAY
+    → ComesTo change_stop plans text rounds (Some stop) → TextsOf output plans rounds written → Appended got mid written
     → (answer ≡ ended.Refused → Appended mid later (refused_line stop.number stop.cause)) → AppendedPart mid later (refused_line stop.number stop.cause)
     → IsTrue (is_refused_or_write_fault answer) → Wrote got later (SaysAt output answer None text)
-says_stop output text rounds stop written got mid later ended.Done within c texts wrote all part others = absurd (cc)
-says_stop output text rounds stop written got mid later ended.Unproved within c texts wrote all part others = absurd (cc)
-says_stop output text rounds stop written got mid later ended.ReadFault within c texts wrote all part others = absurd (cc)
-says_stop output text rounds stop written got mid later ended.Refused within c texts wrote all part others = (
+says_stop output plans text rounds stop written got mid later ended.Done within c texts wrote all part others = absurd (cc)
+says_stop output plans text rounds stop written got mid later ended.Unproved within c texts wrote all part others = absurd (cc)
+says_stop output plans text rounds stop written got mid later ended.ReadFault within c texts wrote all part others = absurd (cc)
+says_stop output plans text rounds stop written got mid later ended.Refused within c texts wrote all part others = (
   written ++ refused_line stop.number stop.cause,
   appended_both got mid later written (refused_line stop.number stop.cause) wrote (all refl),
-  IsStopped within rounds stop c written texts refl,
+  IsStopped within plans rounds stop c written texts refl,
 )
-says_stop output text rounds stop written got mid later ended.WriteFault within c texts wrote all part others =
+says_stop output plans text rounds stop written got mid later ended.WriteFault within c texts wrote all part others =
     let line = refused_line stop.number stop.cause in
     let w = piece_front got mid later written line wrote part in
-    (written ++ take w.0 line, w.2, OfRefusal (written ++ line) (IsStopped within rounds stop c written texts refl) (length written + w.0) (front_behind written line w.0))
+    (written ++ take w.0 line, w.2, OfRefusal (written ++ line) (IsStopped within plans rounds stop c written texts refl) (length written + w.0) (front_behind written line w.0))
+
+-- ---- plans of later rounds
+
+-- what is known of them
+pub record PlansToCome : Type 0 where
+  pub state : (plans more : List Plan) (entries : List Entry) → length plans ≡ count_by is_plan entries → state_after (plans ++ more) entries ≡ record (state_after plans entries) { plans = more }
+  pub rounds : (plans more : List Plan) (entries : List Entry) → length plans ≡ count_by is_plan entries → rounds_of (plans ++ more) entries ≡ rounds_of plans entries
+  pub taken : (plans more : List Plan) (entries : List Entry) → length plans ≡ count_by is_plan entries → AreTaken (start_with plans) entries → AreTaken (start_with (plans ++ more)) entries
+  pub count : (plans : List Plan) (entries : List Entry) → length (rounds_of plans entries) ≡ count_by is_plan entries
+  pub refusal : (s : DayState) (plans : List Plan) (entry : Entry) → refusal_of (record s { plans = plans }) entry ≡ refusal_of s entry
+  pub round : (s : DayState) (plans : List Plan) (entry : Entry) → round_at (record s { plans = plans }) entry ≡ round_at s entry
+
+-- further plans change nothing of these entries
+record IsLater (plans more : List Plan) (entries : List Entry) : Type 0 where
+  pub state : state_after (plans ++ more) entries ≡ record (state_after plans entries) { plans = more }
+  pub rounds : rounds_of (plans ++ more) entries ≡ rounds_of plans entries
+  pub taken : AreTakenBy change_stop (start_with (plans ++ more)) entries
+
+are_later : PlansToCome → (output : DayOutput) (plans more : List Plan) (entries : List Entry) (rounds : List Round) → AreTakenBy change_stop (start_with plans) entries
+    → HasAll output plans (rounds_of plans entries) → HasAll output more rounds → (state_after plans entries).plans ≡ [] → IsLater plans more entries
+are_later laws Instances plans more entries rounds taken has none unknown =
+    let same = append-nil plans in
+    subst (λ m. IsLater plans m entries) (sym none) (record {
+      state = ap (λ ps. state_after ps entries) same ∙ sym (known_none (state_after plans entries) unknown);
+      rounds = ap (λ ps. rounds_of ps entries) same;
+      taken = subst (λ ps. AreTakenBy change_stop (start_with ps) entries) (sym same) taken;
+    })
+are_later laws Dossiers plans more entries rounds taken has all unknown =
+    let many : length plans ≡ count_by is_plan entries = has ∙ laws.count plans entries in
+    record {
+      state = laws.state plans more entries many;
+      rounds = laws.rounds plans more entries many;
+      taken = (state_takes_entries (plans ++ more) entries).1 (laws.taken plans more entries many ((state_takes_entries plans entries).0 taken));
+    }
 
 -- ---- at an entry of the day
 
@@ -127,44 +169,68 @@ module _ (output : DayOutput) (text : List ℕ) (entries : List Entry) (n : ℕ)
       let front = take n entries in
       let entry = get_or entries n d in
       let p = subst (λ x. IsTakenSo output s entry x new mid held) is comes in
-      let refused : change_stop (state_after front) entry ≡ Some fault = subst (λ x. change_stop x entry ≡ Some fault) so.state p.0 in
+      let refused : change_stop (state_after so.plans front) entry ≡ Some fault = subst (λ x. change_stop x entry ≡ Some fault) so.state p.0 in
       let number : n + 1 ≡ length front + 1 = omega (arith, length-take n entries, below) in
       let stop : DayStop = record { number = n + 1; cause = fault } in
       let stop_is : Some stop ≡ Some (record { number = length front + 1; cause = fault }) = ap (λ k. Some (record { number = k; cause = fault })) number in
-      says_stop output text (rounds_of front) stop so.text got mid later answer day.within
+      says_stop output so.plans text (rounds_of so.plans front) stop so.text got mid later answer day.within
       (BadEntry front (drop (n + 1) entries) entry last (day_at text entries n d last below day.day) so.taken fault refused refl stop_is)
-      (texts_are output (rounds_of front) so.text proved s.handed so.texts) so.wrote
+      (texts_are output so.plans (rounds_of so.plans front) so.text proved s.handed so.texts) so.wrote
       (λ e. subst (λ x. Appended x later (refused_line (n + 1) fault)) p.2 (all e)) (subst (λ x. AppendedPart x later (refused_line (n + 1) fault)) p.2 part) others
 
-  -- it is taken
-  more_taken : (d : Entry) → n < length entries → SoFar output (take n entries) proved s got mid → change_stop s.day (get_or entries n d) ≡ None → AreTakenBy change_stop start (take n entries ++ get_or entries n d ∷ [])
-  more_taken d below so none = taken_more change_stop (take n entries) (get_or entries n d) so.taken (subst (λ x. change_stop x (get_or entries n d) ≡ None) so.state none)
+  -- it is taken, where its round has these plans
+  module _ (laws : PlansToCome) (d : Entry) (below : n < length entries) (so : SoFar output (take n entries) proved s got mid) (more : List Plan)
+      (has : HasAll output more (round_at s.day (get_or entries n d))) where
+    abbrev front : List Entry
+    front = take n entries
 
-  more_texts : (d : Entry) (ys : List ℕ) (q : Bool) (handed : List NamedRoute) (so : SoFar output (take n entries) proved s got mid)
-      → AreTextsFrom output s.handed (round_at s.day (get_or entries n d)) ys q handed
-      → AreTextsFrom output [] (rounds_of (take n entries ++ get_or entries n d ∷ [])) (so.text ++ ys) (proved && q) handed
-  more_texts d ys q handed so texts =
-      let front = take n entries in
-      let entry = get_or entries n d in
-      subst (λ rounds. AreTextsFrom output [] rounds (so.text ++ ys) (proved && q) handed)
-      (ap (λ x. rounds_of front ++ round_at x entry) so.state ∙ sym (rounds_more front entry))
-      (texts_then output [] s.handed handed (rounds_of front) (round_at s.day entry) so.text ys proved q so.texts texts)
+    abbrev entry : Entry
+    entry = get_or entries n d
+
+    abbrev known : List Plan
+    known = so.plans ++ more
+
+    same_before : IsLater so.plans more front
+    same_before =
+        are_later laws output so.plans more front (round_at s.day entry) so.taken (has_all output [] s.handed so.plans (rounds_of so.plans front) so.text proved so.texts) has
+        (ap (λ (x : DayState). x.plans) (sym so.state) ∙ so.unknown)
+
+    more_taken : change_stop s.day entry ≡ None → AreTakenBy change_stop (start_with known) (front ++ entry ∷ [])
+    more_taken none =
+        taken_more change_stop known front entry same_before.taken
+        (ap (λ x. change_stop x entry) same_before.state ∙ stop_same laws.refusal (state_after so.plans front) more entry ∙ ap (λ x. change_stop x entry) (sym so.state) ∙ none)
+
+    more_texts : (ys : List ℕ) (q : Bool) (handed : List NamedRoute) → AreTextsFrom output s.handed more (round_at s.day entry) ys q handed
+        → AreTextsFrom output [] known (rounds_of known (front ++ entry ∷ [])) (so.text ++ ys) (proved && q) handed
+    more_texts ys q handed texts =
+        subst (λ rounds. AreTextsFrom output [] known rounds (so.text ++ ys) (proved && q) handed)
+        (ap (λ rs. rs ++ round_at s.day entry) (sym same_before.rounds)
+        ∙ ap (λ r. rounds_of known front ++ r)
+        (ap (λ x. round_at x entry) so.state ∙ sym (laws.round (state_after so.plans front) more entry) ∙ ap (λ x. round_at x entry) (sym same_before.state))
+        ∙ sym (rounds_more known front entry))
+        (texts_then output [] s.handed handed so.plans more (rounds_of so.plans front) (round_at s.day entry) so.text ys proved q so.texts texts)
+
+    more_state : (new : DayState) → new ≡ after_entry (record s.day { plans = more }) entry → new ≡ state_after known (front ++ entry ∷ [])
+    more_state new is =
+        is ∙ ap (λ (x : DayState). after_entry (record x { plans = more }) entry) so.state ∙ ap (λ x. after_entry x entry) (sym same_before.state) ∙ sym (state_more known front entry)
 
   -- a write of its round failed
-  pub at_front : (d : Entry) (new : Planning) (taken : Taken) (later : Option (List ℕ)) → IsDay text entries last → n < length entries → SoFar output (take n entries) proved s got mid
+  pub at_front : PlansToCome → (d : Entry) (new : Planning) (taken : Taken) (later : Option (List ℕ)) → IsDay text entries last → n < length entries → SoFar output (take n entries) proved s got mid
       → IsTakenSo output s (get_or entries n d) taken new mid later → taken ≡ WriteFault → Wrote got later (SaysAt output ended.WriteFault None text)
-  at_front d new taken later day below so comes is =
+  at_front laws d new taken later day below so comes is =
       let front = take n entries in
       let entry = get_or entries n d in
       let p = subst (λ x. IsTakenSo output s entry x new mid later) is comes in
       let f = p.1 in
-      let w = piece_front got mid later so.text f.0 so.wrote f.4 in
-      let more = more_texts d f.0 f.1 f.2 so f.3 in
-      let whole = first_rounds output text (front ++ entry ∷ []) (drop (n + 1) entries) last (so.text ++ f.0) day.within
+      let known = so.plans ++ f.0 in
+      let w = piece_front got mid later so.text f.1 so.wrote f.5 in
+      let has = has_all output s.handed f.3 f.0 (round_at s.day entry) f.1 f.2 f.4 in
+      let more = more_texts laws d below so f.0 has f.1 f.2 f.3 f.4 in
+      let whole = first_rounds output known text (front ++ entry ∷ []) (drop (n + 1) entries) last (so.text ++ f.1) day.within
       (subst (λ es. IsDayOf text es last) (sym (append_assoc front (entry ∷ []) (drop (n + 1) entries))) (day_at text entries n d last below day.day))
-      (more_taken d below so p.0)
-      (texts_are output (rounds_of (front ++ entry ∷ [])) (so.text ++ f.0) (proved && f.1) f.2 more) in
-      (so.text ++ take w.0 f.0, w.2, OfRounds (so.text ++ f.0) whole (length so.text + w.0) (front_behind so.text f.0 w.0))
+      (more_taken laws d below so f.0 has p.0)
+      (texts_are output known (rounds_of known (front ++ entry ∷ [])) (so.text ++ f.1) (proved && f.2) f.3 more) in
+      (so.text ++ take w.0 f.1, w.2, OfRounds (so.text ++ f.1) whole (length so.text + w.0) (front_behind so.text f.1 w.0))
 
   -- memory was wanting for it
   pub at_memory : (later : Option (List ℕ)) → IsDay text entries last → SoFar output (take n entries) proved s got mid → later ≡ mid → Wrote got later (SaysFirstRounds change_stop (TextsOf output) text)
@@ -172,21 +238,24 @@ module _ (output : DayOutput) (text : List ℕ) (entries : List Entry) (n : ℕ)
       subst (λ x. Wrote got x (SaysFirstRounds change_stop (TextsOf output) text)) (sym same)
       (says_first output text (take n entries) (drop n entries) last proved s got mid day.within (subst (λ es. IsDayOf text es last) (sym (take-append-drop n entries)) day.day) so)
 
-  pub at_taken : (d : Entry) (new : Planning) (taken : Taken) (q : Bool) (later : Option (List ℕ)) → n < length entries → SoFar output (take n entries) proved s got mid
+  pub at_taken : PlansToCome → (d : Entry) (new : Planning) (taken : Taken) (q : Bool) (later : Option (List ℕ)) → n < length entries → SoFar output (take n entries) proved s got mid
       → IsTakenSo output s (get_or entries n d) taken new mid later → taken ≡ Whole q → SoFar output (take (n + 1) entries) (proved && q) new got later
-  at_taken d new taken q later below so comes is =
+  at_taken laws d new taken q later below so comes is =
       let front = take n entries in
       let entry = get_or entries n d in
       let p = subst (λ x. IsTakenSo output s entry x new mid later) is comes in
-      let f = p.3 in
+      let f = p.2 in
       let more : front ++ entry ∷ [] ≡ take (n + 1) entries = sym (take_more entries n d below) in
+      let has = has_all output s.handed new.handed f.0 (round_at s.day entry) f.1 q f.3 in
       subst (λ es. SoFar output es (proved && q) new got later) more (record {
-        state = p.1 ∙ ap (λ x. after_entry x entry) so.state ∙ sym (state_more front entry);
-        open_yet = p.2;
-        taken = more_taken d below so p.0;
-        text = so.text ++ f.0;
-        texts = more_texts d f.0 q new.handed so f.1;
-        wrote = appended_both got mid later so.text f.0 so.wrote f.2;
+        plans = so.plans ++ f.0;
+        state = more_state laws d below so f.0 has new.day f.2.0;
+        unknown = f.2.1;
+        open_yet = p.1;
+        taken = more_taken laws d below so f.0 has p.0;
+        text = so.text ++ f.1;
+        texts = more_texts laws d below so f.0 has f.1 q new.handed f.3;
+        wrote = appended_both got mid later so.text f.1 so.wrote f.4;
       })
 
   -- ---- behind the last entry
@@ -200,14 +269,16 @@ module _ (output : DayOutput) (text : List ℕ) (entries : List Entry) (n : ℕ)
       → AppendedPart mid later (refused_line stop.number (InItself stop.cause)) → IsTrue (is_refused_or_write_fault answer) → Wrote got later (SaysAt output answer None text)
   at_stop stop later answer day all so some whole part others =
       let done = subst (λ es. SoFar output es proved s got mid) (take_all n entries all) so in
-      says_stop output text (rounds_of entries) (record { number = stop.number; cause = InItself stop.cause }) done.text got mid later answer day.within
+      says_stop output done.plans text (rounds_of done.plans entries) (record { number = stop.number; cause = InItself stop.cause }) done.text got mid later answer day.within
       (BadRecord entries stop (subst (IsDayOf text entries) some day.day) done.taken refl refl)
-      (texts_are output (rounds_of entries) done.text proved s.handed done.texts) done.wrote whole part others
+      (texts_are output done.plans (rounds_of done.plans entries) done.text proved s.handed done.texts) done.wrote whole part others
 
 -- before the first entry
 pub nothing_yet : (output : DayOutput) (s : Planning) (got : Option (List ℕ)) → s ≡ record { day = start; handed = []; failed = None } → SoFar output [] true s got got
 nothing_yet output s got is = subst (λ x. SoFar output [] true x got got) (sym is) (record {
+  plans = [];
   state = refl;
+  unknown = refl;
   open_yet = refl;
   taken = tt;
   text = [];
@@ -244,10 +315,10 @@ pub whole_memory : (output : DayOutput) (left later got new : Option (List ℕ))
 whole_memory output None later got new bytes read wrote = tt
 whole_memory output (Some input) later got new bytes read wrote = (wrote.0, wrote.1, subst (λ x. SaysFirstRounds change_stop (TextsOf output) x wrote.0) read.0 wrote.2)
 
-pub whole_not_fine : (output : DayOutput) (left later : Option (List ℕ)) (bytes : List ℕ) → ReadsText LONGEST_DAY left (text_is.Whole bytes) later → (IsFineDay change_stop bytes → ⊥)
-    → IfSome left (λ input. IsFineDay change_stop input → ⊥)
+pub whole_not_fine : (output : DayOutput) (left later : Option (List ℕ)) (bytes : List ℕ) → ReadsText LONGEST_DAY left (text_is.Whole bytes) later → (IsFineDay change_stop (MayHave output) bytes → ⊥)
+    → IfSome left (λ input. IsFineDay change_stop (MayHave output) input → ⊥)
 whole_not_fine output None later bytes read not = tt
-whole_not_fine output (Some input) later bytes read not = subst (λ x. IsFineDay change_stop x → ⊥) read.0 not
+whole_not_fine output (Some input) later bytes read not = subst (λ x. IsFineDay change_stop (MayHave output) x → ⊥) read.0 not
 
 -- and nothing is left
 pub whole_ended : (left later : Option (List ℕ)) (bytes : List ℕ) → ReadsText LONGEST_DAY left (text_is.Whole bytes) later → HasEnded later
@@ -312,7 +383,7 @@ long_says output (Some input) later got new ended.WriteFault read all part other
     let w = piece_front got got new [] line (appended_none got) part in
     (take w.0 line, w.2, OfRefusal line (IsTooLong read.0 refl) w.0 refl)
 
-pub long_not_fine : (output : DayOutput) (left later : Option (List ℕ)) → ReadsText LONGEST_DAY left text_is.TooLong later → IfSome left (λ input. IsFineDay change_stop input → ⊥)
+pub long_not_fine : (output : DayOutput) (left later : Option (List ℕ)) → ReadsText LONGEST_DAY left text_is.TooLong later → IfSome left (λ input. IsFineDay change_stop (MayHave output) input → ⊥)
 long_not_fine output None later read = tt
 long_not_fine output (Some input) later read = λ fine. let a = read.0 in let b = fine.0 in absurd (omega arith)
 
@@ -333,11 +404,10 @@ fault_says output (Some input) later got took = (
 )
 
 -- what is refused is not fine
-pub refused_not_fine : (output : DayOutput) (text written : List ℕ)
-    → ((text : List ℕ) (entries others : List Entry) (stop last : Option Refused) → IsDayOf text entries stop → IsDayOf text others last → (entries ≡ others) × (stop ≡ last))
-    → IsRefusedOutput change_stop (TextsOf output) text written → IsFineDay change_stop text → ⊥
-refused_not_fine output text written law (IsTooLong more is) fine = let b = fine.0 in absurd (omega arith)
-refused_not_fine output text written law (IsStopped within rounds stop c lines texts is) fine = one_end change_stop text fine.1.0 rounds stop law fine.1.1 c
+pub refused_not_fine : (output : DayOutput) (text written : List ℕ) → IsRefusedOutput change_stop (TextsOf output) text written → IsFineDay change_stop (MayHave output) text → ⊥
+refused_not_fine output text written (IsTooLong more is) fine = let b = fine.0 in absurd (omega arith)
+refused_not_fine output text written (IsStopped within plans rounds stop c lines texts is) fine =
+    absurd (let e = fine.1 plans rounds (Some stop) c (may_have output plans rounds lines texts) in cc)
 
 pub whole_no_fault : {E : Type 0} (q : Bool) (answer : Ended) → answer ≡ whole_end q → ◌≡◌ {A = Result Ended E} (Ok answer) (Ok ended.WriteFault) → ⊥
 whole_no_fault true answer is e = let f : ended.Done ≡ ended.WriteFault = sym is ∙ same_ok e in absurd (cc)

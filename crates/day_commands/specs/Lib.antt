@@ -4,5 +4,6 @@ pub mod Instances
 pub mod Dossiers
 pub mod Outputs
 pub mod Says
+pub mod Legal
 pub mod Fronts
 pub mod Taken

@@ -7,7 +7,7 @@ use Rattle.field_table.specs.declared.fields.Cause.TheVariants.{Count, Spelling,
 use Rattle.day_terms.specs.declared.DayCause.{DayCause}
 use Rattle.day_terms.specs.declared.DayCause.TheVariants.{Kind, Field}
 use Rattle.flight_changes.specs.declared.faults.ChangeFault.{ChangeFault}
-use Rattle.flight_changes.specs.declared.faults.ChangeFault.TheVariants.{OutOfMemory, TooMany, SameName, NoPlace, NoTask, NoTeam, BadWindow, BadShift, BadTeams, MissingTravel}
+use Rattle.flight_changes.specs.declared.faults.ChangeFault.TheVariants.{OutOfMemory, TooMany, SameName, NoPlace, NoTask, NoTeam, BadWindow, BadShift, BadTeams, MissingTravel, FrozenWork}
 use Rattle.day_commands.specs.declared.refused.DayFault.{DayFault}
 use Rattle.day_commands.specs.declared.refused.DayFault.TheVariants.{TooLong, InItself, Change}
 
@@ -32,6 +32,7 @@ change_words BadWindow = codes "BadWindow" ∷ []
 change_words BadShift = codes "BadShift" ∷ []
 change_words BadTeams = codes "BadTeams" ∷ []
 change_words (MissingTravel from to) = codes "MissingTravel" ∷ from ∷ to ∷ []
+change_words (FrozenWork task) = codes "FrozenWork" ∷ task ∷ []
 
 abbrev pub cause_words : DayFault → Words
 cause_words TooLong = codes "TooLong" ∷ []

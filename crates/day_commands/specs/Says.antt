@@ -7,7 +7,7 @@ use Rattle.crew_io.specs.Draws.{TellsReads}
 use Rattle.crew_io.specs.declared.sink.Sink.{Ghosts as SinkTells}
 use Rattle.crew_io.specs.declared.source.Source.{Ghosts as SourceTells}
 use Rattle.day_commands.specs.Rounds.{IsFineDay, SaysRounds, IsRefusedOutput, SaysOutputPart, SaysFirstRounds, SaysNothingRead, change_stop}
-use Rattle.day_commands.specs.Outputs.{TextsOf, ProvedOf, UnprovedOf, are_dossiers}
+use Rattle.day_commands.specs.Outputs.{MayHave, TextsOf, ProvedOf, UnprovedOf, are_dossiers}
 use Rattle.day_commands.specs.declared.ended.DayOutput.{DayOutput}
 use Rattle.day_commands.specs.declared.ended.Ended.{Ended}
 use Rattle.day_commands.specs.declared.ended.Ended.TheVariants.{Done, Unproved, Refused, ReadFault, WriteFault}
@@ -58,7 +58,7 @@ pub record ReadsDay {S K E : Type 0} (source : SourceTells S) (sink : SinkTells 
   pub says : IfOk result (λ ended. OfBytes (source.left src) (sink.got out) (sink.got new) (SaysAt output ended (source.left later)))
   pub memory : OnErr result (OfBytes (source.left src) (sink.got out) (sink.got new) (SaysFirstRounds change_stop (TextsOf output)))
   pub ends : IfOk result (λ ended. IsTrue (can_end output ended))
-  pub refused : result ≡ Ok Refused → IfSome (source.left src) (λ input. IsFineDay change_stop input → ⊥)
+  pub refused : result ≡ Ok Refused → IfSome (source.left src) (λ input. IsFineDay change_stop (MayHave output) input → ⊥)
   pub ended : IfOk result (λ ended. IsTrue (is_whole ended) → HasEnded (source.left later))
   pub reads : TellsReads source src later (result ≡ Ok ReadFault)
   pub writes : TellsWrites sink out new (result ≡ Ok WriteFault)

@@ -1,22 +1,24 @@
 -- what one entry of a day comes to
-use Rattle.std.specs.Prelude.{◌≡◌, ◌≢◌, ◌≤◌, ◌&&◌, ℕ, Bool, true, false, List, [], ◌∷◌, length, Option, None, Some, All, Any}
+use Rattle.std.specs.Prelude.{◌≡◌, ◌≢◌, ◌≤◌, ℕ, Bool, true, false, List, [], ◌∷◌, length, Option, None, Some, All, Any}
 use Rattle.std.specs.List.{flat_map}
 use Rattle.crew_terms.specs.declared.TheConstants.{LONGEST_DAY}
 use Rattle.crew_io.specs.Io.{Appended, AppendedPart}
+use Rattle.crew_terms.specs.Plan.{Plan}
 use Rattle.dossier_terms.specs.Dossier.{Dossier}
 use Rattle.dossier_terms.specs.Lines.{text_of}
 use Rattle.route_terms.specs.Named.{NamedRoute}
 use Rattle.day_terms.specs.declared.Entry.{Entry}
 use Rattle.day_terms.specs.declared.Refused.{Refused}
 use Rattle.day_terms.specs.Days.{IsDayOf}
-use Rattle.day_terms.specs.State.{DayState, after_entry}
+use Rattle.day_terms.specs.State.{DayState}
+use Rattle.day_terms.specs.Entries.{after_entry}
 use Rattle.day_terms.specs.Rounds.{Round, round_at}
 use Rattle.flight_changes.specs.declared.faults.ChangeFault.TheVariants.{OutOfMemory}
 use Rattle.replan.specs.Rounds.{AreRoundDossiers, handed_on}
 use Rattle.replan.specs.Planning.{Planning}
-use Rattle.day_commands.specs.Instances.{rounds_text}
+use Rattle.day_commands.specs.Instances.{AreInstances}
 use Rattle.day_commands.specs.Rounds.{change_stop}
-use Rattle.day_commands.specs.Dossiers.{IsProved, IsUnproved}
+use Rattle.day_commands.specs.Dossiers.{IsProved, IsUnproved, plans_in}
 use Rattle.day_commands.specs.declared.ended.DayOutput.{DayOutput}
 use Rattle.day_commands.specs.declared.ended.DayOutput.TheVariants.{Instances, Dossiers}
 use Rattle.day_commands.specs.declared.entries.Taken.{Taken}
@@ -49,30 +51,37 @@ abbrev pub TellsProved : Bool → List Dossier → Type 0
 TellsProved true ds = All IsProved ds
 TellsProved false ds = Any IsUnproved ds
 
--- the text is that of dossiers for these rounds, the first of which is handed these routes
-pub record AreDossiersFrom (handed : List NamedRoute) (rounds : List Round) (text : List ℕ) (proved : Bool) (later : List NamedRoute) : Type 0 where
+-- the text is that of dossiers for these rounds, the first of which is handed these routes; the rounds have their plans
+pub record AreDossiersFrom (handed : List NamedRoute) (plans : List Plan) (rounds : List Round) (text : List ℕ) (proved : Bool) (later : List NamedRoute) : Type 0 where
   pub dossiers : List Dossier
   pub dossiers_are : AreRoundDossiers handed rounds dossiers
+  pub plans_are : plans ≡ plans_in dossiers
   pub texts : text ≡ flat_map text_of dossiers
   pub tells : TellsProved proved dossiers
   pub handed_last : later ≡ handed_after handed dossiers
 
--- the text is what is written of these rounds, from such routes to those that are handed on, and this tells whether all is
+-- the text is what is written of these rounds with these plans, from such routes to those that are handed on, and this tells whether all is
 -- proved
-abbrev pub AreTextsFrom : DayOutput → List NamedRoute → List Round → List ℕ → Bool → List NamedRoute → Type 0
-AreTextsFrom Instances handed rounds text proved later = (text ≡ rounds_text rounds) × (proved ≡ true)
-AreTextsFrom Dossiers handed rounds text proved later = AreDossiersFrom handed rounds text proved later
+abbrev pub AreTextsFrom : DayOutput → List NamedRoute → List Plan → List Round → List ℕ → Bool → List NamedRoute → Type 0
+AreTextsFrom Instances handed plans rounds text proved later = AreInstances plans rounds text × (proved ≡ true)
+AreTextsFrom Dossiers handed plans rounds text proved later = AreDossiersFrom handed plans rounds text proved later
 
 -- a front of what is written of these rounds was written
 abbrev pub IsFrontFrom : DayOutput → List NamedRoute → List Round → Option (List ℕ) → Option (List ℕ) → Type 0
 IsFrontFrom output handed rounds got later =
-    (text : List ℕ) × (proved : Bool) × (last : List NamedRoute) × AreTextsFrom output handed rounds text proved last × AppendedPart got later text
+    (plans : List Plan) × (text : List ℕ) × (proved : Bool) × (last : List NamedRoute) × AreTextsFrom output handed plans rounds text proved last
+    × AppendedPart got later text
+
+-- how the entry changes a state of which no plan to come is known, where the round that it begins has these plans
+abbrev pub IsStateAfter : DayState → List Plan → Entry → DayState → Type 0
+IsStateAfter s plans entry new = (new ≡ after_entry (record s { plans = plans }) entry) × (new.plans ≡ [])
 
 -- the entry is taken, and what is asked for of the round that it begins was written, if it begins one; or it is not taken,
 -- and nothing was written; or it is taken, and a front of that was written
 abbrev pub IsTakenSo : DayOutput → Planning → Entry → Taken → Planning → Option (List ℕ) → Option (List ℕ) → Type 0
-IsTakenSo output s entry (Whole proved) new got later = (change_stop s.day entry ≡ None) × (new.day ≡ after_entry s.day entry) × (new.failed ≡ None)
-    × ((text : List ℕ) × AreTextsFrom output s.handed (round_at s.day entry) text proved new.handed × Appended got later text)
+IsTakenSo output s entry (Whole proved) new got later = (change_stop s.day entry ≡ None) × (new.failed ≡ None)
+    × ((plans : List Plan) × (text : List ℕ) × IsStateAfter s.day plans entry new.day
+    × AreTextsFrom output s.handed plans (round_at s.day entry) text proved new.handed × Appended got later text)
 IsTakenSo output s entry (IsRefused fault) new got later = (change_stop s.day entry ≡ Some fault) × (fault ≢ Change OutOfMemory) × (later ≡ got)
 IsTakenSo output s entry WriteFault new got later = (change_stop s.day entry ≡ None) × IsFrontFrom output s.handed (round_at s.day entry) got later
 

@@ -1,5 +1,5 @@
 // One entry of a day: what it changes, and what is written of the round that it begins.
-ghost use Rattle.std.specs.Prelude.{◌≡◌, ◌↔◌, true, IfOk, IsTrue, None, Ok, OnErr};
+ghost use Rattle.std.specs.Prelude.{◌≡◌, ◌↔◌, [], true, IfOk, IsTrue, None, Ok, OnErr};
 ghost use Rattle.crew_io.specs.Io.{Appended, AppendedPart};
 ghost use Rattle.crew_io.specs.Puts.{TellsWrites};
 ghost use Rattle.dossier_terms.specs.Lines.{instance_text};
@@ -58,7 +58,8 @@ fn put_round<K: Sink>(instance: &Instance, nodes: u32, out: &mut K) -> Taken
 
 /// Changes the state by an entry, and writes the instance of the round that it begins, if it begins one.
 fn apply_entry<K: Sink>(desk: &mut Desk, entry: &Entry, out: &mut K) -> Result<Taken, AllocError>
-    requires { IsInRange entry.now }
+    requires range { IsInRange entry.now }
+    requires unknown { desk.old.plans ≡ [] }
     ensures taken { IfOk result (λ taken. IsTakenSo DayOutput.Instances (of_desk desk.old) entry.now taken (of_desk desk.new) (K.got out.old) (K.got out.new)) }
     ensures nothing { OnErr result (K.got out.new ≡ K.got out.old) }
     ensures tells { TellsWrites K.Sink out.old out.new (result ≡ Ok Taken.WriteFault) }
@@ -86,6 +87,7 @@ fn plan_entry<K: Sink>(
 ) -> Result<Taken, AllocError>
     requires range { IsInRange entry.now }
     requires open_yet { session.old.failed ≡ None }
+    requires unknown { session.old.day.plans ≡ [] }
     ensures taken { IfOk result (λ taken. IsTakenSo DayOutput.Dossiers session.old entry.now taken session.new (K.got out.old) (K.got out.new)) }
     ensures nothing { OnErr result (K.got out.new ≡ K.got out.old) }
     ensures tells { TellsWrites K.Sink out.old out.new (result ≡ Ok Taken.WriteFault) }
@@ -117,6 +119,7 @@ impl Taker {
     pub(crate) fn take<K: Sink>(&mut self, entry: &Entry, out: &mut K) -> Result<Taken, AllocError>
         requires range { IsInRange entry.now }
         requires open_yet { (planning_of self.old).failed ≡ None }
+        requires unknown { (planning_of self.old).day.plans ≡ [] }
         ensures taken { IfOk result (λ taken. IsTakenSo (output_of self.old) (planning_of self.old) entry.now taken (planning_of self.new) (K.got out.old) (K.got out.new)) }
         ensures output { output_of self.new ≡ output_of self.old }
         ensures nothing { OnErr result (K.got out.new ≡ K.got out.old) }

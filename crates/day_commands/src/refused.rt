@@ -59,6 +59,15 @@ fn put_change<K: Sink>(out: &mut K, number: u64, fault: ChangeFault) -> Result<(
                 Part::Word(to.bytes()),
             ],
         ),
+        ChangeFault::FrozenWork { task } => put_line(
+            out,
+            &[
+                Part::Word(b"refused"),
+                Part::Number(number),
+                Part::Word(b"FrozenWork"),
+                Part::Word(task.bytes()),
+            ],
+        ),
     }
 }
 

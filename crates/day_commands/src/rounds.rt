@@ -4,6 +4,7 @@ ghost use Rattle.crew_terms.specs.declared.TheConstants.{LONGEST_DAY};
 ghost use Rattle.crew_io.specs.Puts.{TellsWrites};
 ghost use Rattle.day_terms.specs.Ranges.{IsInRange};
 ghost use Rattle.day_commands.specs.Rounds.{IsFineDay, change_stop};
+ghost use Rattle.day_commands.specs.Outputs.{MayHave};
 ghost use Rattle.day_commands.specs.Says.{ReadsDay, SaysAt, SaysFirstOf, is_of_text, whole_end};
 ghost use Rattle.day_commands.specs.Taken.{IsDay, Wrote, output_of, planning_of};
 ghost use Rattle.replan.specs.Planning.{no_entry_yet};
@@ -15,7 +16,8 @@ use crew_io::sink::Sink;
 use crew_io::source::Source;
 use crew_io::text::{Text, read_text};
 use crew_terms::LONGEST_DAY;
-use day_records::{Day, one_reading, read_day};
+use day_records::{Day, read_day};
+use day_terms::{plans_to_come_decide_nothing, rounds_are_of_plans, state_goes_on};
 use std::alloc::{AllocError, Global};
 
 /// How a day ends of which no record is refused.
@@ -36,6 +38,9 @@ fn over_entries<K: Sink>(taker: &mut Taker, day: &Day, out: &mut K) -> Result<En
     ensures others { IfOk result (λ ended. IsTrue (is_of_text (output_of taker.old) ended)) }
     ensures tells { TellsWrites K.Sink out.old out.new (result ≡ Ok Ended.WriteFault) }
 {
+    plans_to_come_decide_nothing();
+    rounds_are_of_plans();
+    state_goes_on();
     let mut all_proved = true;
     let entries = day.entries.as_slice();
     for (n, entry) in entries.iter().enumerate() {
@@ -61,11 +66,10 @@ fn over_text<K: Sink>(
     requires { length text.now ≤ LONGEST_DAY }
     ensures says { IfOk result (λ ended. Wrote (K.got out.old) (K.got out.new) (SaysAt output ended None text.now)) }
     ensures memory { OnErr result (Wrote (K.got out.old) (K.got out.new) (SaysFirstOf output text.now)) }
-    ensures refused { result ≡ Ok Ended.Refused → IsFineDay change_stop text.now → ⊥ }
+    ensures refused { result ≡ Ok Ended.Refused → IsFineDay change_stop (MayHave output) text.now → ⊥ }
     ensures others { IfOk result (λ ended. IsTrue (is_of_text output ended)) }
     ensures tells { TellsWrites K.Sink out.old out.new (result ≡ Ok Ended.WriteFault) }
 {
-    one_reading();
     let day = read_day(alloc, text)?;
     let mut taker = Taker::new(alloc, output);
     let ended = over_entries(&mut taker, &day, out)?;

@@ -2,6 +2,7 @@
 use Rattle.std.specs.Result.{IsErr, IsErrAnd}
 use Rattle.std.proofs.Common.{◌≡◌, ◌≤◌, ◌∙◌, ℕ, List, Result, Ok, Err, length, map, ap, subst, sym, refl, arith}
 use Rattle.std.specs.Prelude.{All, take}
+use Rattle.crew_io.specs.Puts.{TellsWrites}
 use Rattle.crew_io.specs.declared.sink.Sink.{Ghosts}
 use Rattle.branch_tree.specs.Trees.{BranchTree, preorder}
 use Rattle.cert_write.specs.Dossiers.{IsDossierOf, IsPricedTree, WritesDossier, causes_of}
@@ -10,6 +11,8 @@ use Rattle.cert_write.specs.declared.faults.PutFault.TheVariants.{WriteFault, Ou
 use Rattle.cert_write.specs.Given.{AreWritable, Given}
 use Rattle.crew_terms.specs.Instance.{Instance}
 use Rattle.crew_terms.specs.Legal.{IsLegal, IsPacked}
+use Rattle.crew_terms.specs.Verdict.{IsPlanOf}
+use Rattle.day_terms.specs.Work.{jobs_by_names}
 use Rattle.crew_terms.specs.Limits.{Route, root_limits}
 use Rattle.crew_terms.specs.Plan.{Plan, unassigned_count}
 use Rattle.crew_terms.specs.Rules.{IsInstance}
@@ -21,6 +24,8 @@ use Rattle.dossier_terms.specs.Dossier.{Dossier, IsGood, IsPooled, tree_of}
 use Rattle.replan.specs.Counts.{counts_of}
 use Rattle.replan.specs.Given.{IsOfOutcome, kept_in, parts_of}
 use Rattle.replan.specs.Planning.{IsRoundPut, fault_of_put}
+use Rattle.replan.specs.declared.faults.SessionFault.{SessionFault}
+use Rattle.replan.specs.declared.faults.SessionFault.TheVariants as session
 use Rattle.replan.specs.declared.round.Planned.{Planned}
 use Rattle.replan.specs.Rounds.{EachLeftProves, IsLeastLeft, IsRoundDossier, kept_of, outcome_of}
 use Rattle.replan.proofs.Trees.{KeepPrices, handed_proves, no_more, priced_as}
@@ -112,6 +117,15 @@ module _ (proved : AreProved) (count : ToldCount) (g : Given) (o : Outcome) (of 
       let splits = outcome.causes in
       let within = outcome.within in
       omega (arith, told, splits, within)
+
+  -- the plan is one of the instance
+  pub a_plan : IsPlanOf g.instance g.plan
+  a_plan =
+      subst (IsPlanOf g.instance) (sym of.plan)
+      (let legal = outcome.plan.legal in record {
+        whole = legal.feasible.whole;
+        known = λ k j t does. (legal.feasible.jobs j does.0 does.1).known k does.3;
+      })
 
   tree_proved : IsProvedTree (root_limits g.instance) g.bound (unassigned_count g.plan) outcome.tree
   tree_proved =
@@ -253,13 +267,44 @@ put_failed sink handed g old new OutOfMemory rounds w = ap sink.got w
 
 -- it was written
 pub put_whole : {K : Type 0} (sink : Ghosts K) (handed : List NamedRoute) (g : Given) (old new : K) (planned : Planned) → ((d : Dossier) → IsDossierOf g d → IsRoundOf handed g d)
-    → ((d : Dossier) → IsDossierOf g d → planned.counts ≡ counts_of d) → planned.carry ≡ map (by_names g.instance) g.columns → WritesDossier sink g old new (Ok tt)
+    → ((d : Dossier) → IsDossierOf g d → planned.counts ≡ counts_of d) → planned.carry ≡ map (by_names g.instance) g.columns
+    → planned.jobs ≡ jobs_by_names g.instance g.plan → WritesDossier sink g old new (Ok tt)
     → IsRoundPut handed (record { instance = g.instance; nodes = g.nodes }) (Ok planned) (sink.got old) (sink.got new)
-put_whole sink handed g old new planned rounds counts carry w =
+put_whole sink handed g old new planned rounds counts carry jobs w =
     let of = w.parts in (
       w.dossier,
       rounds w.dossier of,
       counts w.dossier of,
       carry ∙ ap (λ (i : Instance). map (by_names i) g.columns) (sym of.instance) ∙ ap (map (by_names w.dossier.instance)) (sym of.pool),
+      jobs ∙ ap (λ (i : Instance). jobs_by_names i g.plan) (sym of.instance) ∙ ap (jobs_by_names w.dossier.instance) (sym of.plan),
       w.puts.all,
     )
+
+-- ---- what is told of faults
+
+-- of a dossier that was not written whole
+pub tells_failed : {K X : Type 0} (sink : Ghosts K) (g : Given) (old new : K) (fault : PutFault) (r : Result X SessionFault) → r ≡ Err (fault_of_put fault)
+    → WritesDossier sink g old new (Err fault) → TellsWrites sink old new (r ≡ Err session.WriteFault)
+tells_failed sink g old new WriteFault r is w = record {
+  cause = λ _. w.puts.cause refl;
+  told = λ none. absurd (none is);
+  later = w.puts.later;
+  steady = λ h. let t = w.puts.steady h in (t.0, λ _. t.1 refl);
+}
+tells_failed sink g old new OutOfMemory r is w =
+    let none : r ≡ Err session.WriteFault → ⊥ = λ e. let f = sym is ∙ e in absurd (cc) in record {
+      cause = λ e. absurd (none e);
+      told = λ _. ap sink.faults w;
+      later = (let e = ap sink.faults w in omega (arith, e));
+      steady = λ h. (subst sink.steady (sym w) h, λ e. absurd (none e));
+    }
+
+-- and of one that was
+pub tells_whole : {K X : Type 0} (sink : Ghosts K) (g : Given) (old new : K) (x : X) → WritesDossier sink g old new (Ok tt)
+    → TellsWrites sink old new (◌≡◌ {A = Result X SessionFault} (Ok x) (Err session.WriteFault))
+tells_whole sink g old new x w = record {
+  cause = λ e. absurd (cc);
+  told = λ _. w.puts.told;
+  later = w.puts.later;
+  steady = λ h. ((w.puts.steady h).0, λ e. absurd (cc));
+}

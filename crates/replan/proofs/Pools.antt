@@ -1,11 +1,11 @@
 -- routes that are kept by names, and routes of an instance's pool
-use Rattle.std.proofs.Common.{◌≡◌, ◌≤◌, ◌<◌, ◌∙◌, ◌++◌, ◌∷◌, [], ℕ, List, length, ap, refl, arith}
+use Rattle.std.proofs.Common.{◌≡◌, ◌<◌, ◌∙◌, ◌∷◌, [], ℕ, List, length, ap, arith}
 use Rattle.std.proofs.Math.Seq.{take-append_seam}
 use Rattle.std.specs.Prelude.{All, take}
 use Rattle.std.proofs.lemmas.List.Elements.{All-cons, All-head, All-nil, All-tail}
 use Rattle.column_arena.specs.Columns.{FitsColumns}
 use Rattle.crew_terms.specs.Instance.{Instance}
-use Rattle.crew_terms.specs.Limits.{GoesOn, IsRoute, Limits, Route, root_limits}
+use Rattle.crew_terms.specs.Limits.{GoesOn, IsRoute, Route, root_limits}
 use Rattle.crew_terms.specs.declared.Visit.{Visit}
 use Rattle.dossier_terms.specs.Dossier.{IsPooled}
 use Rattle.route_terms.specs.Kept.{AreKeptIn, Kept, Left, None}

@@ -1,17 +1,23 @@
 -- what an entry comes to in a session
-use Rattle.std.proofs.Common.{◌≡◌, ◌∷◌, [], ℕ, List, Option, None, Some, Result, Ok, Err, ap, subst, sym, refl, ◌∙◌}
-use Rattle.std.specs.Prelude.{IfErr}
+use Rattle.std.proofs.Common.{◌≡◌, ◌⊎◌, inl, inr, ◌∷◌, [], ℕ, List, Option, None, Some, Result, Ok, Err, ap, subst, sym, refl, ◌∙◌}
+use Rattle.std.specs.Prelude.{option_map}
+use Rattle.std.specs.Option.{option_or}
 use Rattle.crew_terms.specs.Instance.{Instance}
 use Rattle.route_terms.specs.Named.{NamedRoute}
 use Rattle.day_terms.specs.declared.Entry.{Entry}
 use Rattle.day_terms.specs.declared.Entry.TheVariants.{Plan}
-use Rattle.day_terms.specs.State.{DayState, after_entry}
-use Rattle.day_terms.specs.Refusal.{Refusal, TooMany, SameName, NoPlace, NoTask, NoTeam, BadWindow, BadShift, BadTeams, MissingTravel, refusal_of}
-use Rattle.day_terms.specs.Rounds.{day_instance, round_at}
+use Rattle.day_terms.specs.State.{DayState}
+use Rattle.day_terms.specs.Entries.{after_entry, after_round}
+use Rattle.day_terms.specs.Refusal.{Refusal, TooMany, SameName, NoPlace, NoTask, NoTeam, BadWindow, BadShift, BadTeams, MissingTravel, FrozenWork, refusal_by_lists, refusal_of}
+use Rattle.day_terms.specs.Rounds.{round_at}
+use Rattle.day_terms.specs.Work.{after_plan, jobs_by_names}
+use Rattle.day_terms.specs.Instances.{day_instance}
 use Rattle.flight_changes.specs.Faults.{fault_of}
 use Rattle.flight_changes.specs.declared.faults.ChangeFault.{ChangeFault}
 use Rattle.flight_changes.specs.declared.faults.ChangeFault.TheVariants as changes
+use Rattle.replan.specs.Entries.{told_is_no_want}
 use Rattle.replan.specs.Planning.{Planning, IsEntered, IsRoundPut, failure_of, refusal_told}
+use Rattle.replan.specs.Rounds.{handed_on}
 use Rattle.replan.specs.declared.faults.Failure.{Failure}
 use Rattle.replan.specs.declared.faults.SessionFault.{SessionFault}
 use Rattle.replan.specs.declared.faults.SessionFault.TheVariants.{Change, WriteFault, OutOfMemory}
@@ -37,6 +43,17 @@ told_as_change BadWindow = refl
 told_as_change BadShift = refl
 told_as_change BadTeams = refl
 told_as_change (MissingTravel from to) = refl
+told_as_change (FrozenWork task) = refl
+
+-- of two refusals there is none, and so no first one
+none_first : {X : Type 0} (a b : Option X) → option_or a b ≡ None → a ≡ None
+none_first None b e = refl
+none_first (Some x) b e = absurd (cc)
+
+-- what is answered as want of memory is not refused by the lists
+unrefused : {X : Type 0} (r : Result X ChangeFault) (told : Option Refusal) → ((t : Refusal) → told ≡ Some t → r ≡ Err (fault_of t)) → r ≡ Err changes.OutOfMemory → told ≡ None
+unrefused r None by_lists is = refl
+unrefused r (Some t) by_lists is = absurd (told_is_no_want t (let e = sym (by_lists t refl) ∙ is in cc))
 
 -- the session after an answer, but for the failure
 abbrev pub with_day : DayState → List NamedRoute → Result Done SessionFault → Planning
@@ -44,18 +61,22 @@ with_day day handed result = record { day = day; handed = handed; failed = failu
 
 module _ (s : Planning) (entry : Entry) (day : DayState) (got later : Option (List ℕ)) (open_yet : s.failed ≡ None) where
   -- the state refuses the entry, or memory was wanting
-  pub refusal_entered : {X : Type 0} (r : Result X ChangeFault) (fault : ChangeFault) → ((t : Refusal) → refusal_of s.day entry ≡ Some t → r ≡ Err (fault_of t))
-      → (refusal_of s.day entry ≡ None → IfErr r (λ f. f ≡ changes.OutOfMemory)) → r ≡ Err fault → day ≡ s.day
+  pub refusal_entered : {X : Type 0} (r : Result X ChangeFault) (fault : ChangeFault) → r ≡ Err fault → ((t : Refusal) → refusal_by_lists s.day entry ≡ Some t → r ≡ Err (fault_of t))
+      → (fault ≡ changes.OutOfMemory) ⊎ (option_map fault_of (refusal_of s.day entry) ≡ Some fault) → day ≡ s.day
       → IsEntered s entry (Err (refusal_told fault)) (with_day day s.handed (Err (refusal_told fault))) got got
-  refusal_entered r fault refused accepted is same = by (refusal_of s.day entry) refl
+  refusal_entered r fault is_err by_lists (inl want) same =
+      subst (λ f. IsEntered s entry (Err (refusal_told f)) (with_day day s.handed (Err (refusal_told f))) got got) (sym want) (
+        unrefused r (refusal_by_lists s.day entry) by_lists (is_err ∙ ap (λ f. Err f) want),
+        planning_is (record s { failed = failure_of (Err OutOfMemory) }) day s.handed _ same refl refl,
+        refl,
+      )
+  refusal_entered r fault is_err by_lists (inr is) same = by (refusal_of s.day entry) refl is
     where
-      by : (told : Option Refusal) → refusal_of s.day entry ≡ told → IsEntered s entry (Err (refusal_told fault)) (with_day day s.handed (Err (refusal_told fault))) got got
-      by None e =
-          let want : fault ≡ changes.OutOfMemory = subst (λ x. IfErr x (λ f. f ≡ changes.OutOfMemory)) is (accepted e) in
-          subst (λ f. IsEntered s entry (Err (refusal_told f)) (with_day day s.handed (Err (refusal_told f))) got got) (sym want)
-          (e, planning_is (record s { failed = failure_of (Err OutOfMemory) }) day s.handed _ same refl refl, refl)
-      by (Some t) e =
-          let known : fault ≡ fault_of t = (let f = sym is ∙ refused t e in cc) in
+      by : (told : Option Refusal) → refusal_of s.day entry ≡ told → option_map fault_of told ≡ Some fault
+          → IsEntered s entry (Err (refusal_told fault)) (with_day day s.handed (Err (refusal_told fault))) got got
+      by None e is = absurd (cc)
+      by (Some t) e is =
+          let known : fault ≡ fault_of t = (let f : fault_of t ≡ fault = cc in sym f) in
           let told : refusal_told fault ≡ Change (fault_of t) = ap refusal_told known ∙ told_as_change t in
           subst (λ f. IsEntered s entry (Err f) (with_day day s.handed (Err f)) got got) (sym told)
           ((t, e, refl), planning_is s day s.handed None same refl (sym open_yet), refl)
@@ -66,28 +87,31 @@ module _ (s : Planning) (entry : Entry) (day : DayState) (got later : Option (Li
   changed_entered none round same = (none, round, planning_is (record s { day = after_entry s.day entry }) day s.handed None same refl (sym open_yet), refl)
 
   -- it begins a round
-  module _ (nodes : ℕ) (is : entry ≡ Plan nodes) (none : refusal_of s.day entry ≡ None) (same : day ≡ after_entry s.day entry) where
-    state_stays : day ≡ s.day
-    state_stays = same ∙ ap (after_entry s.day) is
+  module _ (nodes : ℕ) (is : entry ≡ Plan nodes) (none : refusal_of s.day entry ≡ None) (unknown : s.day.plans ≡ []) (same : day ≡ after_entry s.day entry) where
+    pub state_stays : day ≡ s.day
+    state_stays = same ∙ ap (after_entry s.day) is ∙ ap (after_round s.day) unknown
 
     pub want_entered : IsEntered s entry (Err OutOfMemory) (with_day day s.handed (Err OutOfMemory)) got got
-    want_entered = (none, planning_is (record s { failed = failure_of (Err OutOfMemory) }) day s.handed _ state_stays refl refl, refl)
+    want_entered = (none_first _ _ none, planning_is (record s { failed = failure_of (Err OutOfMemory) }) day s.handed _ state_stays refl refl, refl)
 
     at_round : (instance : Instance) → instance ≡ day_instance day → round_at s.day entry ≡ record { instance = instance; nodes = nodes } ∷ []
     at_round instance i = ap (round_at s.day) is ∙ ap (λ x. record { instance = x; nodes = nodes } ∷ []) (sym (i ∙ ap day_instance state_stays))
 
     -- and a dossier of it was written
-    pub round_entered : (instance : Instance) (planned : Planned) → instance ≡ day_instance day
+    pub round_entered : (instance : Instance) (planned : Planned) (behind : DayState) → instance ≡ day_instance day → behind ≡ record day { last_plan = planned.jobs }
         → IsRoundPut s.handed (record { instance = instance; nodes = nodes }) (Ok planned) got later
-        → IsEntered s entry (Ok (HasRound planned.counts)) (with_day day planned.carry (Ok (HasRound planned.counts))) got later
-    round_entered instance planned i put = (
+        → IsEntered s entry (Ok (HasRound planned.counts)) (with_day behind planned.carry (Ok (HasRound planned.counts))) got later
+    round_entered instance planned behind i has put = (
       none,
       (
         put.0,
         record { round = record { instance = instance; nodes = nodes }; begins = at_round instance i; dossier = put.1 },
         put.2,
-        planning_is (record s { handed = _ }) day planned.carry None state_stays put.3 (sym open_yet),
-        put.4,
+        planning_is (record s { day = after_plan s.day put.0.plan; handed = handed_on put.0 }) behind planned.carry None
+            (has ∙ ap (λ (x : DayState). record x { last_plan = planned.jobs }) state_stays ∙ ap (λ jobs. record s.day { last_plan = jobs })
+            (put.4 ∙ ap (λ x. jobs_by_names x put.0.plan) (put.1.instance ∙ i ∙ ap day_instance state_stays)))
+            put.3 (sym open_yet),
+        put.5,
       ),
     )
 
@@ -105,4 +129,4 @@ module _ (s : Planning) (entry : Entry) (day : DayState) (got later : Option (Li
         put.2,
       ),
     )
-    fault_entered instance OutOfMemory i put = (none, planning_is (record s { failed = failure_of (Err OutOfMemory) }) day s.handed _ state_stays refl refl, put)
+    fault_entered instance OutOfMemory i put = (none_first _ _ none, planning_is (record s { failed = failure_of (Err OutOfMemory) }) day s.handed _ state_stays refl refl, put)

@@ -1,11 +1,11 @@
 -- the tree of a search, as it is written: with worths and potentials beside its prices
-use Rattle.std.proofs.Common.{◌≡◌, ◌≤◌, ◌∙◌, ℕ, ap, subst, sym, refl, arith}
+use Rattle.std.proofs.Common.{◌≡◌, ◌≤◌, ℕ, subst, sym, arith}
 use Rattle.branch_tree.specs.Trees.{BranchTree}
 use Rattle.cert_write.specs.Dossiers.{IsPricedLeaf, IsPricedTree}
 use Rattle.cert_write.specs.Given.{IsPriced}
 use Rattle.crew_terms.specs.Branches.{LeafNode, SplitNode, Bare, Open, Closed}
 use Rattle.crew_terms.specs.Leaf.{Prices}
-use Rattle.crew_terms.specs.Limits.{Limits, root_limits}
+use Rattle.crew_terms.specs.Limits.{Limits}
 use Rattle.crew_terms.specs.Plan.{unassigned_count}
 use Rattle.crew_terms.specs.Rules.{IsInstance}
 use Rattle.crew_terms.specs.Tree.{Tree, child}
@@ -15,7 +15,7 @@ use Rattle.crew_terms.specs.Nodes.{child_instance}
 use Rattle.dossier_terms.specs.Dossier.{Leaf, Written, prices_of, tree_of}
 use Rattle.replan.specs.Rounds.{EachLeftProves}
 use Rattle.search_terms.specs.Proven.{PricesProve}
-use Rattle.search_terms.specs.Search.{IsBound, IsHandedOut, SearchState, Untaken, Whole}
+use Rattle.search_terms.specs.Search.{IsHandedOut, SearchState, Untaken, Whole}
 use Rattle.search_terms.specs.SearchTree.{ClosedLeaf, EachOpen, IsTreeOf, OpenLeaf, SearchTree}
 use Rattle.tree_outlines.specs.Outline.{IsPricedAs}
 use Rattle.written_laws.specs.Proved.{IsProvedTree}

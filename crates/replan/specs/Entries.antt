@@ -1,25 +1,21 @@
 -- laws of entries: which of them are refused, and which begin rounds
-use Rattle.std.proofs.Common.{◌≡◌, ◌≢◌, [], ℕ, Option, None, Some, Result, Ok, Err, subst, sym, refl, ◌∙◌}
-use Rattle.std.specs.Prelude.{IfErr}
+use Rattle.std.proofs.Common.{◌≡◌, ◌≢◌, ◌⊎◌, inl, inr, [], ℕ, Option, None, Some, sym, refl}
+use Rattle.std.specs.Prelude.{option_map}
 use Rattle.day_terms.specs.declared.Entry.{Entry}
-use Rattle.day_terms.specs.declared.Entry.TheVariants.{Place, Travel, RouteTime, DefaultTravel, Team, Task, Cancel, Move, Longer, Needs, Sick, Shift, Skill, Unskill, Plan}
+use Rattle.day_terms.specs.declared.Entry.TheVariants.{Place, Travel, RouteTime, DefaultTravel, Team, Task, Cancel, Move, Longer, Needs, Sick, Shift, Skill, Unskill, Plan, Now, Thaw}
 use Rattle.day_terms.specs.State.{DayState}
-use Rattle.day_terms.specs.Refusal.{Refusal, TooMany, SameName, NoPlace, NoTask, NoTeam, BadWindow, BadShift, BadTeams, MissingTravel as Lacks}
+use Rattle.day_terms.specs.Refusal.{Refusal, TooMany, SameName, NoPlace, NoTask, NoTeam, BadWindow, BadShift, BadTeams, MissingTravel as Lacks, FrozenWork}
 use Rattle.day_terms.specs.Rounds.{round_at}
 use Rattle.flight_changes.specs.Faults.{fault_of}
 use Rattle.flight_changes.specs.declared.faults.ChangeFault.{ChangeFault}
 use Rattle.flight_changes.specs.declared.faults.ChangeFault.TheVariants.{OutOfMemory}
 
--- an entry that changed the state was not refused
-pub accepted_is_none : {X : Type 0} (told : Option Refusal) (r : Result X ChangeFault) (x : X) → ((t : Refusal) → told ≡ Some t → r ≡ Err (fault_of t)) → r ≡ Ok x → told ≡ None
-accepted_is_none None r x f e = refl
-accepted_is_none (Some t) r x f e = absurd (let g = sym (f t refl) ∙ e in cc)
-
 -- a fault other than want of memory is a refusal
-pub refusal_known : {X : Type 0} (told : Option Refusal) (r : Result X ChangeFault) (fault : ChangeFault) → ((t : Refusal) → told ≡ Some t → r ≡ Err (fault_of t))
-    → (told ≡ None → IfErr r (λ f. f ≡ OutOfMemory)) → r ≡ Err fault → fault ≢ OutOfMemory → (t : Refusal) × (told ≡ Some t) × (fault ≡ fault_of t)
-refusal_known None r fault f a e n = absurd (n (subst (λ x. IfErr x (λ f. f ≡ OutOfMemory)) e (a refl)))
-refusal_known (Some t) r fault f a e n = (t, refl, let g = sym e ∙ f t refl in cc)
+pub refusal_known : (told : Option Refusal) (fault : ChangeFault) → (fault ≡ OutOfMemory) ⊎ (option_map fault_of told ≡ Some fault) → fault ≢ OutOfMemory
+    → (t : Refusal) × (told ≡ Some t) × (fault ≡ fault_of t)
+refusal_known told fault (inl want) n = absurd (n want)
+refusal_known None fault (inr is) n = absurd (cc)
+refusal_known (Some t) fault (inr is) n = (t, refl, (let e : fault_of t ≡ fault = cc in sym e))
 
 -- a refusal is not told as want of memory
 pub told_is_no_want : (t : Refusal) → fault_of t ≢ OutOfMemory
@@ -32,6 +28,7 @@ told_is_no_want BadWindow e = cc
 told_is_no_want BadShift e = cc
 told_is_no_want BadTeams e = cc
 told_is_no_want (Lacks from to) e = cc
+told_is_no_want (FrozenWork task) e = cc
 
 -- an entry that is none of a plan begins no round
 pub no_round : (s : DayState) (entry : Entry) → ((nodes : ℕ) → entry ≢ Plan nodes) → round_at s entry ≡ []
@@ -50,3 +47,5 @@ no_round s (Shift team from until) n = refl
 no_round s (Skill team skill) n = refl
 no_round s (Unskill team skill) n = refl
 no_round s (Plan nodes) n = absurd (n nodes refl)
+no_round s (Now time) n = refl
+no_round s (Thaw task) n = refl

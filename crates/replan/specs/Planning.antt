@@ -5,8 +5,10 @@ use Rattle.dossier_terms.specs.Dossier.{Dossier}
 use Rattle.dossier_terms.specs.Lines.{text_of}
 use Rattle.route_terms.specs.Named.{NamedRoute}
 use Rattle.day_terms.specs.declared.Entry.{Entry}
-use Rattle.day_terms.specs.State.{DayState, start, after_entry}
-use Rattle.day_terms.specs.Refusal.{Refusal, refusal_of}
+use Rattle.day_terms.specs.State.{DayState, start}
+use Rattle.day_terms.specs.Entries.{after_entry}
+use Rattle.day_terms.specs.Refusal.{Refusal, refusal_by_lists, refusal_of}
+use Rattle.day_terms.specs.Work.{after_plan, jobs_by_names}
 use Rattle.day_terms.specs.Rounds.{Round, round_at}
 use Rattle.cert_write.specs.declared.faults.PutFault.{PutFault}
 use Rattle.cert_write.specs.declared.faults.PutFault.TheVariants as puts
@@ -59,19 +61,19 @@ abbrev pub IsFrontAt : Planning → Entry → Option (List ℕ) → Option (List
 IsFrontAt s entry got later = (d : Dossier) × IsDossierAt s entry d × AppendedPart got later (text_of d)
 
 -- what the answer to an entry says of a session that has not failed, and of what was written. Changed: the entry begins no
--- round, and changed the state. Round: it begins one, and a dossier of it was written, with these numbers; its pool is handed
--- on. Change: nothing changed, and nothing was written. WriteFault: a front of a dossier of the round was written.
--- OutOfMemory: nothing was written
+-- round, and changed the state. Round: it begins one, and a dossier of it was written, with these numbers; its plan is the last
+-- one from then on, and its pool is handed on. Change: nothing changed, and nothing was written. WriteFault: a front of a dossier of the round was written.
+-- OutOfMemory: the lists do not refuse the entry, and nothing was written
 abbrev pub IsEntered : Planning → Entry → Result Done SessionFault → Planning → Option (List ℕ) → Option (List ℕ) → Type 0
 IsEntered s entry (Ok Changed) new got later = (refusal_of s.day entry ≡ None) × (round_at s.day entry ≡ [])
     × (new ≡ record s { day = after_entry s.day entry }) × (later ≡ got)
 IsEntered s entry (Ok (HasRound counts)) new got later = (refusal_of s.day entry ≡ None) × ((d : Dossier) × IsDossierAt s entry d
-    × (counts ≡ counts_of d) × (new ≡ record s { handed = handed_on d }) × Appended got later (text_of d))
+    × (counts ≡ counts_of d) × (new ≡ record s { day = after_plan s.day d.plan; handed = handed_on d }) × Appended got later (text_of d))
 IsEntered s entry (Err (Change fault)) new got later =
     ((told : Refusal) × (refusal_of s.day entry ≡ Some told) × (fault ≡ fault_of told)) × (new ≡ s) × (later ≡ got)
 IsEntered s entry (Err WriteFault) new got later = (refusal_of s.day entry ≡ None) × (new ≡ record s { failed = Some failures.WriteFault })
     × IsFrontAt s entry got later
-IsEntered s entry (Err OutOfMemory) new got later = (refusal_of s.day entry ≡ None) × (new ≡ record s { failed = Some failures.OutOfMemory })
+IsEntered s entry (Err OutOfMemory) new got later = (refusal_by_lists s.day entry ≡ None) × (new ≡ record s { failed = Some failures.OutOfMemory })
     × (later ≡ got)
 
 -- the failure that an answer tells
@@ -85,10 +87,10 @@ failure_of (Err (Change fault)) = None
 abbrev pub IsNewWriteFault : Planning → Result Done SessionFault → Type 0
 IsNewWriteFault s result = (s.failed ≡ None) × (result ≡ Err WriteFault)
 
--- what the answer to a round says of what was written, and of the routes that it hands on
+-- what the answer to a round says of what was written, of the routes that it hands on, and of its plan by names
 abbrev pub IsRoundPut : List NamedRoute → Round → Result Planned SessionFault → Option (List ℕ) → Option (List ℕ) → Type 0
 IsRoundPut handed round (Ok planned) got later = (d : Dossier) × IsRoundDossier handed round d × (planned.counts ≡ counts_of d)
-    × (planned.carry ≡ handed_on d) × Appended got later (text_of d)
+    × (planned.carry ≡ handed_on d) × (planned.jobs ≡ jobs_by_names d.instance d.plan) × Appended got later (text_of d)
 IsRoundPut handed round (Err WriteFault) got later = (d : Dossier) × IsRoundDossier handed round d × AppendedPart got later (text_of d)
 IsRoundPut handed round (Err OutOfMemory) got later = later ≡ got
 IsRoundPut handed round (Err (Change fault)) got later = ⊥

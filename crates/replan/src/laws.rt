@@ -5,6 +5,7 @@ ghost use Rattle.cert_write.specs.Given.{AreWritable, Given};
 ghost use Rattle.column_arena.specs.Columns.{AreColumns};
 ghost use Rattle.crew_terms.specs.Instance.{Instance};
 ghost use Rattle.crew_terms.specs.Limits.{Route, root_limits};
+ghost use Rattle.crew_terms.specs.Verdict.{IsPlanOf};
 ghost use Rattle.dossier_terms.specs.Dossier.{Dossier, IsPooled};
 ghost use Rattle.replan.specs.Counts.{counts_of};
 ghost use Rattle.replan.specs.Given.{AreNumbersOf, IsOfOutcome, kept_in};
@@ -31,6 +32,7 @@ pub(crate) fn outcomes_are_rounds()
         AreKeptIn (root_limits g.instance) handed (kept_in g) → IsDossierOf g d →
         IsRoundDossier handed (record { instance = g.instance; nodes = g.nodes }) d }
     ensures few { (g : Given) (o : Outcome) → IsOfOutcome g o → length g.causes ≤ g.nodes }
+    ensures plan { (g : Given) (o : Outcome) → IsOfOutcome g o → IsPlanOf g.instance g.plan }
     ensures counts { (g : Given) (o : Outcome) (d : Dossier) (counts : Counts) → IsOfOutcome g o → IsDossierOf g d →
         AreNumbersOf g o counts → counts ≡ counts_of d }
 {

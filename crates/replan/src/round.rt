@@ -23,6 +23,7 @@ use cert_write::{Cause, Parts, write_dossier};
 use column_arena::{ArenaColumns, Carry, Columns};
 use crew_instance::{Instance, unassigned};
 use crew_io::sink::Sink;
+use flight_changes::PlannedJobs;
 use node_limits::Limits;
 use search_core::{DAY_EFFORT, Outcome, solve};
 use solved_laws::{solved_pools_are_of_the_instance, told_causes};
@@ -31,11 +32,12 @@ use std::alloc::{AllocError, Global};
 /// The most routes that a pool may have.
 const MOST_ROUTES: usize = 9_223_372_036_854_775_807;
 
-/// What a round comes to: the numbers of its dossier, and its pool by names.
+/// What a round comes to: the numbers of its dossier, and its pool and its plan by names.
 #[derive(Drop)]
 pub(crate) struct Planned {
     pub(crate) counts: Counts,
     pub(crate) carry: Carry,
+    pub(crate) jobs: PlannedJobs,
 }
 
 /// Adds the routes that are carried and that are routes of the instance to columns of which there are none yet. Answers how
@@ -125,6 +127,7 @@ fn put_outcome<K: Sink, C: Columns>(
     let carry = Carry::take(alloc, instance, columns)?;
     let causes = told_causes(alloc, &outcome.causes)?;
     let counts = counts_of(outcome, &causes);
+    let jobs = PlannedJobs::of(alloc, instance, &outcome.plan)?;
     let parts = Parts {
         instance,
         nodes,
@@ -136,7 +139,11 @@ fn put_outcome<K: Sink, C: Columns>(
         causes: &causes,
     };
     write_dossier(alloc, sink, &parts)?;
-    Ok(Planned { counts, carry })
+    Ok(Planned {
+        counts,
+        carry,
+        jobs,
+    })
 }
 
 /// Plans the instance by a search with so many steps, which goes out from the routes that are carried, and writes a dossier.

@@ -6,7 +6,7 @@ ghost use Rattle.replan.specs.Planning.{IsEntered, IsNewWriteFault, failure_of, 
 
 use crate::counts::Counts;
 use crate::faults::{Failure, SessionFault};
-use crate::round::{Planned, put_round};
+use crate::round::put_round;
 use column_arena::Carry;
 use crew_io::sink::Sink;
 use flight_changes::{ChangeFault, Desk, Entry};
@@ -114,9 +114,10 @@ impl Session {
         let Ok(instance) = self.desk.instance() else {
             return Err(SessionFault::OutOfMemory);
         };
-        let Planned { counts, carry } = put_round(self.alloc, &instance, nodes, &self.carry, sink)?;
-        self.carry = Some(carry);
-        Ok(Done::Round(counts))
+        let planned = put_round(self.alloc, &instance, nodes, &self.carry, sink)?;
+        self.desk.planned(planned.jobs);
+        self.carry = Some(planned.carry);
+        Ok(Done::Round(planned.counts))
     }
 }
 

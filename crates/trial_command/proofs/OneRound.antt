@@ -4,7 +4,8 @@ use Rattle.std.specs.Prelude.{fold}
 use Rattle.std.proofs.lemmas.List.Sums.{fold-append}
 use Rattle.dossier_terms.specs.Dossier.{Dossier}
 use Rattle.day_terms.specs.declared.Entry.{Entry}
-use Rattle.day_terms.specs.State.{DayState, after_entry}
+use Rattle.day_terms.specs.State.{DayState}
+use Rattle.day_terms.specs.Entries.{after_entry}
 use Rattle.day_terms.specs.Rounds.{rounds_from, rounds_of, round_at}
 use Rattle.replan.specs.Planning.{Planning, IsDossierAt, no_entry_yet}
 use Rattle.replan.specs.Rounds.{AreRoundDossiers, IsRoundDossier}
@@ -36,10 +37,10 @@ taken_more first s new front entry so none is =
 
 -- the dossier of the round that one more entry begins is that of the day
 pub one_dossier : (s : Planning) (front entries : List Entry) (last : Entry) (d : Dossier) → HasTaken no_entry_yet front s → entries ≡ front ++ last ∷ [] → IsDossierAt s last d
-    → AreRoundDossiers [] (rounds_of entries) (d ∷ [])
+    → AreRoundDossiers [] (rounds_of [] entries) (d ∷ [])
 one_dossier s front entries last d so is at =
     let day = ap (λ (x : Planning). x.day) so.state in
     let begins : round_at (fold after_entry no_entry_yet.day front) last ≡ at.round ∷ [] = subst (λ (x : DayState). round_at x last ≡ at.round ∷ []) day at.begins in
-    let rounds : rounds_of entries ≡ at.round ∷ [] =
-    ap rounds_of is ∙ rounds_more no_entry_yet.day front last ∙ ap (λ rounds. rounds ++ round_at (fold after_entry no_entry_yet.day front) last) so.rounds ∙ begins in
+    let rounds : rounds_of [] entries ≡ at.round ∷ [] =
+    ap (rounds_of []) is ∙ rounds_more no_entry_yet.day front last ∙ ap (λ rounds. rounds ++ round_at (fold after_entry no_entry_yet.day front) last) so.rounds ∙ begins in
     subst (λ rounds. AreRoundDossiers [] rounds (d ∷ [])) (sym rounds) (subst (λ handed. IsRoundDossier handed at.round d) (ap (λ (x : Planning). x.handed) so.state) at.dossier, tt)

@@ -27,7 +27,7 @@ at_most handed [] d are = absurd are
 at_most handed (round ∷ rounds) d are = are.0.least d.plan are.0.legal
 
 dossier_at_most : (t : Trial) (d : Dossier) → IsTrialDossier t d → d.bound ≤ unassigned_count d.plan
-dossier_at_most t d allowed = at_most [] (rounds_of (generated_day t.number t.teams t.tasks t.nodes)) d allowed
+dossier_at_most t d allowed = at_most [] (rounds_of [] (generated_day t.number t.teams t.tasks t.nodes)) d allowed
 
 less : (a b : ℕ) → a ≤ b → a ≢ b → a < b
 less a b most apart = omega arith

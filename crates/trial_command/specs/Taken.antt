@@ -1,7 +1,7 @@
 -- entries that a session has taken
 use Rattle.std.specs.Prelude.{◌≡◌, List, [], fold}
 use Rattle.day_terms.specs.declared.Entry.{Entry}
-use Rattle.day_terms.specs.State.{after_entry}
+use Rattle.day_terms.specs.Entries.{after_entry}
 use Rattle.day_terms.specs.Rounds.{rounds_from}
 use Rattle.replan.specs.Planning.{Planning}
 

@@ -30,7 +30,7 @@ AsksForTrial t words = IsTrial t × (words ≡ trial_words t)
 
 -- the dossier is one that a day of the trial's number allows for its one round: what `day` may write of it
 abbrev pub IsTrialDossier : Trial → Dossier → Type 0
-IsTrialDossier t d = AreRoundDossiers [] (rounds_of (generated_day t.number t.teams t.tasks t.nodes)) (d ∷ [])
+IsTrialDossier t d = AreRoundDossiers [] (rounds_of [] (generated_day t.number t.teams t.tasks t.nodes)) (d ∷ [])
 
 -- the line of a trial and its dossier: the numbers of the yes line, behind those of the day
 abbrev pub trial_line : Trial → Dossier → List ℕ

@@ -58,7 +58,7 @@ fn plan_entries(
 ) -> Result<Counts, AllocError>
     requires range { All IsInRange entries.now }
     requires none_yet { session.old ≡ no_entry_yet }
-    ensures { IfOk result (λ counts. (d : Dossier) × AreRoundDossiers [] (rounds_of entries.now) (d ∷ [])
+    ensures { IfOk result (λ counts. (d : Dossier) × AreRoundDossiers [] (rounds_of [] entries.now) (d ∷ [])
         × (counts ≡ counts_of d)) }
 {
     let Some((last, front)) = entries.split_last() else {

@@ -11,7 +11,7 @@ returns-clause-says c = λ command asks.
 pub returns-clause-complete : goal.returns-clause-complete
 returns-clause-complete c = λ command asks fine reads writes.
     let w = c.run.ensures.says command asks in
-    fine_is_done command c.run.result (Some c.run.new.src.left) c.args.src.now.left w.0 _ c.one_coming.ensures w.2 fine (c.run.ensures.steady_source reads) (c.run.ensures.steady_sink writes)
+    fine_is_done command c.run.result (Some c.run.new.src.left) c.args.src.now.left w.0 _ w.2 fine (c.run.ensures.steady_source reads) (c.run.ensures.steady_sink writes)
 
 pub returns-clause-read_says : goal.returns-clause-read_says
 returns-clause-read_says c = λ command asks rose.

@@ -1,11 +1,11 @@
-use Rattle.std.proofs.Common.{◌<◌, [], None, length, get_or, subst, sym, refl, ◌∙◌, arith, ap, Ok}
+use Rattle.std.proofs.Common.{◌<◌, [], None, length, subst, sym, refl, ◌∙◌, arith, ap, Ok}
 use Rattle.std.specs.Prelude.{All, IsTrue}
 use Rattle.day_terms.specs.Ranges.{IsInRange}
 use Rattle.day_commands.specs.Says.{SaysAt, is_of_text}
 use Rattle.crew_io.specs.Chains.{writes_none, writes_then}
 use Rattle.crew_io.specs.Puts.{TellsWrites}
 use Rattle.day_commands.specs.Taken.{IsTakenSo, IsDay, Wrote, output_of, planning_of}
-use Rattle.day_commands.proofs.Said.{at_refused, at_front, at_memory, at_taken, at_end, at_stop, nothing_yet, refused_is_no_want, refused_of_text, whole_of_text, whole_is_no_fault, refused_entry_is_no_fault, same_ok, on_err, err_is_not_ok, whole_no_fault}
+use Rattle.day_commands.proofs.Said.{PlansToCome, at_refused, at_front, at_memory, at_taken, at_end, at_stop, nothing_yet, refused_is_no_want, refused_of_text, whole_of_text, whole_is_no_fault, refused_entry_is_no_fault, same_ok, on_err, err_is_not_ok, whole_no_fault}
 use Rattle.day_commands.proofs.rounds.over_entries.Goals as goal
 
 pub loop-n-init : goal.loop-n-init
@@ -25,6 +25,9 @@ returns-in_err-proved-clause-memory g c = λ text whole.
 
 pub take-requires-clause-open_yet : goal.take-requires-clause-open_yet
 take-requires-clause-open_yet g c = c.loop-n.invariant.so_far.open_yet
+
+pub take-requires-clause-unknown : goal.take-requires-clause-unknown
+take-requires-clause-unknown g c = c.loop-n.invariant.so_far.unknown
 
 pub refuse-requires : goal.refuse-requires
 refuse-requires g c =
@@ -57,8 +60,16 @@ returns-in-WriteFault-clause-says g c = λ text whole.
     let mid = g.K.Sink.got c.loop-n.out in
     let later = g.K.Sink.got c.take.new.out in
     let comes = subst (λ o. IsTakenSo o s c.index-entries-n.result c.in_ok-proved.field-0 new mid later) i.output c.in_ok-proved.ensures.taken in
+    let laws : PlansToCome = record {
+      state = c.state_goes_on.ensures.later;
+      rounds = c.state_goes_on.ensures.rounds;
+      taken = c.state_goes_on.ensures.taken;
+      count = c.rounds_are_of_plans.ensures.count;
+      refusal = c.plans_to_come_decide_nothing.ensures.refusal;
+      round = c.plans_to_come_decide_nothing.ensures.round;
+    } in
     at_front (output_of c.args.taker.now) text c.as_slice-entries.result.now c.loop-n.n c.args.day.now.stop c.loop-n.all_proved s (g.K.Sink.got c.args.out.now) mid
-    c.index-entries-n.result new c.in_ok-proved.field-0 later day below i.so_far
+    laws c.index-entries-n.result new c.in_ok-proved.field-0 later day below i.so_far
     (subst (λ e. IsTakenSo (output_of c.args.taker.now) s e c.in_ok-proved.field-0 new mid later) c.index-entries-n.is comes) c.in-WriteFault.is
 
 pub loop-n-preserved : goal.loop-n-preserved
@@ -70,10 +81,18 @@ loop-n-preserved g c =
     let mid = g.K.Sink.got c.loop-n.out in
     let later = g.K.Sink.got c.take.new.out in
     let comes = subst (λ o. IsTakenSo o s c.index-entries-n.result c.in_ok-proved.field-0 new mid later) i.output c.in_ok-proved.ensures.taken in
+    let laws : PlansToCome = record {
+      state = c.state_goes_on.ensures.later;
+      rounds = c.state_goes_on.ensures.rounds;
+      taken = c.state_goes_on.ensures.taken;
+      count = c.rounds_are_of_plans.ensures.count;
+      refusal = c.plans_to_come_decide_nothing.ensures.refusal;
+      round = c.plans_to_come_decide_nothing.ensures.round;
+    } in
     record {
       output = c.in_ok-proved.ensures.output ∙ i.output;
       so_far = at_taken (output_of c.args.taker.now) [] c.as_slice-entries.result.now c.loop-n.n c.args.day.now.stop c.loop-n.all_proved s (g.K.Sink.got c.args.out.now) mid
-          c.index-entries-n.result new c.in_ok-proved.field-0 c.in-Whole.proved later below i.so_far
+          laws c.index-entries-n.result new c.in_ok-proved.field-0 c.in-Whole.proved later below i.so_far
           (subst (λ e. IsTakenSo (output_of c.args.taker.now) s e c.in_ok-proved.field-0 new mid later) c.index-entries-n.is comes) c.in-Whole.is;
       tells = writes_then g.K.Sink _ _ _ (λ fault. fault) i.tells c.in_ok-proved.ensures.tells (λ fault. absurd fault)
           (λ e. whole_is_no_fault c.in_ok-proved.field-0 c.in-Whole.proved c.in-Whole.is e);

@@ -20,7 +20,7 @@ returns-clause-says g c =
 pub returns-clause-refused : goal.returns-clause-refused
 returns-clause-refused g c = λ is fine.
     let w = returns-clause-says g c in
-    refused_not_fine c.args.output c.args.text.now w.0 c.one_reading.ensures.of_day (subst (λ s. SaysAt c.args.output s None c.args.text.now w.0) (same_ok is) w.2) fine
+    refused_not_fine c.args.output c.args.text.now w.0 (subst (λ s. SaysAt c.args.output s None c.args.text.now w.0) (same_ok is) w.2) fine
 
 pub returns-clause-others : goal.returns-clause-others
 returns-clause-others g c = subst (λ o. IsTrue (is_of_text o c.in_ok-ended.ended)) c.new-taker.ensures.output c.in_ok-ended.ensures.others

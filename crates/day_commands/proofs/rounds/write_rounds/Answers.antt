@@ -1,4 +1,4 @@
-use Rattle.std.proofs.Common.{◌≡◌, None, Result, Ok, subst, ap, refl, ◌∙◌}
+use Rattle.std.proofs.Common.{◌≡◌, None, Result, Ok, subst, ap, refl}
 use Rattle.std.proofs.lemmas.Result.{IfOk-from_err}
 use Rattle.crew_terms.specs.declared.TheConstants.{LONGEST_DAY}
 use Rattle.crew_io.specs.Text.{ReadsText}
@@ -8,6 +8,7 @@ use Rattle.crew_io.specs.Chains.{writes_none, writes_then}
 use Rattle.crew_io.specs.Draws.{reads_none, reads_then}
 use Rattle.day_commands.specs.Outputs.{TextsOf}
 use Rattle.day_commands.specs.Rounds.{IsFineDay, SaysFirstRounds, change_stop}
+use Rattle.day_commands.specs.Outputs.{MayHave}
 use Rattle.day_commands.specs.Says.{SaysAt}
 use Rattle.day_commands.specs.Taken.{Wrote}
 use Rattle.day_commands.proofs.Said.{on_err, err_is_not_ok, same_ok, refused_not_whole, refused_no_fault, refused_can_end, of_text_no_fault, of_text_can_end, whole_ended, whole_says, whole_memory, whole_not_fine, none_memory, long_says, long_not_fine, fault_says}
@@ -63,7 +64,7 @@ returns-in_ok-ended-in-Whole g c =
       says = whole_says o left later got new c.in-Whole.text c.in_ok-ended-in-Whole.ended read e.others (subst (λ t. Wrote got new (SaysAt o c.in_ok-ended-in-Whole.ended None t)) c.as_slice.ensures e.says);
       memory = tt;
       ends = of_text_can_end o c.in_ok-ended-in-Whole.ended e.others;
-      refused = λ is. whole_not_fine o left later c.in-Whole.text read (subst (λ t. IsFineDay change_stop t → ⊥) c.as_slice.ensures (e.refused is));
+      refused = λ is. whole_not_fine o left later c.in-Whole.text read (subst (λ t. IsFineDay change_stop (MayHave o) t → ⊥) c.as_slice.ensures (e.refused is));
       ended = λ _. whole_ended left later c.in-Whole.text read;
       reads = reads_then g.S.Source _ _ _ (λ fault. fault) (reads_none g.S.Source c.args.src.now) c.in_ok-text.ensures.tells (λ is. absurd (of_text_no_fault o _ e.others (same_ok is))) (λ is. absurd (not_fault _ _ c.in-Whole.is (λ f. cc) is));
       writes = e.tells;

@@ -1,4 +1,4 @@
-use Rattle.std.proofs.Common.{[], ap, subst, sym, ◌∙◌}
+use Rattle.std.proofs.Common.{[], ap, subst, sym}
 use Rattle.crew_terms.specs.Limits.{root_limits}
 use Rattle.route_terms.specs.Kept.{AreKeptIn, None}
 use Rattle.replan.specs.Kept.{handed_in}

@@ -10,5 +10,5 @@ use Rattle.trial_command.proofs.plan.plan_trial.Goals as goal
 
 pub returns : goal.returns
 returns c =
-    subst (λ (es : List Entry). IfOk c.plan_entries-planned.result (λ (counts : Counts). (d : Dossier) × AreRoundDossiers [] (rounds_of es) (d ∷ []) × (counts ≡ counts_of d)))
+    subst (λ (es : List Entry). IfOk c.plan_entries-planned.result (λ (counts : Counts). (d : Dossier) × AreRoundDossiers [] (rounds_of [] es) (d ∷ []) × (counts ≡ counts_of d)))
     (c.deref.ensures.value ∙ c.in_ok-entries.ensures.day) c.plan_entries-planned.ensures
