@@ -8,7 +8,7 @@ use std::alloc::Global;
 use std::process::Abort;
 use std::test::Fail;
 
-/// Asserts that the desk lacks the time from the one place to the other, for a plan and for an instance.
+/// Asserts that the desk lacks the time from the one place to the other, for `plan`, for `now` and for an instance.
 fn lacks(
     rt: &impl Abort,
     alloc: Global,
@@ -21,6 +21,7 @@ fn lacks(
         to: name(to)?,
     };
     same(rt, &answer(alloc, desk, b"plan,1")?, &Err(fault));
+    same(rt, &answer(alloc, desk, b"now,07:00")?, &Err(fault));
     same(rt, &desk.instance().err(), &Some(fault));
     Ok(())
 }

@@ -8,6 +8,8 @@ mod asserts;
 #[cfg(test)]
 mod changes;
 #[cfg(test)]
+mod frozen;
+#[cfg(test)]
 mod given;
 #[cfg(test)]
 mod records;

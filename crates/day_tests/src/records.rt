@@ -29,11 +29,12 @@ fn reads_entries_and_values(rt: HostRuntime) -> Result<(), Fail> {
     let alloc = rt.alloc();
     let day = read_day(
         alloc,
-        b"place,BASE\r\nplace,G1\r\ntravel,BASE,G1,10\r\nteam,\"T1\",BASE,06:00,14:00,\r\nplan,1\r\n",
+        b"place,BASE\r\nplace,G1\r\ntravel,BASE,G1,10\r\nteam,\"T1\",BASE,06:00,14:00,\r\nplan,1\r\nnow,07:10\r\nthaw,A\r\n",
     )?;
     let base = name(b"BASE")?;
     let gate = name(b"G1")?;
     let team = name(b"T1")?;
+    let task = name(b"A")?;
     let entries = [
         Entry::Place { name: base },
         Entry::Place { name: gate },
@@ -50,6 +51,8 @@ fn reads_entries_and_values(rt: HostRuntime) -> Result<(), Fail> {
             skills: 0,
         },
         Entry::Plan { nodes: 1 },
+        Entry::Now { time: 430 },
+        Entry::Thaw { task },
     ];
     same(&rt, &day.entries.as_slice(), &entries.as_slice());
     same(&rt, &day.stop.is_none(), &true);
@@ -95,8 +98,14 @@ fn stops_at_a_wrong_kind_or_count(rt: HostRuntime) -> Result<(), Fail> {
     });
     let cases = [
         (b"plaice,X\nplace,X\n".as_slice(), 0, kind),
+        (b"thaws,A", 0, kind),
+        (b"tha,A", 0, kind),
+        (b"Now,07:10", 0, kind),
         (b"place\n", 0, refused(1, 1, Cause::Count)),
         (b"place,X,Y", 0, refused(1, 3, Cause::Count)),
+        (b"now", 0, refused(1, 1, Cause::Count)),
+        (b"now,07:10,07:20", 0, refused(1, 3, Cause::Count)),
+        (b"thaw,A,B", 0, refused(1, 3, Cause::Count)),
     ];
     for (text, count, stop) in cases {
         let day = read_day(alloc, text)?;
@@ -131,6 +140,9 @@ fn stops_at_a_misspelled_field(rt: HostRuntime) -> Result<(), Fail> {
             refused(1, 1, Cause::Spelling),
         ),
         (b"plan,1\nplace,\xff\xfe", 1, refused(2, 1, Cause::Spelling)),
+        (b"now,7:10", 0, refused(1, 1, Cause::Spelling)),
+        (b"now,430", 0, refused(1, 1, Cause::Spelling)),
+        (b"thaw,", 0, refused(1, 1, Cause::Spelling)),
     ];
     for (text, count, stop) in cases {
         let day = read_day(alloc, text)?;
@@ -149,6 +161,7 @@ fn stops_at_a_field_out_of_range(rt: HostRuntime) -> Result<(), Fail> {
         (b"move,A,48:00,48:01", 0, refused(1, 3, Cause::Range)),
         (b"move,A,48:01,07:60", 0, refused(1, 2, Cause::Range)),
         (b"plan,9223372036854775807", 0, refused(1, 1, Cause::Range)),
+        (b"now,48:01", 0, refused(1, 1, Cause::Range)),
     ];
     for (text, count, stop) in cases {
         let day = read_day(alloc, text)?;
@@ -230,7 +243,7 @@ fn misspelled(shape: Shape) -> &'static [&'static [u8]] {
 }
 
 /// Each kind of record, and what its fields are.
-const KINDS: [(&[u8], &[Shape]); 15] = [
+const KINDS: [(&[u8], &[Shape]); 17] = [
     (b"place", &[Shape::Name]),
     (b"travel", &[Shape::Name, Shape::Name, Shape::Minutes]),
     (b"route_time", &[Shape::Name, Shape::Name, Shape::Minutes]),
@@ -266,6 +279,8 @@ const KINDS: [(&[u8], &[Shape]); 15] = [
     (b"skill", &[Shape::Name, Shape::Skill]),
     (b"unskill", &[Shape::Name, Shape::Skill]),
     (b"plan", &[Shape::Nodes]),
+    (b"now", &[Shape::Time]),
+    (b"thaw", &[Shape::Name]),
 ];
 
 /// A record with this value in the field with this number, from 1, and the least good value in the others.

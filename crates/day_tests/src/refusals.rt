@@ -35,7 +35,7 @@ const NEW_ONES: [Cell; 15] = [
 ];
 
 /// The same of the changes of a task or a team.
-const CHANGES: [Cell; 13] = [
+const CHANGES: [Cell; 14] = [
     (b"cancel,T1", ChangeFault::NoTask),
     (b"move,T1,00:09,00:08", ChangeFault::NoTask),
     (b"move,A,07:10,07:05", ChangeFault::BadWindow),
@@ -49,6 +49,7 @@ const CHANGES: [Cell; 13] = [
     (b"shift,T1,06:40,06:40", ChangeFault::BadShift),
     (b"skill,A,63", ChangeFault::NoTeam),
     (b"unskill,A,63", ChangeFault::NoTeam),
+    (b"thaw,T1", ChangeFault::NoTask),
 ];
 
 /// What a full day refuses, for want of a place for one more.

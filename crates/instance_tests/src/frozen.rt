@@ -1,9 +1,9 @@
 // Frozen jobs of a builder, and of the instance that it gives.
 use crate::asserts::{same, same_at};
 use crate::days::{fault_of, is_frozen, missing, small_day};
-use crew_fixtures::{FixtureFault, frozen_at, name, task, team};
-use crew_instance::{BuildFault, Builder, Instance};
-use crew_terms::{Task, Team};
+use crew_fixtures::{FixtureFault, frozen_at, is_plan_of, name, plan_of, task, team};
+use crew_instance::{BuildFault, Builder, Instance, Plan, feasibility, task_of_verdict};
+use crew_terms::{PlanVerdict, Task};
 use std::alloc::Global;
 use std::process::Abort;
 use std::test::Fail;
@@ -154,5 +154,49 @@ fn dropping_a_task_takes_frozen_jobs_away(rt: HostRuntime) -> Result<(), Fail> {
     assert!(rt; day.tasks() == 2);
     day.drop_task(1);
     same(&rt, &is_frozen(&day)?, &false);
+    Ok(())
+}
+
+/// The instance with these frozen jobs in place of its own.
+fn with_jobs(built: Instance, jobs: Plan) -> Result<Instance, Fail> {
+    if !is_plan_of(&built, &jobs) {
+        return Err("no plan of the instance")?;
+    }
+    if feasibility(&built, &jobs) != PlanVerdict::Legal {
+        return Err("no feasible plan")?;
+    }
+    Ok(built.with_frozen(jobs))
+}
+
+#[test]
+fn takes_frozen_jobs_in_place_of_its_own(rt: HostRuntime) -> Result<(), Fail> {
+    let alloc = rt.alloc();
+    let built = frozen_day(alloc)?.into_instance()?;
+    assert_frozen(&rt, &built, &[None, None]);
+    let built = with_jobs(built, plan_of(alloc, 2, &[(0, 450, &[0])])?)?;
+    assert_frozen(&rt, &built, &[Some((450, [0].as_slice())), None]);
+    let built = with_jobs(built, plan_of(alloc, 2, &[(1, 420, &[0])])?)?;
+    assert_frozen(&rt, &built, &[None, Some((420, [0].as_slice()))]);
+    let built = with_jobs(built, plan_of(alloc, 2, &[])?)?;
+    assert_frozen(&rt, &built, &[None, None]);
+    Ok(())
+}
+
+/// Verdicts, and the task that each names, the first of two.
+const NAMED: [(PlanVerdict, Option<u32>); 7] = [
+    (PlanVerdict::Legal, None),
+    (PlanVerdict::Frozen(3), Some(3)),
+    (PlanVerdict::Window(3), Some(3)),
+    (PlanVerdict::Count(3), Some(3)),
+    (PlanVerdict::Skill(1, 3), Some(3)),
+    (PlanVerdict::Shift(1, 3), Some(3)),
+    (PlanVerdict::Clash(1, 3, 2), Some(3)),
+];
+
+#[test]
+fn tells_the_task_of_a_verdict(rt: HostRuntime) -> Result<(), Fail> {
+    for (verdict, task) in NAMED {
+        same_at(&rt, &task_of_verdict(verdict), &task, &verdict);
+    }
     Ok(())
 }

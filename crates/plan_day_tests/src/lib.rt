@@ -11,4 +11,6 @@ mod faults;
 #[cfg(test)]
 mod few_pivots;
 #[cfg(test)]
+mod frozen;
+#[cfg(test)]
 mod rounds;

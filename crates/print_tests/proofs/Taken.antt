@@ -3,7 +3,8 @@ use Rattle.std.proofs.Common.{◌≡◌, ◌<◌, ◌+◌, ℕ, List, None, leng
 use Rattle.std.specs.Prelude.{fold}
 use Rattle.std.proofs.lemmas.List.{drop_more, at_drop_more}
 use Rattle.day_terms.specs.declared.Entry.{Entry}
-use Rattle.day_terms.specs.State.{DayState, after_entry}
+use Rattle.day_terms.specs.State.{DayState}
+use Rattle.day_terms.specs.Entries.{after_entry}
 use Rattle.day_terms.specs.Refusal.{AreTaken, refusal_of}
 
 pub next_is_taken : (s : DayState) (entries : List Entry) (i : ℕ) (d : Entry) → i < length entries → AreTaken s (drop i entries)

@@ -1,11 +1,11 @@
 // Generated days. What is compared was worked out from the generator's published definition, and not by this program.
-ghost use Rattle.std.specs.Prelude.{◌≡◌, ◌≤◌, All, IfErr, IfOk, OnOk, fold};
+ghost use Rattle.std.specs.Prelude.{◌≡◌, ◌≤◌, [], All, IfErr, IfOk, OnOk, fold};
 ghost use Rattle.crew_terms.specs.declared.TheConstants.{MOST_NODES, MOST_TASKS, MOST_TEAMS};
 ghost use Rattle.day_gen.specs.Day.{generated_day};
 ghost use Rattle.day_terms.specs.Ranges.{IsInRange};
 ghost use Rattle.day_terms.specs.Refusal.{AreTaken};
-ghost use Rattle.day_terms.specs.Rounds.{day_instance};
-ghost use Rattle.day_terms.specs.State.{after_entry, state_after};
+ghost use Rattle.day_terms.specs.Instances.{day_instance};
+ghost use Rattle.day_terms.specs.Entries.{after_entry, state_after};
 
 use crew_instance::Instance;
 use crew_terms::Name;
@@ -138,7 +138,7 @@ fn instance_of(
     requires teams { teams ≤ MOST_TEAMS }
     requires tasks { tasks ≤ MOST_TASKS }
     requires nodes { nodes ≤ MOST_NODES }
-    ensures instance { IfOk result (λ instance. instance ≡ day_instance (state_after (generated_day number teams tasks nodes))) }
+    ensures instance { IfOk result (λ instance. instance ≡ day_instance (state_after [] (generated_day number teams tasks nodes))) }
     ensures err { IfErr result (λ fault. fault ≡ ChangeFault.OutOfMemory) }
 {
     generated_days_are_taken();

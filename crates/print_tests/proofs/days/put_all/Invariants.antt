@@ -1,6 +1,6 @@
 use Rattle.std.proofs.Common.{◌≡◌, drop}
 use Rattle.std.specs.Prelude.{fold}
-use Rattle.day_terms.specs.State.{after_entry}
+use Rattle.day_terms.specs.Entries.{after_entry}
 use Rattle.day_terms.specs.Refusal.{AreTaken}
 use Rattle.print_tests.proofs.days.put_all.Given as goal
 
