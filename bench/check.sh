@@ -1,7 +1,9 @@
 #!/usr/bin/env bash
 # Times `crew check` against `wc -l` and `sha256sum` on the same bytes: a hundred megabytes and more of dossiers
 # with the greatest instance, of those of a small airport, and of the smallest there are; a leaf of the greatest day, with
-# all its potentials; and a pool and a deep tree of half the size and of the whole.
+# all its potentials, three numbers for each task or one for each minute, in both forms; and a pool, a deep tree in form 1, and
+# one in form 2 each of whose splits shows a loose cause, of half the size and of the whole. With words: only these of them,
+# as leaf_runs.
 set -eu
 here=$(cd "$(dirname "${BASH_SOURCE[0]}")" && pwd)
 . "$here/timing.sh"
@@ -9,10 +11,10 @@ crew=$(built "$here")
 made=$(mktemp -d)
 trap 'rm -r "$made"' EXIT
 
-# the first lines of a dossier of 64 teams, 400 tasks and 200 places, with this node budget
+# the first lines of a dossier in this form of 64 teams, 400 tasks and 200 places, with this node budget
 places() {
-  awk -v nodes="$1" 'BEGIN {
-    print "crew dossier 1\nsize 64 400 200 " nodes
+  awk -v form="$1" -v nodes="$2" 'BEGIN {
+    print "crew dossier " form "\nsize 64 400 200 " nodes
     for (p = 0; p < 200; p++) print "place G" p
     for (p = 0; p < 200; p++) {
       row = "travel"
@@ -24,7 +26,7 @@ places() {
 
 # a dossier of them each of whose tasks is planned
 greatest() {
-  places 0
+  places 1 0
   awk 'BEGIN {
     for (k = 0; k < 64; k++) print "team T" k " " k " 0 2880 0 1 2 3"
     for (j = 0; j < 400; j++) {
@@ -58,29 +60,40 @@ airport() {
   }'
 }
 
-# the head of a dossier with the widest windows, with this node budget
+# the head of a dossier in this form with the widest windows, with this node budget
 wide() {
-  places "$1"
-  awk 'BEGIN {
+  places "$1" "$2"
+  awk -v form="$1" 'BEGIN {
     for (k = 0; k < 64; k++) print "team T" k " " k " 0 2880"
     for (j = 0; j < 400; j++) print "task J" j " " j % 200 " 600 1320 300 1"
+    if (form == 2) print "frozen 0"
   }'
 }
 
-# a dossier whose plan does no task, and whose one leaf has a price of one task for each task: a team can do three
+# a dossier whose plan does no task, and whose one leaf has a price of one task for each task: a team can do three. The
+# potentials of a task are three numbers, in form 1 (`minutes`) or in form 2 (`runs`); or each minute has a number of its own,
+# in form 1 (`apart`) or in form 2 (`steps`)
 full_leaf() {
-  wide 0
-  awk 'BEGIN {
+  local form=2
+  case "$1" in minutes | apart) form=1 ;; esac
+  wide "$form" 0
+  awk -v kind="$1" -v form="$form" 'BEGIN {
     one = 840000000
     print "pool 0 0\nplan 400 208\ntree 0 0 1 0\nleaf open"
     row = "price"
     for (j = 0; j < 400; j++) row = row " " one
     print row
     row = ""
-    for (t = 600; t <= 1320; t++) row = row " " sprintf("%.0f", one * (int((1320 - t) / 300) + 1))
+    for (t = 600; t <= 1320; t++) {
+      worth = one * (int((1320 - t) / 300) + 1)
+      if (kind == "apart" || kind == "steps") worth += 1320 - t
+      if (t == 600) most = worth
+      if (form == 1 || worth != before) row = row (form == 1 ? "" : " " t) " " sprintf("%.0f", worth)
+      before = worth
+    }
     for (k = 0; k < 64; k++) {
-      print "worth " sprintf("%.0f", 3 * one)
-      for (j = 0; j < 400; j++) print "phi " j row
+      print "worth " sprintf("%.0f", most)
+      for (j = 0; j < 400; j++) print (form == 1 ? "phi " : "steps ") j row
     }
     print "end"
   }'
@@ -88,7 +101,7 @@ full_leaf() {
 
 # a dossier with this many routes in its pool, all of one team
 pool() {
-  wide 0
+  wide 1 0
   awk -v routes="$1" 'BEGIN {
     print "pool 0 " routes
     for (r = 0; r < routes; r++) print "route 0 " r % 400 " " 600 + int(r / 400)
@@ -98,10 +111,31 @@ pool() {
 
 # a dossier whose tree has this many splits, each in the first child of the one before
 deep() {
-  wide "$1"
+  wide 1 "$1"
   awk -v splits="$1" 'BEGIN {
     print "pool 0 0\nplan 400 0\ntree " splits " 0 " splits + 1 " " splits
     for (s = 0; s < splits; s++) print "window " int(s / 720) " " 1319 - s % 720
+    for (s = 0; s <= splits; s++) print "leaf bare"
+    print "end"
+  }'
+}
+
+# the same in form 2, where each split shows a loose cause: halves of two routes of each team, each of two tasks, one of which
+# is in both
+deep_loose() {
+  wide 2 "$1"
+  awk -v splits="$1" 'BEGIN {
+    print "pool 0 128"
+    for (k = 0; k < 64; k++) {
+      print "route " k " " 200 + k " 600 " 264 + k " 1200"
+      print "route " k " " 200 + k " 700 " 328 + k " 1320"
+    }
+    print "plan 400 0\ntree " splits " 0 " splits + 1 " " splits
+    cause = "why loose 400 2 128"
+    for (c = 0; c < 128; c++) cause = cause "\nshare " c " 1"
+    cause = cause "\nspare"
+    for (j = 0; j < 400; j++) cause = cause " " (j < 200 || j >= 392 ? 2 : j < 264 ? 0 : 1)
+    for (s = 0; s < splits; s++) print "window " int(s / 720) " " 1319 - s % 720 "\n" cause
     for (s = 0; s <= splits; s++) print "leaf bare"
     print "end"
   }'
@@ -116,19 +150,58 @@ repeat() {
   done
 }
 
-greatest >"$made/greatest"
-repeat "$made/greatest" "$made/many-great"
-airport >"$made/airport"
-repeat "$made/airport" "$made/many-small"
-repeat "$here/../examples/first.dossier" "$made/many-smallest"
-ratios 'dossiers of the greatest instance' "$made/many-great" "$crew" check
-ratios 'dossiers of a small airport' "$made/many-small" "$crew" check
-ratios 'the smallest dossiers' "$made/many-smallest" "$crew" check
-full_leaf >"$made/full-leaf"
-ratios 'a leaf of the greatest day' "$made/full-leaf" "$crew" check
-for many in 50000 100000; do
-  pool "$many" >"$made/pool"
-  ratios "a pool of $many routes" "$made/pool" "$crew" check
-  deep "$many" >"$made/deep"
-  ratios "a tree of depth $many" "$made/deep" "$crew" check
-done
+# each input: it is made, and the commands are timed over it
+dossiers_greatest() {
+  greatest >"$made/once"
+  repeat "$made/once" "$made/many"
+  ratios 'dossiers of the greatest instance' "$made/many" "$crew" check
+}
+dossiers_small() {
+  airport >"$made/once"
+  repeat "$made/once" "$made/many"
+  ratios 'dossiers of a small airport' "$made/many" "$crew" check
+}
+dossiers_smallest() {
+  repeat "$here/../examples/first.dossier" "$made/many"
+  ratios 'the smallest dossiers' "$made/many" "$crew" check
+}
+leaf() {
+  full_leaf minutes >"$made/one"
+  ratios 'a leaf of the greatest day' "$made/one" "$crew" check
+}
+leaf_runs() {
+  full_leaf runs >"$made/one"
+  ratios 'the same leaf in form 2' "$made/one" "$crew" check
+}
+leaf_apart() {
+  full_leaf apart >"$made/one"
+  ratios 'a leaf of the greatest day with a number of its own for each minute' "$made/one" "$crew" check
+}
+leaf_steps() {
+  full_leaf steps >"$made/one"
+  ratios 'the same leaf in form 2' "$made/one" "$crew" check
+}
+pools() {
+  for many in 50000 100000; do
+    pool "$many" >"$made/one"
+    ratios "a pool of $many routes" "$made/one" "$crew" check
+  done
+}
+trees() {
+  for many in 50000 100000; do
+    deep "$many" >"$made/one"
+    ratios "a tree of depth $many" "$made/one" "$crew" check
+  done
+}
+trees_loose() {
+  for many in 50000 100000; do
+    deep_loose "$many" >"$made/one"
+    ratios "a tree of depth $many with loose causes, of 128 shares each" "$made/one" "$crew" check
+  done
+}
+
+inputs=("$@")
+if [ $# -eq 0 ]; then
+  inputs=(dossiers_greatest dossiers_small dossiers_smallest leaf leaf_runs leaf_apart leaf_steps pools trees trees_loose)
+fi
+for input in "${inputs[@]}"; do "$input"; done

@@ -1,7 +1,8 @@
 # Times commands over one file, for the scripts beside this one. Source it; it wants bash 5.
 
-# How often each command is run. They take turns, and the least time of each is told: it is the least disturbed one.
-rounds=9
+# How often each command is run; ROUNDS tells another number. They take turns, and the least time of each is told: it is the
+# least disturbed one.
+rounds=${ROUNDS:-9}
 
 # built HERE: has the program built, where it isn't, and prints its path. It is timed itself: bin/crew looks first whether
 # it is to be built anew, which would be timed with it.
@@ -39,7 +40,7 @@ ratios() {
   awk -v title="$title" -v bytes="$(wc -c <"$file")" \
     -v lines="$(least 1 "$times/lines")" -v sum="$(least 1 "$times/sum")" -v own="$(least 1 "$times/own")" \
     -v sum_work="$(least 2 "$times/sum")" -v own_work="$(least 2 "$times/own")" 'BEGIN {
-    printf "%s, %.1f MB: wc -l %.3f s, sha256sum %.3f s, crew %.3f s; crew / sha256sum %.2f, of processor time %.2f; crew / wc -l %.1f; %.0f MB/s\n",
-      title, bytes / 1e6, lines, sum, own, own / sum, own_work / sum_work, own / lines, bytes / 1e6 / own }'
+    printf "%s, %.1f MB: wc -l %.3f s, sha256sum %.3f s, crew %.3f s; crew / sha256sum %.2f; of processor time %.3f s and %.3f s, %.2f; crew / wc -l %.1f; %.0f MB/s\n",
+      title, bytes / 1e6, lines, sum, own, own / sum, sum_work, own_work, own_work / sum_work, own / lines, bytes / 1e6 / own }'
   rm -r "$times"
 }

@@ -7,7 +7,7 @@ use thiserror::Error;
 /// Why a measurement comes to nothing.
 #[derive(Debug, Error, Drop)]
 pub enum BenchError {
-    #[error("the words are: plan, pricing, ascent, master or solve, a day's number, teams, tasks, a count")]
+    #[error("the words are: plan, pricing, ascent, master, solve, root, columns, using or legal, a day's number, teams, tasks, a count")]
     Words,
     #[error("there is no memory")]
     Memory,

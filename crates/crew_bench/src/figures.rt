@@ -9,6 +9,15 @@ pub enum Ending {
     Overflow,
 }
 
+/// How the step at a root ended: it was closed, or split for one of these causes.
+#[derive(Clone, Copy, Debug, PartialEq, Eq)]
+pub enum RootEnd {
+    Closed,
+    Loose,
+    Overflow,
+    Spent,
+}
+
 /// What a piece of work came to.
 #[derive(Clone, Copy, Debug)]
 pub enum Figures {
@@ -38,6 +47,30 @@ pub enum Figures {
         splits: u32,
         closed: usize,
         causes: Causes,
+    },
+    /// The rounds of the two ascents at a root, the pivots of its master's run, and how its step ends.
+    Root {
+        first: u32,
+        again: u32,
+        pivots: u32,
+        end: RootEnd,
+    },
+    /// How many columns were added, and how many are held.
+    Columns {
+        added: u32,
+        held: usize,
+    },
+    /// How often all teams and tasks were asked for their columns, and how many numbers were given.
+    Using {
+        times: u32,
+        numbers: u64,
+    },
+    /// How often columns were asked which of them are routes, how many there are, the forbidden pairs, and how many are routes.
+    Legal {
+        times: u32,
+        columns: usize,
+        forbidden: u32,
+        legal: usize,
     },
 }
 
@@ -80,6 +113,23 @@ impl fmt::Display for Figures {
                 f,
                 "unassigned {unassigned} bound {bound} splits {splits} closed {closed} loose {} overflow {} spent {}",
                 causes.loose, causes.overflow, causes.spent
+            ),
+            Figures::Root {
+                first,
+                again,
+                pivots,
+                end,
+            } => write!(f, "rounds {first} again {again} pivots {pivots} {end:?}"),
+            Figures::Columns { added, held } => write!(f, "columns {added} held {held}"),
+            Figures::Using { times, numbers } => write!(f, "times {times} numbers {numbers}"),
+            Figures::Legal {
+                times,
+                columns,
+                forbidden,
+                legal,
+            } => write!(
+                f,
+                "times {times} columns {columns} forbidden {forbidden} legal {legal}"
             ),
         }
     }

@@ -2,9 +2,11 @@
 // prints what it came to. The scripts in bench/ time it.
 #![tactic(auto)]
 
+mod columns;
 mod days;
 mod errors;
 mod figures;
+mod roots;
 mod searches;
 mod tasks;
 mod words;

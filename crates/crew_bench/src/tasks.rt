@@ -4,9 +4,11 @@ ghost use Rattle.crew_terms.specs.Leaf.{IsOnRequired};
 ghost use Rattle.crew_terms.specs.Legal.{IsLegal};
 ghost use Rattle.potentials.specs.Prices.{ArePricesOf};
 
+use crate::columns::{added, asked, filtered};
 use crate::days::instance_of;
 use crate::errors::BenchError;
 use crate::figures::{Ending, Figures};
+use crate::roots::root;
 use crate::searches::searched;
 use crate::words::{Kind, Work};
 use column_arena::{Columns, VecColumns};
@@ -34,7 +36,11 @@ const FIRST_SEARCH: u32 = 20_000;
 const COLUMN_ROUNDS: u32 = 10;
 
 /// A greedy plan, bettered by so many iterations.
-fn planned(alloc: Global, instance: &Instance, iterations: u32) -> Result<Plan, AllocError> {
+pub(crate) fn planned(
+    alloc: Global,
+    instance: &Instance,
+    iterations: u32,
+) -> Result<Plan, AllocError> {
     let effort = SearchEffort {
         iterations,
         enough: 0,
@@ -140,13 +146,17 @@ fn run(alloc: Global, limits: &Limits<'_>, pivots: u32) -> Result<Figures, Alloc
 /// Does the work, and gives its figures.
 pub fn done(alloc: Global, work: &Work) -> Result<Figures, BenchError> {
     let instance = instance_of(alloc, work.day, work.teams, work.tasks)?;
-    let limits = Limits::root(alloc, &instance)?;
+    let mut limits = Limits::root(alloc, &instance)?;
     let figures = match work.kind {
         Kind::Plan => plan(alloc, &instance, work.count)?,
         Kind::Pricing => pricing(alloc, &limits, work.count)?,
         Kind::Ascent => ascent(alloc, &limits, work.count)?,
         Kind::Master => run(alloc, &limits, work.count)?,
         Kind::Solve => searched(alloc, &instance, work.count)?,
+        Kind::Root => root(alloc, &limits, work.count)?,
+        Kind::Columns => added(alloc, &instance, work.count)?,
+        Kind::Using => asked(alloc, &instance, work.count)?,
+        Kind::Legal => filtered(alloc, &mut limits, work.count)?,
     };
     Ok(figures)
 }

@@ -18,6 +18,14 @@ pub enum Kind {
     Master,
     /// A search by branch and price.
     Solve,
+    /// The step at the root.
+    Root,
+    /// Columns that are added.
+    Columns,
+    /// The columns of each team and task.
+    Using,
+    /// The columns that are routes.
+    Legal,
 }
 
 /// What is done, over the generated day with this number and so many teams and tasks, and how often or how long.
@@ -40,6 +48,10 @@ fn kind_of(word: &str) -> Option<Kind> {
         "ascent" => Some(Kind::Ascent),
         "master" => Some(Kind::Master),
         "solve" => Some(Kind::Solve),
+        "root" => Some(Kind::Root),
+        "columns" => Some(Kind::Columns),
+        "using" => Some(Kind::Using),
+        "legal" => Some(Kind::Legal),
         _ => None,
     }
 }
