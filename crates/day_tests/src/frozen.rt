@@ -132,7 +132,44 @@ fn refuses_all(rt: &impl Abort, alloc: Global, desk: &mut Desk) -> Result<(), Fa
 #[test]
 fn forbids_what_it_needs(rt: HostRuntime) -> Result<(), Fail> {
     let mut desk = begun(rt.alloc())?;
-    refuses_all(&rt, rt.alloc(), &mut desk)
+    refuses_all(&rt, rt.alloc(), &mut desk)?;
+    keeps_the_last_plan(&rt, rt.alloc(), &mut desk)
+}
+
+/// Asserts that the last plan still has A: thawed, it can be frozen again.
+fn keeps_the_last_plan(rt: &impl Abort, alloc: Global, desk: &mut Desk) -> Result<(), Fail> {
+    gives(rt, alloc, desk, &[b"thaw,A"], false)?;
+    gives(rt, alloc, desk, &[b"now,08:00"], true)
+}
+
+/// Three tasks at different gates, of which X makes the long way from A to C short.
+const GATES: &[&[u8]] = &[
+    b"place,BASE",
+    b"place,G1",
+    b"place,G2",
+    b"place,G3",
+    b"default_travel,10",
+    b"route_time,G1,G3,60",
+    b"team,T1,BASE,06:00,14:00,",
+    b"task,A,G1,07:00,07:00,10,1,",
+    b"task,C,G3,07:40,07:40,10,1,",
+    b"task,X,G2,07:20,07:20,10,1,",
+];
+
+/// A desk on which all three have begun.
+fn gates(alloc: Global) -> Result<Desk, Fail> {
+    let mut desk = Desk::new(alloc);
+    give(alloc, &mut desk, GATES)?;
+    plan(alloc, &mut desk)?;
+    give(alloc, &mut desk, &[b"now,08:00"])?;
+    Ok(desk)
+}
+
+#[test]
+fn forbids_to_thaw_what_others_need(rt: HostRuntime) -> Result<(), Fail> {
+    let fault = ChangeFault::FrozenWork { task: name(b"A")? };
+    let mut desk = gates(rt.alloc())?;
+    refuses(&rt, rt.alloc(), &mut desk, b"thaw,X", fault)
 }
 
 #[test]
