@@ -13,7 +13,7 @@ use Rattle.crew_terms.specs.Verdict.{IsBefore, IsNext, HasNoClash, IsFirstClash}
 use Rattle.crew_terms.specs.Nodes.{task_known}
 use Rattle.crew_instance.specs.declared.turns.Turn.{Turn}
 use Rattle.crew_instance.specs.Turns.{IsInOrder, AreTurns}
-use Rattle.crew_instance.proofs.ClashFree.{one_start}
+use Rattle.crew_instance.proofs.Decides.{one_start}
 use Rattle.crew_instance.proofs.Order.{Precedes}
 
 abbrev pub turn : ℕ → ℕ → Turn

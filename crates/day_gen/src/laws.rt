@@ -15,7 +15,8 @@ use day_terms::free_days_forbid_nothing;
 pub fn generated_days_are_taken()
     ensures ranges { (number teams tasks nodes : ℕ) → nodes ≤ MOST_NODES → All IsInRange (generated_day number teams tasks nodes) }
     ensures taken { (number teams tasks nodes : ℕ) → teams ≤ MOST_TEAMS → tasks ≤ MOST_TASKS → AreTaken start (generated_day number teams tasks nodes) }
-    ensures whole { (number teams tasks nodes : ℕ) → teams ≤ MOST_TEAMS → tasks ≤ MOST_TASKS → first_missing (state_after [] (generated_day number teams tasks nodes)) ≡ None }
+    ensures whole { (number teams tasks nodes : ℕ) → teams ≤ MOST_TEAMS → tasks ≤ MOST_TASKS →
+        first_missing (state_after [] (generated_day number teams tasks nodes)) ≡ None }
 {
     free_days_forbid_nothing();
 }

@@ -13,7 +13,7 @@ use Rattle.day_terms.specs.Faulty.{below, is_good, is_bad, is_first_clash, fault
 use Rattle.work_laws.proofs.FirstOf.{first_is, begins_with_more, begins_after_none, none_first, none_in_front, none_behind, filter_none, filter_begins, none_passes, lists_none, lists_begin, each_empty}
 use Rattle.work_laws.proofs.GoodJobs.{not_bad, is_bad_job, good_from_test}
 use Rattle.work_laws.proofs.CalmTeams.{calm_fails, others_fail, calm_from}
-use Rattle.work_laws.proofs.ClashFree.{feasible_from, no_clash, no_fault}
+use Rattle.crew_laws.specs.Faultless.{feasible_from, no_clash, no_fault}
 
 -- a fault of a job names its task
 names_task : (i : Instance) (j : ℕ) (job : Job) (told : PlanVerdict) → IsJobFault i j job told → task_named told ≡ Some j

@@ -2,5 +2,4 @@ mod FirstOf
 mod GoodJobs
 mod Clashes
 mod CalmTeams
-mod ClashFree
 mod FirstFaults

@@ -1,4 +1,4 @@
-use Rattle.crew_instance.proofs.ClashFree.{decides}
+use Rattle.crew_instance.proofs.Decides.{decides}
 use Rattle.crew_instance.proofs.feasible.feasibility.Goals as goal
 
 pub returns-in-Some-clause-feasible : goal.returns-in-Some-clause-feasible

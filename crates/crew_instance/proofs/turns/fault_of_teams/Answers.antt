@@ -1,6 +1,6 @@
 use Rattle.std.proofs.Common.{◌<◌, arith, length}
 use Rattle.crew_terms.specs.Verdict.{BadTeam}
-use Rattle.crew_instance.proofs.ClashFree.{feasible, no_clash}
+use Rattle.crew_laws.specs.Faultless.{feasible_from, no_clash}
 use Rattle.crew_instance.proofs.TeamTurns.{calm_more}
 use Rattle.crew_instance.proofs.turns.fault_of_teams.Goals as goal
 
@@ -19,5 +19,5 @@ loop-k-preserved c = calm_more c.args.instance.now c.args.plan.now c.loop-k.k c.
 
 pub returns-clause-verdict : goal.returns-clause-verdict
 returns-clause-verdict c =
-    feasible c.args.instance.now c.args.plan.now c.teams-k-end.ensures.limits c.requires.plan c.requires.jobs
+    feasible_from c.args.instance.now c.args.plan.now c.teams-k-end.ensures.limits.parts c.requires.plan c.requires.jobs
     (λ g l. c.loop-k.invariant g (let a = c.loop-k-test.false in let b = c.teams-k-end.ensures.count in omega arith))

@@ -1,27 +1,20 @@
--- a plan whose jobs are good and whose teams have no clash is feasible, and no other plan is
-use Rattle.std.proofs.Common.{◌≡◌, ◌≢◌, ◌≤◌, ◌<◌, ◌+◌, ◌⊎◌, inl, inr, ℕ, zero, suc, List, ◌∷◌, ◌++◌, length, Some, arith, sym, refl, subst, ap, ◌∙◌}
-use Rattle.std.specs.Prelude.{Contains, ◌↔◌}
+-- a plan whose jobs are good and whose teams have no clash is feasible, where each task takes some minutes; a feasible plan has no
+-- fault; and a legal plan is one of its instance
+use Rattle.std.proofs.Common.{◌≡◌, ◌≢◌, ◌≤◌, ◌<◌, ◌+◌, ◌⊎◌, inl, inr, ℕ, zero, suc, List, ◌∷◌, ◌++◌, length, arith, sym, refl, subst}
+use Rattle.std.specs.Prelude.{Contains}
 use Rattle.std.proofs.lemmas.List.Elements.{All-get_or, Contains-append_right}
 use Rattle.std.proofs.lemmas.Bool.{cases_lt}
 use Rattle.crew_terms.specs.Instance.{Instance, task_of, no_task, CanFollow}
-use Rattle.crew_terms.specs.Rules.{IsInstance, IsTask}
+use Rattle.crew_terms.specs.Rules.{AreParts, IsTask}
 use Rattle.crew_terms.specs.Plan.{Plan, Job, Does}
-use Rattle.crew_terms.specs.Legal.{IsJob, IsFeasible}
-use Rattle.crew_terms.specs.Verdict.{IsBefore, HasNoClash, AreJobsBelow, IsPlanOf, IsFeasibility, Feasible, BadJob, BadTeam, IsJobFault, Outside, Miscounted, OfTeam, Unskilled, OffShift}
+use Rattle.crew_terms.specs.Legal.{IsJob, IsFeasible, IsLegal}
+use Rattle.crew_terms.specs.Verdict.{IsBefore, HasNoClash, AreJobsBelow, IsPlanOf, IsJobFault, Outside, Miscounted, OfTeam, Unskilled, OffShift}
 use Rattle.crew_terms.specs.declared.PlanVerdict.{PlanVerdict}
-use Rattle.crew_terms.specs.declared.PlanVerdict.TheVariants.{Legal, Window, Count, Skill, Shift, Clash}
-use Rattle.crew_terms.specs.Nodes.{job_known}
+use Rattle.crew_terms.specs.Nodes.{job_known, task_known}
 
--- a task is done once
-pub one_start : (p : Plan) (k h j t u : ℕ) → Does p k j t → Does p h j u → t ≡ u
-one_start p k h j t u (a, e, s, m) (b, f, r, n) = let x : Some a ≡ Some b = sym e ∙ f in let y : a ≡ b = cc in sym s ∙ ap (λ (j : Job). j.start) y ∙ r
-
-module _ (i : Instance) (p : Plan) (is : IsInstance i) (of : IsPlanOf i p) (jobs : AreJobsBelow i p (length p)) where
-  task_known : (k j t : ℕ) → Does p k j t → j < length i.tasks
-  task_known k j t (job, e, s, m) = let a = job_known p j job e in let b = of.whole in omega arith
-
+module _ (i : Instance) (p : Plan) (are : AreParts i.places i.teams i.tasks) (of : IsPlanOf i p) (jobs : AreJobsBelow i p (length p)) where
   task_is : (k j t : ℕ) → Does p k j t → IsTask (length i.places) (task_of i j)
-  task_is k j t d = All-get_or (IsTask (length i.places)) i.tasks j no_task (task_known k j t d) is.parts.tasks
+  task_is k j t d = All-get_or (IsTask (length i.places)) i.tasks j no_task (let a = task_known p k j t d in let b = of.whole in omega arith) are.tasks
 
   -- a team that follows itself at once has no time for the first task
   no_time : (k j h t : ℕ) → Does p k j t → CanFollow i j t h t → ⊥
@@ -66,8 +59,8 @@ module _ (i : Instance) (p : Plan) (is : IsInstance i) (of : IsPlanOf i p) (jobs
         between : (g s : ℕ) → Does p k g s → IsBefore t j s g → IsBefore s g u h → ⊥
         between g s c a b = split g s c a b (none g s c)
 
-  pub feasible : ((k : ℕ) → k < length i.teams → HasNoClash i p k) → IsFeasible i p
-  feasible calm = record {
+  pub feasible_from : ((k : ℕ) → k < length i.teams → HasNoClash i p k) → IsFeasible i p
+  feasible_from calm = record {
     whole = of.whole;
     jobs = λ j job e. jobs j job (job_known p j job e) e;
     apart = λ k j h t u d e. apart k (calm k (of.known k j t d)) j h t u d e;
@@ -92,25 +85,15 @@ listed : (ks front : List ℕ) (k : ℕ) (back : List ℕ) → ks ≡ front ++ k
 listed ks front k back e = rw e (Contains-append_right front (k ∷ back) k (0, omega arith, refl))
 
 -- a good job has no fault
-pub no_fault : (i : Instance) (j : ℕ) (job : Job) (told : PlanVerdict) → IsJob i j job → IsJobFault i j job told → ⊥
-no_fault i j job told good (Outside broken is) = broken good.window
-no_fault i j job told good (Miscounted window broken is) = broken good.list
-no_fault i j job told good (OfTeam window list front k back teams earlier (Unskilled broken is)) = broken (good.fit k (listed job.teams front k back teams)).qualified
-no_fault i j job told good (OfTeam window list front k back teams earlier (OffShift qualified broken is)) = broken (good.fit k (listed job.teams front k back teams)).in_shift
+pub no_fault : (i : Instance) (j : ℕ) (job : Job) (told : PlanVerdict) → IsJobFault i j job told → IsJob i j job → ⊥
+no_fault i j job told (Outside broken is) good = broken good.window
+no_fault i j job told (Miscounted window broken is) good = broken good.list
+no_fault i j job told (OfTeam window list front k back teams earlier (Unskilled broken is)) good = broken (good.fit k (listed job.teams front k back teams)).qualified
+no_fault i j job told (OfTeam window list front k back teams earlier (OffShift qualified broken is)) good = broken (good.fit k (listed job.teams front k back teams)).in_shift
 
--- a fault is not the word for a feasible plan
-told_fault : (i : Instance) (j : ℕ) (job : Job) (told : PlanVerdict) → IsJobFault i j job told → told ≡ Legal → ⊥
-told_fault i j job told (Outside broken is) e = let x : Window j ≡ Legal = sym is ∙ e in cc
-told_fault i j job told (Miscounted window broken is) e = let x : Count j ≡ Legal = sym is ∙ e in cc
-told_fault i j job told (OfTeam window list front k back teams earlier (Unskilled broken is)) e = let x : Skill k j ≡ Legal = sym is ∙ e in cc
-told_fault i j job told (OfTeam window list front k back teams earlier (OffShift qualified broken is)) e = let x : Shift k j ≡ Legal = sym is ∙ e in cc
-
--- a verdict says whether the plan is feasible
-pub decides : (i : Instance) (p : Plan) (told : PlanVerdict) → IsFeasibility i p told → (told ≡ Legal) ↔ IsFeasible i p
-decides i p told (Feasible feasible is) = ((λ _. feasible), (λ _. is))
-decides i p told (BadJob j job at earlier how) =
-    ((λ e. absurd (told_fault i j job told how e)), (λ feasible. absurd (no_fault i j job told (feasible.jobs j job at) how)))
-decides i p told (BadTeam jobs k j h known earlier first is) = (
-  (λ e. let x : Clash k j h ≡ Legal = sym is ∙ e in cc),
-  (λ feasible. absurd (first.broken (no_clash i p k feasible j first.start h first.next_start first.next))),
-)
+-- a legal plan has a place for each task, and knows its teams
+pub legal_is_plan : (i : Instance) (p : Plan) → IsLegal i p → IsPlanOf i p
+legal_is_plan i p legal = record {
+  whole = legal.feasible.whole;
+  known = λ k j t (job, e, s, c). (legal.feasible.jobs j job e).known k c;
+}
