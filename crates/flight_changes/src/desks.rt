@@ -65,7 +65,8 @@ impl Desk {
     /// Changes the state as the entry says. An entry is refused with the first condition of its kind that holds, and
     /// then where frozen work forbids it; the state is then as before. Memory may run out in place of a change or of a
     /// look at frozen work, but in no other refusal; the state is then as before, too. The entry of a plan changes
-    /// nothing, and is refused where the state lacks a travel time, as is that of a time before which jobs are frozen.
+    /// nothing, and is refused where the state lacks a travel time, as is that of a time before which jobs are frozen. A desk
+    /// knows no plan of a round to come.
     pub fn apply(&mut self, entry: &Entry) -> Result<(), ChangeFault>
         requires { IsInRange entry.now }
         ensures taken { OnOk result (refusal_of self.old entry.now ≡ None) }

@@ -60,7 +60,7 @@ impl Pricer {
     }
 
     /// The worth of team `k` in the node: the most that it can earn by these prices, in 1/D of a task. A route that earns
-    /// it is found. It takes no memory.
+    /// it is found, and the worths that were found last stay. It takes no memory.
     pub fn price(&mut self, limits: &Limits<'_>, k: u32, prices: &Prices) -> i64
         requires team { k < teams_in limits.now.limits }
         requires prices { ArePricesOf limits.now.limits prices.now }
@@ -68,6 +68,7 @@ impl Pricer {
         ensures worth { IsWorth limits.now.limits k prices.now result }
         ensures route { IsRoute limits.now.limits k self.new.route }
         ensures rewards { rewards prices.now k self.new.route ≡ result }
+        ensures worths { self.new.worths ≡ self.old.worths }
         ensures room { self.new.places ≡ self.old.places }
     {
         let worth = self.work.price(limits, k, prices);
@@ -93,6 +94,7 @@ impl Pricer {
         ensures worth { IsWorth limits.now.limits k prices.now result }
         ensures route { IsRoute limits.now.limits k self.new.route }
         ensures rewards { rewards prices.now k self.new.route ≡ result }
+        ensures worths { self.new.worths ≡ self.old.worths }
         ensures room { self.new.places ≡ self.old.places }
     {
         let worth = self.work.price(limits, k, prices);

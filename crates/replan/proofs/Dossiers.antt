@@ -3,6 +3,7 @@ use Rattle.std.specs.Result.{IsErr, IsErrAnd}
 use Rattle.std.proofs.Common.{◌≡◌, ◌≤◌, ◌∙◌, ℕ, List, Result, Ok, Err, length, map, ap, subst, sym, refl, arith}
 use Rattle.std.specs.Prelude.{All, take}
 use Rattle.crew_io.specs.Puts.{TellsWrites}
+use Rattle.crew_laws.specs.Faultless.{legal_is_plan}
 use Rattle.crew_io.specs.declared.sink.Sink.{Ghosts}
 use Rattle.branch_tree.specs.Trees.{BranchTree, preorder}
 use Rattle.cert_write.specs.Dossiers.{IsDossierOf, IsPricedTree, WritesDossier, causes_of}
@@ -120,12 +121,7 @@ module _ (proved : AreProved) (count : ToldCount) (g : Given) (o : Outcome) (of 
 
   -- the plan is one of the instance
   pub a_plan : IsPlanOf g.instance g.plan
-  a_plan =
-      subst (IsPlanOf g.instance) (sym of.plan)
-      (let legal = outcome.plan.legal in record {
-        whole = legal.feasible.whole;
-        known = λ k j t does. (legal.feasible.jobs j does.0 does.1).known k does.3;
-      })
+  a_plan = subst (IsPlanOf g.instance) (sym of.plan) (legal_is_plan g.instance o.plan outcome.plan.legal)
 
   tree_proved : IsProvedTree (root_limits g.instance) g.bound (unassigned_count g.plan) outcome.tree
   tree_proved =

@@ -80,8 +80,9 @@ impl Session {
     }
 
     /// Takes an entry. One of a plan begins a round: the instance as it stands is searched, with as many steps as the entry says
-    /// and from those routes of the round before that are routes still, and a dossier of what it comes to is written. What the state refuses leaves all as before. Where a write fails or memory runs out the session ends:
-    /// it answers the same to each later entry.
+    /// and from those routes of the round before that are routes still, and a dossier of what it comes to is written; its plan is
+    /// then the day's last plan. What the state refuses leaves all as before. Where a write fails or memory runs out the session
+    /// ends: it answers the same to each later entry.
     pub fn entry<K: Sink>(&mut self, entry: &Entry, sink: &mut K) -> Result<Done, SessionFault>
         requires { IsInRange entry.now }
         ensures failed { (failure : Failure) → self.old.failed ≡ Some failure

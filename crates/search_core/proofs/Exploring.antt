@@ -1,6 +1,5 @@
 -- walks to a node, and the prices that are found there
-use Rattle.std.proofs.Common.{◌≡◌, ◌≤◌, ◌+◌, ◌∙◌, ◌∷◌, [], ℕ, ℤ, List, length, refl, ap, sym, subst, arith}
-use Rattle.crew_terms.specs.Instance.{Instance}
+use Rattle.std.proofs.Common.{◌≡◌, ◌≤◌, ◌+◌, ◌∙◌, ◌∷◌, [], ℕ, List, length, refl, arith}
 use Rattle.crew_terms.specs.Leaf.{IsOnRequired, Prices}
 use Rattle.crew_terms.specs.Limits.{Limits, Route}
 use Rattle.crew_terms.specs.Tree.{child}
@@ -8,7 +7,6 @@ use Rattle.crew_terms.specs.declared.Choice.{Choice}
 use Rattle.crew_terms.specs.declared.Choice.TheVariants as choices
 use Rattle.crew_terms.specs.declared.Side.{Side}
 use Rattle.crew_terms.specs.declared.Side.TheVariants.{First, Second}
-use Rattle.keyed_steps.specs.States.{DecidesProved}
 use Rattle.node_limits.specs.Trail.{Trail, changed}
 use Rattle.node_solver.specs.Causes.{cause_of}
 use Rattle.node_solver.specs.Steps.{KeepsProved}

@@ -1,8 +1,7 @@
 -- what a search hands out, from its fields
-use Rattle.std.proofs.Common.{◌≡◌, ◌≢◌, ◌∙◌, ◌⊎◌, inl, inr, ◌+◌, ◌∷◌, [], ℕ, zero, suc, List, map, refl, ap, sym, subst, arith}
+use Rattle.std.proofs.Common.{◌≡◌, ◌+◌, ◌∷◌, [], ℕ, zero, suc, List, map, refl, ap, sym, subst, arith}
 use Rattle.std.specs.Prelude.{Bool, true, false, ◌==◌}
 use Rattle.std.proofs.lemmas.Bool.{eqb-true}
-use Rattle.branch_tree.specs.Trees.{BranchTree}
 use Rattle.branch_tree.specs.declared.tree.LeafState.TheVariants as states
 use Rattle.crew_terms.specs.Branches.{LeafNode, SplitNode, Claim, Bare, Open, Closed, splits}
 use Rattle.crew_terms.specs.Leaf.{Prices}

@@ -1,10 +1,10 @@
 -- what always holds of a search, where limits were walked and taken back
-use Rattle.std.proofs.Common.{◌≡◌, ◌≤◌, ◌<◌, ◌∙◌, ℕ, List, Some, length, ap, sym, subst, arith}
-use Rattle.std.specs.Prelude.{is_none, unwrap_or}
+use Rattle.std.proofs.Common.{◌≡◌, ◌≤◌, ◌∙◌, ℕ, List, length, ap, sym, subst, arith}
+use Rattle.std.specs.Prelude.{is_none}
 use Rattle.std.proofs.lemmas.List.Sums.{count_by-le-length}
 use Rattle.crew_terms.specs.Instance.{Instance}
 use Rattle.crew_terms.specs.Leaf.{Prices}
-use Rattle.crew_terms.specs.Limits.{Limits, root_limits, tasks_in}
+use Rattle.crew_terms.specs.Limits.{Limits, root_limits}
 use Rattle.crew_terms.specs.Plan.{Plan, unassigned_count}
 use Rattle.keyed_tree.specs.Keyed.{Keyed}
 use Rattle.label_pricing.specs.Pricing.{HasRoom}

@@ -1,5 +1,5 @@
 -- what the open leaves below a loose split prove
-use Rattle.std.proofs.Common.{◌≡◌, ◌≤◌, ◌<◌, ◌+◌, ◌-◌, ◌*◌, ◌++◌, ◌⊎◌, ◌↔◌, ◌≤ℤ◌, ◌<ℤ◌, ◌+ℤ◌, ◌*ℤ◌, ◌∙◌, inl, inr, ℕ, ℤ, zero, suc, pos, List, Option, None, Some, refl, ap, sym, subst, arith}
+use Rattle.std.proofs.Common.{◌≡◌, ◌≤◌, ◌<◌, ◌+◌, ◌-◌, ◌*◌, ◌++◌, ◌⊎◌, ◌↔◌, ◌≤ℤ◌, ◌<ℤ◌, ◌+ℤ◌, ◌*ℤ◌, inl, inr, ℕ, ℤ, zero, suc, pos, List, Option, None, Some, refl, sym, subst, arith}
 use Rattle.std.proofs.lemmas.Bool.{cases_lt}
 use Rattle.std.proofs.lemmas.Int.{by_lt_z, ints}
 use Rattle.std.proofs.lemmas.Nat.{mul-le}
@@ -20,7 +20,7 @@ use Rattle.label_pricing.specs.Worths.{AreWorths}
 use Rattle.ring_laws.specs.Ring.{times_up_to}
 use Rattle.rounding_laws.specs.declared.TheConstants.{MOST_LOSS}
 use Rattle.search_core.specs.Shown.{IsShownWhy}
-use Rattle.search_terms.specs.Caused.{LooseProves, NearlyProves, ProveNearly}
+use Rattle.search_terms.specs.Caused.{LooseProves, ProveNearly}
 use Rattle.search_terms.specs.Proven.{PricesProve}
 use Rattle.search_terms.specs.Shares.{FractionalChoice, choice_value}
 use Rattle.search_terms.specs.declared.TheConstants.{MARGIN}

@@ -6,14 +6,14 @@ use Rattle.std.proofs.lemmas.List.{get_or_append_left, get_or_push, length-appen
 use Rattle.std.proofs.lemmas.List.Elements.{All-head, All-tail, All-weaker}
 use Rattle.branch_tree.specs.Entries.{EachSplitOf}
 use Rattle.branch_tree.specs.Trees.{BranchTree}
-use Rattle.column_arena.specs.Columns.{column_of, no_column}
+use Rattle.column_arena.specs.Columns.{no_column}
 use Rattle.column_arena.specs.Legal.{IsLegalColumn}
 use Rattle.crew_num.specs.Exact.{IsOverflow}
 use Rattle.crew_num.specs.declared.Overflow.{Overflow as Fault}
 use Rattle.crew_terms.specs.Branches.{LeafNode, SplitNode, splits}
 use Rattle.crew_terms.specs.Instance.{Instance}
 use Rattle.crew_terms.specs.Leaf.{Prices}
-use Rattle.crew_terms.specs.Limits.{Limits, Route, root_limits, tasks_in}
+use Rattle.crew_terms.specs.Limits.{Limits, Route, root_limits}
 use Rattle.crew_terms.specs.Plan.{Plan, unassigned_count}
 use Rattle.crew_terms.specs.Tree.{child}
 use Rattle.crew_terms.specs.declared.Choice.{Choice}
@@ -24,7 +24,7 @@ use Rattle.handed_prices.specs.declared.handing.Handed.{Handed}
 use Rattle.keyed_tree.specs.Keyed.{Keyed}
 use Rattle.master_run.specs.Shares.{fractional_of, share_of}
 use Rattle.node_solver.specs.Causes.{cause_of}
-use Rattle.node_solver.specs.Loose.{AreHeld, HasHeld, IsShown}
+use Rattle.node_solver.specs.Loose.{HasHeld, IsShown}
 use Rattle.node_solver.specs.Plans.{IsBetterPlan}
 use Rattle.node_solver.specs.declared.step.NodeEnd.TheVariants as ends
 use Rattle.node_solver.specs.declared.step.Why.{Why}
@@ -32,7 +32,7 @@ use Rattle.node_solver.specs.declared.step.Why.TheVariants.{Loose, Overflow, Spe
 use Rattle.search_core.specs.Ordered.{cause_with}
 use Rattle.search_core.specs.Searching.{Searching, cause_at, price_at, state_of}
 use Rattle.search_core.specs.Settled.{IsPutClosed, IsPutSplit, number_of}
-use Rattle.search_core.specs.Shown.{AreShown, IsShownCause, IsShownNumber, IsShownWhy, ShowsLoose, numbered}
+use Rattle.search_core.specs.Shown.{AreShown, IsShownCause, IsShownNumber, IsShownWhy, numbered}
 use Rattle.search_core.specs.Steps.{after_step}
 use Rattle.search_core.specs.declared.causes.Cause.{Cause}
 use Rattle.search_terms.specs.Earned.{IsEarned}

@@ -1,18 +1,17 @@
 -- an open leaf of a search, as its fields have it
 use Rattle.std.proofs.Common.{◌≡◌, ◌≤◌, ◌<◌, ◌∙◌, [], ℕ, ℤ, List, length, get_or, ap, sym, subst, arith}
-use Rattle.std.specs.Prelude.{All, slice_index_or}
 use Rattle.std.proofs.lemmas.List.{get_or_default}
 use Rattle.std.proofs.lemmas.List.Elements.{All-get_or}
 use Rattle.crew_terms.specs.Instance.{Instance}
 use Rattle.crew_terms.specs.Leaf.{IsOnRequired, Prices}
-use Rattle.crew_terms.specs.Limits.{Limits, Route, root_limits, tasks_in}
-use Rattle.crew_terms.specs.Plan.{Plan, unassigned_count}
+use Rattle.crew_terms.specs.Limits.{Limits, root_limits, tasks_in}
+use Rattle.crew_terms.specs.Plan.{unassigned_count}
 use Rattle.keyed_steps.specs.States.{DecidesProved, HasLeaf, limits_of}
-use Rattle.keyed_tree.specs.Keyed.{IsKeyed, IsWaiting}
+use Rattle.keyed_tree.specs.Keyed.{IsWaiting}
 use Rattle.keyed_tree.specs.Numbers.{HasNumber}
 use Rattle.potentials.specs.Prices.{ArePricesOf}
-use Rattle.search_core.specs.Kept.{IsKept, searching}
-use Rattle.search_core.specs.Searching.{Searching, cause_at, price_at, state_of}
+use Rattle.search_core.specs.Kept.{IsKept}
+use Rattle.search_core.specs.Searching.{cause_at, price_at}
 use Rattle.search_core.specs.declared.searches.Search.TheInside.{Inside}
 use Rattle.search_terms.specs.Inside.{IsNode}
 use Rattle.search_terms.specs.Search.{IsKeepable}

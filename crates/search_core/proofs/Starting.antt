@@ -1,12 +1,11 @@
 -- a search as it begins
-use Rattle.std.proofs.Common.{◌≡◌, ◌≢◌, ◌≤◌, ◌∙◌, ◌⊎◌, inl, inr, ◌∷◌, [], ℕ, ℤ, zero, suc, List, None, Some, length, refl, ap, sym, subst, arith}
-use Rattle.std.specs.Prelude.{All}
+use Rattle.std.proofs.Common.{◌≡◌, ◌≢◌, ◌≤◌, ◌∙◌, ◌⊎◌, inl, inr, ◌∷◌, [], ℕ, ℤ, List, None, Some, refl, ap, sym, subst, arith}
 use Rattle.std.proofs.lemmas.Bool.{cases_eq, eq-eqb, ne_eqb}
 use Rattle.std.proofs.lemmas.List.Elements.{All-cons, All-nil}
 use Rattle.crew_terms.specs.Branches.{LeafNode}
 use Rattle.crew_terms.specs.Instance.{Instance}
 use Rattle.crew_terms.specs.Leaf.{Prices, zero_prices}
-use Rattle.crew_terms.specs.Limits.{Limits, Route, root_limits}
+use Rattle.crew_terms.specs.Limits.{Route, root_limits}
 use Rattle.crew_terms.specs.Plan.{Plan}
 use Rattle.crew_terms.specs.declared.Side.{Side}
 use Rattle.crew_terms.specs.declared.TheConstants.{MOST_NODES}

@@ -1,11 +1,11 @@
 -- parts of a step
-use Rattle.std.proofs.Common.{◌≡◌, ◌≢◌, ◌≤◌, ◌<◌, ◌+◌, ◌-◌, ◌*◌, ◌++◌, ◌∙◌, ◌∷◌, [], ℕ, ℤ, List, Option, None, Some, length, get_or, refl, ap, sym, subst, arith}
-use Rattle.std.specs.Prelude.{All, IfSome, slice_index_or, unwrap_or}
-use Rattle.std.proofs.lemmas.List.{append-nil, get_or_append_left, get_or_push, length-append, length-set}
+use Rattle.std.proofs.Common.{◌≡◌, ◌≤◌, ◌<◌, ◌+◌, ◌++◌, ◌∙◌, ◌∷◌, [], ℕ, ℤ, List, Option, None, Some, length, refl, ap, sym, subst, arith}
+use Rattle.std.specs.Prelude.{All, IfSome, unwrap_or}
+use Rattle.std.proofs.lemmas.List.{get_or_append_left, get_or_push, length-append}
 use Rattle.std.proofs.lemmas.List.Elements.{All-append, All-cons, All-nil}
 use Rattle.crew_terms.specs.Instance.{Instance}
 use Rattle.crew_terms.specs.Leaf.{Prices}
-use Rattle.crew_terms.specs.Limits.{Limits, Route, root_limits}
+use Rattle.crew_terms.specs.Limits.{Limits, Route}
 use Rattle.crew_terms.specs.Plan.{Plan, unassigned_count}
 use Rattle.handed_prices.specs.Handed.{prices_or}
 use Rattle.node_queue.specs.declared.Waiting.{Waiting}

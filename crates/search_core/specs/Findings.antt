@@ -1,6 +1,5 @@
 -- what a step finds in a node
-use Rattle.std.specs.Prelude.{◌≡◌, ◌≤◌, ℕ, List, IfSome}
-use Rattle.crew_terms.specs.Instance.{Instance}
+use Rattle.std.specs.Prelude.{◌≤◌, ℕ, List, IfSome}
 use Rattle.crew_terms.specs.Leaf.{Prices}
 use Rattle.crew_terms.specs.Limits.{Limits, Route}
 use Rattle.crew_terms.specs.declared.Choice.{Choice}

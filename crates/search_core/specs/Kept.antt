@@ -1,5 +1,5 @@
 -- what the fields of a search stand for, and what always holds of them
-use Rattle.std.specs.Prelude.{◌≡◌, ◌≤◌, ◌<◌, ◌+◌, ◌*◌, ℕ, List, [], length, All}
+use Rattle.std.specs.Prelude.{◌≡◌, ◌≤◌, ◌<◌, ◌+◌, ◌*◌, List, [], length, All}
 use Rattle.crew_terms.specs.Limits.{Route, root_limits}
 use Rattle.crew_terms.specs.declared.TheConstants.{MOST_NODES}
 use Rattle.keyed_steps.specs.States.{AreBoundsIn}

@@ -1,19 +1,19 @@
 -- a search, as contracts see it
-use Rattle.std.specs.Prelude.{ℕ, Option, None, Some, List, [], map, slice_index_or}
+use Rattle.std.specs.Prelude.{ℕ, Option, None, Some, List, slice_index_or}
 use Rattle.crew_terms.specs.Instance.{Instance}
 use Rattle.crew_terms.specs.Leaf.{Prices}
 use Rattle.crew_terms.specs.Limits.{Limits, Route, root_limits}
 use Rattle.crew_terms.specs.Plan.{Plan}
 use Rattle.crew_terms.specs.declared.Side.{Side}
 use Rattle.keyed_tree.specs.Keyed.{Keyed, IsKey}
-use Rattle.node_queue.specs.Waits.{found, keys_of}
+use Rattle.node_queue.specs.Waits.{found}
 use Rattle.node_queue.specs.declared.Waiting.{Waiting}
 use Rattle.node_solver.specs.Causes.{cause_of}
 use Rattle.node_solver.specs.declared.step.Why.TheVariants.{Spent}
 use Rattle.search_core.specs.declared.causes.Cause.{Cause}
 use Rattle.search_terms.specs.Search.{SearchState}
 use Rattle.search_terms.specs.SearchTree.{SplitCause}
-use Rattle.search_terms.specs.Ways.{limits_at, prices_at}
+use Rattle.search_terms.specs.Ways.{limits_at}
 use Rattle.search_tree.specs.Numbered.{tree_of, way_of}
 pub use Rattle.tree_outlines.specs.Outline.{price_at}
 

@@ -2,6 +2,7 @@
 ghost use Rattle.std.specs.Prelude.{◌≤◌, ◌<◌, List, IfNone, IfOk, IfSome};
 ghost use Rattle.crew_terms.specs.Limits.{Route as TeamRoute, root_limits};
 ghost use Rattle.crew_terms.specs.declared.TheConstants.{MOST_NODES};
+ghost use Rattle.node_queue.specs.Waits.{IsLeast};
 ghost use Rattle.search_core.specs.Searching.{IsOpenKey, state_of};
 ghost use Rattle.search_core.specs.Solved.{IsGrown};
 ghost use Rattle.search_core.specs.Steps.{IsDone, IsSolved};
@@ -15,10 +16,13 @@ use keyed_steps::least_bounds;
 use std::alloc::{AllocError, Global};
 
 impl<'i> Search<'i> {
-    /// The oldest open leaf of least bound, where a step is left and a better plan is not ruled out yet.
+    /// The oldest open leaf of least bound, where a step is left and a better plan is not ruled out yet; None where the search
+    /// is done.
     pub fn due(&self) -> Option<usize>
         ensures leaf { IfSome result (IsOpenKey self.now) }
+        ensures least { IfSome result (IsLeast self.now.keyed.waits) }
         ensures left { IfSome result (λ _. 0 < self.now.left) }
+        ensures better { (columns : List TeamRoute) → IfSome result (λ _. IsDone self.now.instance (state_of columns self.now) → ⊥) }
         ensures done { (columns : List TeamRoute) → IfNone result (IsDone self.now.instance (state_of columns self.now)) }
     {
         least_bounds();

@@ -1,4 +1,4 @@
-use Rattle.std.proofs.Common.{◌≡◌, sym, subst, arith}
+use Rattle.std.proofs.Common.{sym, subst, arith}
 use Rattle.crew_terms.specs.Leaf.{IsOnRequired, Prices}
 use Rattle.crew_terms.specs.Limits.{tasks_in}
 use Rattle.crew_terms.specs.Plan.{unassigned_count}

@@ -1,4 +1,4 @@
-use Rattle.std.proofs.Common.{◌≡◌, ◌∙◌, ◌++◌, [], List, Result, Ok, Err, ap, sym, subst, arith, rules, append_assoc}
+use Rattle.std.proofs.Common.{◌∙◌, ◌++◌, [], List, Result, Ok, Err, ap, sym, subst, arith, rules, append_assoc}
 use Rattle.std.specs.Prelude.{IfOk}
 use Rattle.std.proofs.lemmas.Grind.{common_steps}
 use Rattle.std.proofs.lemmas.List.{append-nil}

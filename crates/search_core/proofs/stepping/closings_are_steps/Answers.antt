@@ -1,5 +1,5 @@
-use Rattle.std.proofs.Common.{◌≡◌, ◌≢◌, ◌≤◌, ◌<◌, ◌+◌, ◌-◌, ◌*◌, ◌++◌, ◌∙◌, ◌∷◌, [], ℕ, ℤ, List, Some, length, refl, ap, sym, subst, append_assoc, arith}
-use Rattle.std.specs.Prelude.{All, unwrap_or}
+use Rattle.std.proofs.Common.{◌≡◌, ◌+◌, ◌-◌, ◌++◌, ◌∙◌, ◌∷◌, [], List, Some, length, refl, ap, sym, subst, append_assoc, arith}
+use Rattle.std.specs.Prelude.{unwrap_or}
 use Rattle.std.proofs.lemmas.List.{length-append, length-set}
 use Rattle.crew_terms.specs.Leaf.{Prices}
 use Rattle.crew_terms.specs.Limits.{Limits, Route, root_limits}
@@ -7,11 +7,8 @@ use Rattle.crew_terms.specs.Plan.{unassigned_count}
 use Rattle.crew_terms.specs.declared.Side.{Side}
 use Rattle.keyed_steps.specs.States.{limits_of, state_in}
 use Rattle.keyed_tree.specs.Numbers.{HaveNumbers}
-use Rattle.node_solver.specs.Plans.{now_after}
-use Rattle.potentials.specs.Prices.{ArePricesOf}
-use Rattle.search_core.specs.Kept.{IsKeptSearch}
 use Rattle.search_core.specs.Searching.{Searching, cause_at, price_at, state_of, way_to}
-use Rattle.search_core.specs.Steps.{IsKeyStep, after_step}
+use Rattle.search_core.specs.Steps.{after_step}
 use Rattle.search_terms.specs.Proven.{PricesProve}
 use Rattle.crew_terms.specs.Branches.{LeafNode}
 use Rattle.search_terms.specs.Caused.{AreLooseShown}
@@ -20,10 +17,10 @@ use Rattle.search_terms.specs.SearchTree.{ClosedLeaf, SearchTree}
 use Rattle.search_terms.specs.Ways.{replaced}
 use Rattle.search_tree.specs.declared.nodes.Content.TheVariants as content
 use Rattle.search_tree.specs.declared.nodes.Node.{Node}
-use Rattle.search_tree.specs.Numbered.{node_of, tree_of, way_of, with_content}
+use Rattle.search_tree.specs.Numbered.{node_of, tree_of, way_of}
 use Rattle.search_tree.specs.Ways.{turns_of}
 use Rattle.search_core.proofs.Exploring.{after_instance}
-use Rattle.search_core.proofs.StepLemmas.{handed_more, handed_shapes, improves, now_is, price_last, price_stays, same_shape, way_is}
+use Rattle.search_core.proofs.StepLemmas.{handed_shapes, improves, now_is, price_last, price_stays, same_shape, way_is}
 use Rattle.search_core.proofs.Showing.{shown_closed}
 use Rattle.search_core.proofs.stepping.closings_are_steps.Goals as goal
 

@@ -1,5 +1,5 @@
-use Rattle.std.proofs.Common.{◌≡◌, ◌≢◌, ◌≤◌, ◌<◌, ◌+◌, ◌-◌, ◌*◌, ◌++◌, ◌∙◌, ◌∷◌, [], ℕ, ℤ, List, length, refl, ap, sym, subst, append_assoc, arith}
-use Rattle.std.specs.Prelude.{All, unwrap_or}
+use Rattle.std.proofs.Common.{◌≡◌, ◌<◌, ◌+◌, ◌-◌, ◌++◌, ◌∙◌, ◌∷◌, [], ℕ, List, length, refl, ap, sym, subst, append_assoc, arith}
+use Rattle.std.specs.Prelude.{unwrap_or}
 use Rattle.std.proofs.lemmas.List.{length-append, length-set}
 use Rattle.crew_terms.specs.Leaf.{Prices}
 use Rattle.crew_terms.specs.Instance.{Instance}
@@ -10,7 +10,7 @@ use Rattle.crew_terms.specs.declared.Side.{Side}
 use Rattle.crew_terms.specs.declared.Side.TheVariants.{First, Second}
 use Rattle.handed_prices.specs.Handed.{prices_or}
 use Rattle.keyed_steps.specs.States.{DecidesProved, limits_of, state_in}
-use Rattle.keyed_tree.specs.Keyed.{CameFrom, Before, IsFirst, IsSecond}
+use Rattle.keyed_tree.specs.Keyed.{Before, IsFirst, IsSecond}
 use Rattle.keyed_tree.specs.Numbers.{HasNumber, HaveNumbers}
 use Rattle.node_solver.specs.Plans.{now_after}
 use Rattle.search_core.specs.Searching.{Searching, cause_at, price_at, split_cause, state_of, way_to}
@@ -26,9 +26,8 @@ use Rattle.search_terms.specs.Search.{IsHandedOn, IsSearchStep, IsSplit, Splits,
 use Rattle.search_terms.specs.SearchTree.{OpenLeaf, SearchTree, Split, SplitCause}
 use Rattle.search_terms.specs.Ways.{limits_at, prices_at, replaced}
 use Rattle.search_tree.specs.declared.nodes.Content.{Content}
-use Rattle.search_tree.specs.declared.nodes.Content.TheVariants as content
 use Rattle.search_tree.specs.declared.nodes.Node.{Node}
-use Rattle.search_tree.specs.Numbered.{leaf_below, node_of, tree_of, way_of, with_children}
+use Rattle.search_tree.specs.Numbered.{leaf_below, tree_of, way_of, with_children}
 use Rattle.search_tree.specs.Ways.{turns_of}
 use Rattle.search_core.proofs.Exploring.{after_instance}
 use Rattle.search_core.proofs.StepLemmas.{cause_last, cause_stays, earned_any, handed_known, handed_more, handed_price, handed_shapes, improves, now_is, price_stays, same_shape, way_is}

@@ -1,10 +1,8 @@
-use Rattle.std.proofs.Common.{◌≡◌, ◌≤◌, ◌∙◌, ℕ, ℤ, zero, suc, pos, sym, subst, arith, rules}
+use Rattle.std.proofs.Common.{◌≤◌, ℕ, ℤ, zero, suc, sym, subst, arith, rules}
 use Rattle.std.specs.Int.{w128}
-use Rattle.std.specs.Prelude.{FitsSigned, ◌*◌}
+use Rattle.std.specs.Prelude.{FitsSigned}
 use Rattle.std.proofs.lemmas.Int.{ints, to_z-of_z}
 use Rattle.crew_terms.specs.Leaf.{Proves}
-use Rattle.crew_terms.specs.Plan.{unassigned_count}
-use Rattle.crew_terms.specs.declared.TheConstants.{D}
 use Rattle.keyed_steps.specs.States.{IsLeastCount}
 use Rattle.search_core.specs.Kept.{searching}
 use Rattle.search_core.specs.Searching.{Searching, cause_at, price_at, state_of}

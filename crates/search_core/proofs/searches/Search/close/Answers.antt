@@ -1,8 +1,7 @@
-use Rattle.std.proofs.Common.{◌≡◌, ◌≤◌, ◌<◌, ◌∙◌, ◌+◌, [], ℕ, List, length, map, refl, ap, sym, subst, arith, rules}
+use Rattle.std.proofs.Common.{◌≡◌, ◌<◌, ◌∙◌, [], ℕ, List, length, map, refl, ap, sym, subst, arith, rules}
 use Rattle.std.specs.Prelude.{All, ◌==◌}
 use Rattle.branch_tree.specs.Entries.{EachSplitOf}
 use Rattle.branch_tree.specs.Trees.{preorder}
-use Rattle.crew_terms.specs.Branches.{splits}
 use Rattle.crew_terms.specs.Leaf.{Prices}
 use Rattle.crew_terms.specs.Limits.{Limits, root_limits}
 use Rattle.crew_terms.specs.Plan.{unassigned_count}
@@ -16,7 +15,6 @@ use Rattle.search_core.specs.Steps.{IsOutcome, IsShownOutcome}
 use Rattle.search_core.specs.declared.causes.Cause.{Cause}
 use Rattle.search_core.specs.declared.causes.Outcome.{Outcome}
 use Rattle.search_terms.specs.Search.{IsBound, best}
-use Rattle.search_terms.specs.SearchTree.{SplitCause}
 use Rattle.search_tree.specs.Numbered.{tree_of}
 use Rattle.tree_outlines.specs.Outline.{handed_out, outline_with}
 use Rattle.tree_outlines.specs.Visited.{HasPricesOf}

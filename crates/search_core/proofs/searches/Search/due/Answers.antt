@@ -1,11 +1,10 @@
-use Rattle.std.proofs.Common.{◌≡◌, ◌∙◌, ◌⊎◌, inl, inr, [], ℕ, Option, None, Some, sym, subst, arith, rules}
-use Rattle.std.specs.Prelude.{IfNone}
+use Rattle.std.proofs.Common.{◌≡◌, ◌≤◌, ◌∙◌, inl, inr, [], ℕ, Option, None, Some, ap, sym, subst, arith, rules}
+use Rattle.std.specs.Prelude.{IfNone, IfSome}
 use Rattle.std.proofs.lemmas.Grind.{common_steps}
-use Rattle.crew_terms.specs.Plan.{unassigned_count}
-use Rattle.search_core.specs.Kept.{searching}
+use Rattle.crew_terms.specs.Instance.{Instance}
 use Rattle.search_core.specs.Searching.{Searching, cause_at, price_at, state_of}
 use Rattle.search_core.specs.Steps.{IsDone}
-use Rattle.search_terms.specs.Search.{IsBound}
+use Rattle.search_terms.specs.Search.{IsBound, SearchState}
 use Rattle.search_core.proofs.searches.Search.due.Goals as goal
 
 none_follows : {X : Type 0} {A B : Type 0} (o : Option X) → (A → B) → IfNone o A → IfNone o B
@@ -30,3 +29,25 @@ returns-clause-done c = λ columns.
     subst (λ (s : Searching). IfNone c.least.result (IsDone s.instance (state_of columns s))) c.self.view_is
     (none_follows c.least.result (λ (none : a.keyed.waits ≡ []). inl (c.least_bounds.ensures.none i a.left (price_at a.prices.items)
     (cause_at columns a.causes.items) a.plan a.keyed c.len.ensures.keyed none)) c.least.ensures.none)
+
+-- a state has one bound
+one_bound : (i : Instance) (s : SearchState) (a b : ℕ) → IsBound i s a → IsBound i s b → a ≡ b
+one_bound i s a b x y = let p = x.greatest b y.proved in let q = y.greatest a x.proved in omega (arith, p, q)
+
+some_follows : {X A : Type 0} (o : Option X) → A → IfSome o (λ _. A)
+some_follows None a = tt
+some_follows (Some x) a = a
+
+pub returns-clause-better : goal.returns-clause-better
+returns-clause-better c = λ columns.
+    let a = c.self.inside in
+    let s = c.args.self.now in
+    let t = state_of columns s in
+    let left : 1 ≤ a.left = first_of (search rules, grind (arith, common_steps)) in
+    let same = ap (λ (x : Searching). x.left) c.self.view_is in
+    let apart : c.bound.result ≡ c.best.result → ⊥ = λ e. first_of (search rules, grind (arith, common_steps)) in
+    some_follows c.least.result (λ (done : IsDone s.instance t). elim done [
+      | inl is ↦ apart (one_bound s.instance t c.bound.result c.best.result (c.bound.ensures columns)
+          (subst (λ b. IsBound s.instance t b) (sym (c.best.ensures columns)) is))
+      | inr spent ↦ absurd (omega (arith, left, same, spent))
+    ])

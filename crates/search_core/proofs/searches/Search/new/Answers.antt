@@ -1,12 +1,12 @@
-use Rattle.std.proofs.Common.{◌≡◌, ◌∙◌, ◌∷◌, ◌++◌, [], ℕ, ℤ, List, ap, refl, sym, subst, arith, rules}
+use Rattle.std.proofs.Common.{◌≡◌, ◌∙◌, ◌∷◌, ◌++◌, [], ℤ, List, ap, refl, sym, subst, arith, rules}
 use Rattle.std.specs.Int.{w128}
 use Rattle.std.specs.Prelude.{FitsSigned}
 use Rattle.std.proofs.lemmas.Int.{to_z-of_z}
 use Rattle.crew_terms.specs.Instance.{Instance}
 use Rattle.crew_terms.specs.Leaf.{Prices, zero_prices}
-use Rattle.crew_terms.specs.Limits.{Limits, Route, root_limits}
+use Rattle.crew_terms.specs.Limits.{Limits, root_limits}
 use Rattle.keyed_steps.specs.States.{DecidesProved}
-use Rattle.keyed_tree.specs.Keyed.{Keyed, keyed_root}
+use Rattle.keyed_tree.specs.Keyed.{keyed_root}
 use Rattle.label_pricing.specs.Pricing.{HasRoom}
 use Rattle.node_limits.specs.Trail.{Trail}
 use Rattle.potentials.specs.Prices.{ArePricesOf}

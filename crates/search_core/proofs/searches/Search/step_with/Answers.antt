@@ -1,11 +1,11 @@
-use Rattle.std.proofs.Common.{◌≡◌, ◌≤◌, ◌<◌, ◌∙◌, ◌-◌, [], ℕ, ℤ, List, Option, length, ap, refl, sym, subst, arith, rules}
+use Rattle.std.proofs.Common.{◌≡◌, ◌≤◌, ◌<◌, ◌∙◌, ◌-◌, [], ℕ, ℤ, List, ap, refl, sym, subst, rules}
 use Rattle.std.specs.Int.{w128}
 use Rattle.std.specs.Prelude.{FitsSigned}
 use Rattle.std.proofs.lemmas.Int.{to_z-of_z}
 use Rattle.std.proofs.lemmas.List.{get_or_default}
 use Rattle.crew_terms.specs.Leaf.{IsOnRequired, Prices}
 use Rattle.crew_terms.specs.Limits.{Limits, Route, root_limits, tasks_in}
-use Rattle.crew_terms.specs.Plan.{Plan, unassigned_count}
+use Rattle.crew_terms.specs.Plan.{unassigned_count}
 use Rattle.crew_terms.specs.declared.Choice.{Choice}
 use Rattle.handed_prices.specs.declared.handing.Handed.{Handed}
 use Rattle.keyed_steps.specs.States.{DecidesProved, HasLeaf, limits_of}
@@ -15,7 +15,7 @@ use Rattle.node_solver.specs.declared.step.Why.{Why}
 use Rattle.potentials.specs.Prices.{ArePricesOf}
 use Rattle.search_core.specs.Findings.{IsClosing, IsEnding, IsFinding, IsHandedSplit}
 use Rattle.search_core.specs.Kept.{IsKeptSearch, searching}
-use Rattle.search_core.specs.Searching.{Searching, cause_at, limits_of_key, price_at, state_of, way_to}
+use Rattle.search_core.specs.Searching.{Searching, cause_at, limits_of_key, price_at, state_of}
 use Rattle.search_core.specs.Settled.{IsPut, IsPutClosed, IsPutSplit}
 use Rattle.search_core.specs.Steps.{IsKeyStep, after_step}
 use Rattle.search_core.specs.declared.causes.Cause.{Cause}
@@ -26,7 +26,7 @@ use Rattle.search_core.specs.declared.searches.Search.TheInside.{Inside}
 use Rattle.search_terms.specs.Inside.{IsNode}
 use Rattle.search_terms.specs.Search.{Extends}
 use Rattle.search_terms.specs.Ways.{limits_at}
-use Rattle.search_tree.specs.Numbered.{tree_of, way_of}
+use Rattle.search_tree.specs.Numbered.{tree_of}
 use Rattle.search_tree.specs.Ways.{limits_after}
 use Rattle.search_core.proofs.Keeping.{kept_with, same_search, search_of}
 use Rattle.search_core.proofs.Sites.{IsSite, own_known, site, site_limits, site_turns}
