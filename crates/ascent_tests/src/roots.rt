@@ -1,9 +1,6 @@
 // Ascents at the roots of small instances: what the prices prove there.
-use crew_fixtures::{
-    gate_instance, hardly_overlapping, lacking_skill, numbered, task, team, two_at_once,
-};
+use crew_fixtures::{crowded_hours, hardly_overlapping, lacking_skill, two_at_once};
 use crew_instance::Instance;
-use crew_terms::Task;
 use node_limits::Limits;
 use potentials::Prices;
 use price_ascent::{Effort, ascend, average_uses};
@@ -55,22 +52,6 @@ fn shares_of_two_routes(rt: HostRuntime) -> Result<(), Fail> {
         assert_eq!(rt; proved, 0);
     }
     Ok(())
-}
-
-/// Twelve tasks of half an hour, four each at 07:00, 08:00 and 09:00 alone, for three teams.
-fn crowded_hours(alloc: Global) -> Result<Instance, Fail> {
-    let teams = [team(b"T1")?, team(b"T2")?, team(b"T3")?];
-    let mut tasks: Vec<Task> = Vec::with_capacity(alloc, 12)?;
-    for n in 0..12 {
-        let at = 420 + n / 4 * 60;
-        tasks.push(Task {
-            name: numbered(n)?,
-            earliest: at,
-            latest: at,
-            ..task(b"A")?
-        })?;
-    }
-    Ok(gate_instance(alloc, &teams, &tasks)?)
 }
 
 #[test]

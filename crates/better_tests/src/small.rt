@@ -2,7 +2,7 @@
 ghost use Rattle.std.specs.Prelude.{IfOk};
 ghost use Rattle.crew_terms.specs.Legal.{IsLegal};
 
-use crew_fixtures::{gate_builder, gate_instance, task, team};
+use crew_fixtures::{crowded_hours, gate_builder, task, team};
 use crew_instance::{Builder, Instance, Plan, unassigned};
 use crew_terms::{D, Task};
 use node_limits::Limits;
@@ -23,20 +23,7 @@ fn effort(iterations: u32, enough: u32) -> Effort<'static> {
 
 #[test]
 fn leaves_three_of_twelve(rt: HostRuntime) -> Result<(), Fail> {
-    let names: [&[u8]; 12] = [
-        b"A", b"B", b"C", b"D", b"E", b"F", b"G", b"H", b"I", b"J", b"K", b"L",
-    ];
-    let mut tasks = [task(b"A")?; 12];
-    for n in 0..12 {
-        let hour = 420 + 60 * (n as u32 / 4);
-        tasks[n] = Task {
-            earliest: hour,
-            latest: hour,
-            ..task(names[n])?
-        };
-    }
-    let teams = [team(b"T1")?, team(b"T2")?, team(b"T3")?];
-    let day = gate_instance(rt.alloc(), &teams, &tasks)?;
+    let day = crowded_hours(rt.alloc())?;
     let plan = greedy(rt.alloc(), &day)?;
     let found = better(rt.alloc(), &day, &plan, effort(100, 0))?;
     assert!(rt; unassigned(&found) == 3);

@@ -15,7 +15,8 @@ pub use asked::{frozen_at, is_qualified, minutes_between, place_at, task_at, tea
 pub use builders::{builder_of, builder_of_places, far_builder, gate_builder, gate_instance};
 pub use faults::FixtureFault;
 pub use instances::{
-    far_gates, hardly_overlapping, joint_task, lacking_skill, no_tasks, one_task, two_at_once,
+    crowded_hours, far_gates, hardly_overlapping, joint_task, lacking_skill, no_tasks, one_task,
+    there_and_back, two_at_once,
 };
 pub use parts::{gate_task, name, numbered, task, team, visit};
 pub use plans::{Job, is_plan_of, plan_of};

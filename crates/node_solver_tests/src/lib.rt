@@ -6,8 +6,6 @@ mod asked;
 #[cfg(test)]
 mod asserts;
 #[cfg(test)]
-mod days;
-#[cfg(test)]
 mod runs;
 #[cfg(test)]
 mod steps;

@@ -7,9 +7,8 @@ use crate::asked::{
     scout_alone, step_of,
 };
 use crate::asserts::same;
-use crate::days::{crowded_hours, there_and_back};
 use column_arena::{Columns, VecColumns};
-use crew_fixtures::{hardly_overlapping, one_task, two_at_once};
+use crew_fixtures::{crowded_hours, hardly_overlapping, one_task, there_and_back, two_at_once};
 use crew_instance::Instance;
 use crew_terms::{Choice, Pair};
 use node_limits::Limits;

@@ -5,7 +5,10 @@ use crate::answers::{answer, assert_answer};
 use cert_write::{Parts, write_dossier};
 use column_arena::VecColumns;
 use crew_cli::run::Status;
-use crew_fixtures::{Shown, hardly_overlapping, two_at_once};
+use crew_fixtures::{
+    Shown, crowded_hours, far_gates, hardly_overlapping, joint_task, lacking_skill, no_tasks,
+    one_task, there_and_back, two_at_once,
+};
 use crew_instance::Instance;
 use crew_io::sink::MemSink;
 use search_core::{AscentEffort, Effort, Outcome, ScoutEffort, Search};
@@ -71,7 +74,7 @@ fn dossier_with(alloc: Global, instance: &Instance, pivots: u32) -> Result<Vec<u
         tree: &outcome.tree,
         causes: &causes,
     };
-    let mut out = MemSink::new(alloc, 4000, 4096, Vec::new(alloc))?;
+    let mut out = MemSink::new(alloc, 100_000, 4096, Vec::new(alloc))?;
     write_dossier(alloc, &mut out, &parts)?;
     Ok(out.got().to_vec(alloc)?)
 }
@@ -91,7 +94,25 @@ fn assert_good(rt: &impl Abort, alloc: Global, instance: &Instance) -> Result<()
 fn dossiers_of_few_pivots_are_good(rt: HostRuntime) -> Result<(), Fail> {
     let alloc = rt.alloc();
     assert_good(&rt, alloc, &hardly_overlapping(alloc, 480)?)?;
-    assert_good(&rt, alloc, &two_at_once(alloc)?)
+    assert_good(&rt, alloc, &hardly_overlapping(alloc, 450)?)?;
+    assert_good(&rt, alloc, &two_at_once(alloc)?)?;
+    assert_good(&rt, alloc, &lacking_skill(alloc)?)
+}
+
+#[test]
+fn dossiers_of_few_pivots_where_a_plan_does_all(rt: HostRuntime) -> Result<(), Fail> {
+    let alloc = rt.alloc();
+    assert_good(&rt, alloc, &no_tasks(alloc)?)?;
+    assert_good(&rt, alloc, &one_task(alloc)?)?;
+    assert_good(&rt, alloc, &joint_task(alloc)?)?;
+    assert_good(&rt, alloc, &far_gates(alloc)?)
+}
+
+#[test]
+fn dossiers_of_few_pivots_over_more_tasks(rt: HostRuntime) -> Result<(), Fail> {
+    let alloc = rt.alloc();
+    assert_good(&rt, alloc, &crowded_hours(alloc)?)?;
+    assert_good(&rt, alloc, &there_and_back(alloc)?)
 }
 
 /// What `crew check` says of a dossier whose splits tell that their pivots were spent.

@@ -1,6 +1,6 @@
 // Plans from nothing, from uses, and from a plan.
 use crew_fixtures::{
-    builder_of, far_builder, gate_instance, gate_task, hardly_overlapping, joint_task, task, team,
+    builder_of, crowded_hours, far_builder, gate_task, hardly_overlapping, joint_task, task, team,
     two_at_once,
 };
 use crew_instance::{Builder, unassigned};
@@ -111,20 +111,7 @@ fn covers_all_before_the_move_and_three_after_it(rt: HostRuntime) -> Result<(), 
 
 #[test]
 fn leaves_three_of_twelve(rt: HostRuntime) -> Result<(), Fail> {
-    let names: [&[u8]; 12] = [
-        b"A", b"B", b"C", b"D", b"E", b"F", b"G", b"H", b"I", b"J", b"K", b"L",
-    ];
-    let mut tasks = [task(b"A")?; 12];
-    for n in 0..12 {
-        let hour = 420 + 60 * (n as u32 / 4);
-        tasks[n] = Task {
-            earliest: hour,
-            latest: hour,
-            ..task(names[n])?
-        };
-    }
-    let teams = [team(b"T1")?, team(b"T2")?, team(b"T3")?];
-    let day = gate_instance(rt.alloc(), &teams, &tasks)?;
+    let day = crowded_hours(rt.alloc())?;
     assert!(rt; unassigned(&greedy(rt.alloc(), &day)?) == 3);
     Ok(())
 }

@@ -138,7 +138,8 @@ fn instance_of(
     requires teams { teams ≤ MOST_TEAMS }
     requires tasks { tasks ≤ MOST_TASKS }
     requires nodes { nodes ≤ MOST_NODES }
-    ensures instance { IfOk result (λ instance. instance ≡ day_instance (state_after [] (generated_day number teams tasks nodes))) }
+    ensures instance { IfOk result (λ instance. instance ≡
+        day_instance (state_after [] (generated_day number teams tasks nodes))) }
     ensures err { IfErr result (λ fault. fault ≡ ChangeFault.OutOfMemory) }
 {
     generated_days_are_taken();

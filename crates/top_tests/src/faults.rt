@@ -6,7 +6,7 @@ use crate::asserts::{holds_at, same, same_at};
 use crate::days::{DAY, crlf_text};
 use crew_cli::run::{Status, run};
 use crew_cli::steady::{run_in_memory, run_steady};
-use crew_fixtures::dossiers::{ONE_TASK, WITH_POOL};
+use crew_fixtures::dossiers::{ONE_TASK, TOGETHER, WITH_POOL};
 use crew_fixtures::{joined, text_of};
 use crew_io::sink::{MemSink, SteadySink};
 use crew_io::source::{MemSource, SteadySource};
@@ -192,6 +192,19 @@ fn a_day_in_pieces(rt: HostRuntime) -> Result<(), Fail> {
     assert_tells(&rt, rt.alloc(), "apply", &day, 16, reads)?;
     let reads = reads_to_the_end(day.len(), 1);
     assert_tells(&rt, rt.alloc(), "apply", &day, 1, reads)
+}
+
+#[test]
+fn rosters_in_pieces(rt: HostRuntime) -> Result<(), Fail> {
+    let alloc = rt.alloc();
+    let both = joined(
+        alloc,
+        &[&text_of(alloc, WITH_POOL)?, &text_of(alloc, TOGETHER)?],
+    )?;
+    let reads = reads_to_the_end(both.len(), 16);
+    assert_tells(&rt, alloc, "rosters", &both, 16, reads)?;
+    let reads = reads_to_the_end(both.len(), 1);
+    assert_tells(&rt, alloc, "rosters", &both, 1, reads)
 }
 
 /// The words of `crew check`.
