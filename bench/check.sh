@@ -3,7 +3,7 @@
 # with the greatest instance, of those of a small airport, and of the smallest there are; a leaf of the greatest day, with
 # all its potentials, three numbers for each task or one for each minute, in both forms; and a pool, a deep tree in form 1, and
 # one in form 2 each of whose splits shows a loose cause, of half the size and of the whole. With words: only these of them,
-# as leaf_runs.
+# as leaf_runs; or trees_counted, which counts instructions of smaller such trees, and wants valgrind.
 set -eu
 here=$(cd "$(dirname "${BASH_SOURCE[0]}")" && pwd)
 . "$here/timing.sh"
@@ -197,6 +197,16 @@ trees_loose() {
   for many in 50000 100000; do
     deep_loose "$many" >"$made/one"
     ratios "a tree of depth $many with loose causes, of 128 shares each" "$made/one" "$crew" check
+  done
+}
+# instructions of `crew check` in place of seconds, by valgrind: they are the same whatever else the machine does
+trees_counted() {
+  local counted
+  for many in 2500 5000 10000; do
+    deep_loose "$many" >"$made/one"
+    counted=$(valgrind --tool=callgrind --callgrind-out-file=/dev/null "$crew" check <"$made/one" 2>&1 >/dev/null |
+      awk '/Collected/ { print $NF }')
+    echo "a tree of depth $many with loose causes: $counted instructions, $((counted / many)) a split"
   done
 }
 

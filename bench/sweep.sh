@@ -4,7 +4,7 @@
 # gets its yes, with a bound not above what the plan leaves unassigned; with status 0 each bound is what the plan leaves, and
 # where one is not, the whole budget was used. That a plan has the jobs that are frozen is a rule of `check`. Words: the first
 # seed, or 0, and how many days, or 1000. It prints the seed of what it stops at, and at the end how many days, refusals and
-# dossiers there were, and how many of these were proved.
+# dossiers there were, how many of these were proved, and the causes of their splits.
 set -u
 here=$(cd "$(dirname "${BASH_SOURCE[0]}")" && pwd)
 . "$here/timing.sh"
@@ -16,6 +16,7 @@ trap 'rm -rf "$at"' EXIT
 dossiers=0
 refused=0
 proved=0
+: >"$at/causes"
 
 # stop SEED WORDS..: tells what went wrong, and where
 stop() {
@@ -48,5 +49,7 @@ for ((seed = first; seed < first + count; seed++)); do
   [ -z "$told" ] || stop "$seed" "$told"
   dossiers=$((dossiers + $(wc -l <"$at/lines")))
   proved=$((proved + $(awk '$3 == $5' "$at/lines" | wc -l)))
+  awk '$1 == "why" { print $2, $2 == "overflow" ? $4 : "" }' "$at/dossiers" >>"$at/causes"
 done
-echo "seeds $first to $((first + count - 1)): $count days, $refused of them refused at a record, $dossiers dossiers, $proved of them proved"
+echo "seeds $first to $((first + count - 1)): $count days, $refused of them refused at a record, $dossiers dossiers, $proved of them proved; splits by cause:"
+sort "$at/causes" | uniq -c

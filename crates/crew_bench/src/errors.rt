@@ -1,4 +1,5 @@
 // Why a measurement comes to nothing.
+use crew_instance::BuildFault;
 use flight_changes::ChangeFault;
 use std::alloc::AllocError;
 use std::io;
@@ -7,7 +8,7 @@ use thiserror::Error;
 /// Why a measurement comes to nothing.
 #[derive(Debug, Error, Drop)]
 pub enum BenchError {
-    #[error("the words are: plan, pricing, ascent, master, solve, root, columns, using or legal, a day's number, teams, tasks, a count")]
+    #[error("the words are: plan, pricing, widest, ascent, master, solve, root, again, columns, using or legal, a day's number, teams, tasks, a count")]
     Words,
     #[error("there is no memory")]
     Memory,
@@ -25,6 +26,12 @@ impl From<AllocError> for BenchError {
 
 impl From<ChangeFault> for BenchError {
     fn from(_: ChangeFault) -> BenchError {
+        BenchError::Day
+    }
+}
+
+impl From<BuildFault> for BenchError {
+    fn from(_: BuildFault) -> BenchError {
         BenchError::Day
     }
 }

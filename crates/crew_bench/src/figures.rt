@@ -55,6 +55,12 @@ pub enum Figures {
         pivots: u32,
         end: RootEnd,
     },
+    /// What the first and the second search for a plan at a root leave unassigned, and what the prices between prove.
+    Again {
+        first: u32,
+        second: u32,
+        proved: u32,
+    },
     /// How many columns were added, and how many are held.
     Columns {
         added: u32,
@@ -120,6 +126,11 @@ impl fmt::Display for Figures {
                 pivots,
                 end,
             } => write!(f, "rounds {first} again {again} pivots {pivots} {end:?}"),
+            Figures::Again {
+                first,
+                second,
+                proved,
+            } => write!(f, "first {first} second {second} proved {proved}"),
             Figures::Columns { added, held } => write!(f, "columns {added} held {held}"),
             Figures::Using { times, numbers } => write!(f, "times {times} numbers {numbers}"),
             Figures::Legal {

@@ -9,6 +9,7 @@ mod figures;
 mod roots;
 mod searches;
 mod tasks;
+mod widest;
 mod words;
 
 use errors::BenchError;

@@ -1,4 +1,6 @@
-// The step at a root: how it ends, the rounds of its ascents, and the pivots of its master's run.
+// The step at a root: its searches for plans, the rounds of its ascents, the pivots of its master's run, and how it ends.
+ghost use Rattle.std.specs.Prelude.{IfOk};
+ghost use Rattle.crew_terms.specs.Leaf.{IsOnRequired};
 ghost use Rattle.potentials.specs.Prices.{ArePricesOf};
 
 use crate::figures::{Figures, RootEnd};
@@ -71,12 +73,37 @@ fn suggested(alloc: Global, limits: &Limits<'_>, found: &Ascended) -> Result<Pla
     better(alloc, instance, &plan, effort)
 }
 
+/// What the step's first search for a plan leaves unassigned.
+fn first_goal(alloc: Global, limits: &Limits<'_>) -> Result<u32, AllocError> {
+    Ok(unassigned(&planned(alloc, limits.instance(), DAY_EFFORT.iterations)?))
+}
+
+/// The step's first ascent, which aims at so many unassigned tasks.
+fn first_ascent(alloc: Global, limits: &Limits<'_>, goal: u32) -> Result<Ascended, AllocError>
+    ensures prices { IfOk result (λ a. ArePricesOf limits.now.limits a.prices) }
+    ensures required { IfOk result (λ a. IsOnRequired limits.now.limits a.prices) }
+{
+    let start = Prices::zero(alloc, limits)?;
+    ascend(alloc, limits, start, goal, DAY_EFFORT.root)
+}
+
+/// What the step's first search for a plan leaves unassigned, and what its second one leaves, which goes on from the routes and
+/// the prices of the first ascent.
+pub fn planned_again(alloc: Global, limits: &Limits<'_>) -> Result<Figures, AllocError> {
+    let first = first_goal(alloc, limits)?;
+    let found = first_ascent(alloc, limits, first)?;
+    let second = unassigned(&suggested(alloc, limits, &found)?);
+    Ok(Figures::Again {
+        first,
+        second,
+        proved: found.proved,
+    })
+}
+
 /// The rounds of the step's ascents: they are made again as the step makes them.
 fn rounds_of(alloc: Global, limits: &Limits<'_>) -> Result<Rounds, AllocError> {
-    let instance = limits.instance();
-    let goal = unassigned(&planned(alloc, instance, DAY_EFFORT.iterations)?);
-    let start = Prices::zero(alloc, limits)?;
-    let first = ascend(alloc, limits, start, goal, DAY_EFFORT.root)?;
+    let goal = first_goal(alloc, limits)?;
+    let first = first_ascent(alloc, limits, goal)?;
     let rounds = first.rounds;
     if first.proved >= goal {
         return Ok(Rounds {

@@ -8,8 +8,9 @@ use crate::columns::{added, asked, filtered};
 use crate::days::instance_of;
 use crate::errors::BenchError;
 use crate::figures::{Ending, Figures};
-use crate::roots::root;
+use crate::roots::{planned_again, root};
 use crate::searches::searched;
+use crate::widest::widest;
 use crate::words::{Kind, Work};
 use column_arena::{Columns, VecColumns};
 use crew_instance::{Instance, Plan, unassigned};
@@ -145,15 +146,19 @@ fn run(alloc: Global, limits: &Limits<'_>, pivots: u32) -> Result<Figures, Alloc
 
 /// Does the work, and gives its figures.
 pub fn done(alloc: Global, work: &Work) -> Result<Figures, BenchError> {
-    let instance = instance_of(alloc, work.day, work.teams, work.tasks)?;
+    let instance = match work.kind {
+        Kind::Widest => widest(alloc, work.teams, work.tasks)?,
+        _ => instance_of(alloc, work.day, work.teams, work.tasks)?,
+    };
     let mut limits = Limits::root(alloc, &instance)?;
     let figures = match work.kind {
         Kind::Plan => plan(alloc, &instance, work.count)?,
-        Kind::Pricing => pricing(alloc, &limits, work.count)?,
+        Kind::Pricing | Kind::Widest => pricing(alloc, &limits, work.count)?,
         Kind::Ascent => ascent(alloc, &limits, work.count)?,
         Kind::Master => run(alloc, &limits, work.count)?,
         Kind::Solve => searched(alloc, &instance, work.count)?,
         Kind::Root => root(alloc, &limits, work.count)?,
+        Kind::Again => planned_again(alloc, &limits)?,
         Kind::Columns => added(alloc, &instance, work.count)?,
         Kind::Using => asked(alloc, &instance, work.count)?,
         Kind::Legal => filtered(alloc, &mut limits, work.count)?,

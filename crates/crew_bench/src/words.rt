@@ -12,6 +12,8 @@ pub enum Kind {
     Plan,
     /// The worths of all teams.
     Pricing,
+    /// The same over the widest day in place of a generated one.
+    Widest,
     /// Prices that rise from zero.
     Ascent,
     /// The run of the master over routes of an ascent.
@@ -20,6 +22,8 @@ pub enum Kind {
     Solve,
     /// The step at the root.
     Root,
+    /// The two searches for a plan at the root.
+    Again,
     /// Columns that are added.
     Columns,
     /// The columns of each team and task.
@@ -45,10 +49,12 @@ fn kind_of(word: &str) -> Option<Kind> {
     match word {
         "plan" => Some(Kind::Plan),
         "pricing" => Some(Kind::Pricing),
+        "widest" => Some(Kind::Widest),
         "ascent" => Some(Kind::Ascent),
         "master" => Some(Kind::Master),
         "solve" => Some(Kind::Solve),
         "root" => Some(Kind::Root),
+        "again" => Some(Kind::Again),
         "columns" => Some(Kind::Columns),
         "using" => Some(Kind::Using),
         "legal" => Some(Kind::Legal),
