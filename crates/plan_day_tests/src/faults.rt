@@ -3,6 +3,7 @@ ghost use Rattle.std.specs.Prelude.{◌≤◌};
 
 use crate::answers::{answer_over, holds_at};
 use crate::days::{JOINT_TASK, ONE_TASK};
+use crate::rounds::CANCELLED;
 use crew_cli::run::Status;
 use std::alloc::Global;
 use std::process::Abort;
@@ -53,7 +54,7 @@ fn tells_writes(alloc: Global, day: &[u8], piece: usize) -> Result<bool, Fail>
 fn assert_tells(rt: &impl Abort, alloc: Global, piece: usize) -> Result<(), Fail>
     requires { 1 ≤ piece }
 {
-    for day in [ONE_TASK, JOINT_TASK] {
+    for day in [ONE_TASK, JOINT_TASK, CANCELLED] {
         holds_at(rt, tells_reads(alloc, day, piece)?, &piece);
         holds_at(rt, tells_writes(alloc, day, piece)?, &piece);
     }

@@ -264,7 +264,7 @@ fn the_same_day_again(rt: HostRuntime) -> Result<(), Fail> {
 }
 
 /// A day with CRLF and a quoted field. In its second round A is cancelled, and B may begin later.
-const CANCELLED: &[u8] = b"place,BASE\r
+pub const CANCELLED: &[u8] = b"place,BASE\r
 place,G1\r
 travel,BASE,G1,10\r
 team,\"T1\",BASE,06:00,14:00,\r
