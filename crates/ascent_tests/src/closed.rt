@@ -16,7 +16,8 @@ fn proved_of_day(alloc: Global, number: u64, goal: u32) -> Result<u32, Fail> {
     let start = Prices::zero(alloc, &limits)?;
     let effort = Effort {
         rounds: 500,
-        step: 256,
+        step: 192,
+        block: 7,
         looks: 1_000_000_000,
     };
     Ok(ascend(alloc, &limits, start, goal, effort)?.proved)

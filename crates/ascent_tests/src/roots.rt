@@ -10,7 +10,8 @@ use std::test::Fail;
 /// The effort of an ascent at a root.
 const ROOT: Effort = Effort {
     rounds: 500,
-    step: 256,
+    step: 192,
+    block: 7,
     looks: 100_000_000,
 };
 

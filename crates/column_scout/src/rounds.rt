@@ -20,6 +20,7 @@ const LEAST_SHARE: u32 = 40;
 pub(crate) const ONE_LOOK: AscentEffort = AscentEffort {
     rounds: 0,
     step: 0,
+    block: 0,
     looks: 0,
 };
 

@@ -84,7 +84,13 @@ fn first_ascent(alloc: Global, limits: &Limits<'_>, goal: u32) -> Result<Ascende
     ensures required { IfOk result (λ a. IsOnRequired limits.now.limits a.prices) }
 {
     let start = Prices::zero(alloc, limits)?;
-    ascend(alloc, limits, start, goal, DAY_EFFORT.root)
+    ascend(
+        alloc,
+        limits,
+        start,
+        goal,
+        DAY_EFFORT.ascent_at(0, limits.instance().tasks()),
+    )
 }
 
 /// What the step's first search for a plan leaves unassigned, and what its second one leaves, which goes on from the routes and

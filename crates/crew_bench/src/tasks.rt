@@ -22,10 +22,8 @@ use plan_builder::greedy;
 use plan_search::{Effort as SearchEffort, better};
 use potentials::Prices;
 use price_ascent::{Ascended, Effort, FoundRoute, ascend};
+use search_core::DAY_EFFORT;
 use std::alloc::{AllocError, Global};
-
-/// So long are the first steps of an ascent at the root, in 1/256 of what would close the gap.
-const ROOT_STEP: u32 = 256;
 
 /// So many rounds an ascent makes at the root.
 const ROOT_ROUNDS: u32 = 500;
@@ -68,8 +66,8 @@ fn risen(alloc: Global, limits: &Limits<'_>, goal: u32, rounds: u32) -> Result<A
     let start = Prices::zero(alloc, limits)?;
     let effort = Effort {
         rounds,
-        step: ROOT_STEP,
         looks: u64::MAX,
+        ..DAY_EFFORT.ascent_at(0, limits.instance().tasks())
     };
     ascend(alloc, limits, start, goal, effort)
 }

@@ -36,6 +36,7 @@ pub struct Outcome {
 const NO_ROUNDS: AscentEffort = AscentEffort {
     rounds: 0,
     step: 256,
+    block: 10,
     looks: u64::MAX,
 };
 

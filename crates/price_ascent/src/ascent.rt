@@ -20,11 +20,13 @@ use std::collections::VecDeque;
 use std::mem;
 
 /// How much work an ascent may do: so many rounds, steps that begin with this length, in 1/256 of what would close the
-/// gap, and so many looks at what a team can earn from a place at a minute, though one round at least.
+/// gap, and are shortened by a block of so many rounds that doesn't raise the bound, and so many looks at what a team can
+/// earn from a place at a minute, though one round at least.
 #[derive(Clone, Copy, Debug)]
 pub struct Effort {
     pub rounds: u32,
     pub step: u32,
+    pub block: u32,
     pub looks: u64,
 }
 
@@ -99,7 +101,8 @@ pub fn ascend(
     let mut bound = sight.look(alloc, limits, &start, 0, &mut slopes)?;
     let mut best = start;
     let mut most = bound;
-    let mut pace = Pace::new(effort.step);
+    let mut pace = Pace::new(effort.step, effort.block);
+    pace.take(bound);
     let mut made = 0;
     let rounds = rounds_within(effort, sight.looks_of_round(limits));
     for round in 0..rounds {

@@ -2,14 +2,13 @@
 
 use crew_terms::D;
 
-// Rounds between two looks at how the bound has risen.
-const BLOCK: u32 = 10;
-
 /// The length of an ascent's steps, in 1/256 of what would close the gap to its goal in a straight line; it shrinks
 /// where the bound doesn't rise (B. T. Polyak, Minimization of unsmooth functionals, 1969).
 #[derive(Drop)]
 pub(crate) struct Pace {
     step: u32,
+    // Rounds between two looks at how the bound has risen, and those since the last look.
+    block: u32,
     rounds: u32,
     // The greatest bounds of this block of rounds, and of the one before.
     here: i128,
@@ -17,10 +16,11 @@ pub(crate) struct Pace {
 }
 
 impl Pace {
-    /// The pace of an ascent that begins with steps of this length.
-    pub(crate) fn new(step: u32) -> Pace {
+    /// The pace of an ascent that begins with steps of this length, and looks at them after each block of so many rounds.
+    pub(crate) fn new(step: u32, block: u32) -> Pace {
         Pace {
             step,
+            block,
             rounds: 0,
             here: i128::MIN,
             before: i128::MIN,
@@ -36,7 +36,7 @@ impl Pace {
     pub(crate) fn take(&mut self, bound: i128) {
         self.here = self.here.max(bound);
         self.rounds = self.rounds.saturating_add(1);
-        if self.rounds < BLOCK {
+        if self.rounds < self.block {
             return;
         }
         let least = self.before.saturating_add(i128::from(D) / 256);

@@ -36,12 +36,12 @@ impl<'i> Search<'i> {
         closings_are_steps();
         splits_are_steps();
         // It is known from here on that the limits are of an instance.
-        let _ = self.limits.instance();
+        let tasks = self.limits.instance().tasks();
         let alloc = *self.prices.allocator();
         let leaf = self.keyed.leaf(key);
         let turns = self.keyed.turns(alloc, leaf.node)?;
         let best = unassigned(&self.plan);
-        let effort = self.effort.at(leaf.node, pivots);
+        let effort = self.effort.at(leaf.node, tasks, pivots);
         let own = &self.prices[leaf.prices as usize];
         let Finding { plan, ending } = explore(
             alloc,

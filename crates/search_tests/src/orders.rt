@@ -10,12 +10,14 @@ use std::test::Fail;
 const NO_ASCENT: AscentEffort = AscentEffort {
     rounds: 0,
     step: 256,
+    block: 10,
     looks: 1,
 };
 
 pub const NO_ROUNDS: Effort = Effort {
     iterations: 0,
     root: NO_ASCENT,
+    root_of_many: NO_ASCENT,
     more_iterations: 0,
     again: NO_ASCENT,
     below: NO_ASCENT,
