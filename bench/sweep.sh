@@ -3,8 +3,8 @@
 # and `crew rosters`, and stops at the first day for which not all of this holds: `day` ends with status 0, 3 or 7; each dossier
 # gets its yes, with a bound not above what the plan leaves unassigned; with status 0 each bound is what the plan leaves, and
 # where one is not, the whole budget was used. That a plan has the jobs that are frozen is a rule of `check`. Words: the first
-# seed, or 0, and how many days, or 1000. It prints the seed of what it stops at, and at the end how many days, refusals and
-# dossiers there were, how many of these were proved, and the causes of their splits.
+# seed, or 0, and how many days, or 1000. It prints the seed of what it stops at, and at the end, or where it is interrupted, how
+# many days, refusals and dossiers there were, how many of these were proved, and the causes of their splits.
 set -u
 here=$(cd "$(dirname "${BASH_SOURCE[0]}")" && pwd)
 . "$here/timing.sh"
@@ -23,6 +23,13 @@ stop() {
   echo "seed $1: ${*:2}"
   exit 1
 }
+
+# total: tells what all days up to the last whole one came to
+total() {
+  echo "seeds $first to $((seed - 1)): $((seed - first)) days, $refused of them refused at a record, $dossiers dossiers, $proved of them proved; splits by cause:"
+  sort "$at/causes" | uniq -c
+}
+trap 'total; exit 0' INT TERM
 
 for ((seed = first; seed < first + count; seed++)); do
   "$here/changed_day" "$seed" >"$at/day"
@@ -51,5 +58,4 @@ for ((seed = first; seed < first + count; seed++)); do
   proved=$((proved + $(awk '$3 == $5' "$at/lines" | wc -l)))
   awk '$1 == "why" { print $2, $2 == "overflow" ? $4 : "" }' "$at/dossiers" >>"$at/causes"
 done
-echo "seeds $first to $((first + count - 1)): $count days, $refused of them refused at a record, $dossiers dossiers, $proved of them proved; splits by cause:"
-sort "$at/causes" | uniq -c
+total
