@@ -1,6 +1,6 @@
 -- the lines of a cause: what is kept of it, and the rows of the table for them
 use Rattle.std.proofs.Common.{◌≡◌, ◌≤◌, ◌<◌, ◌+◌, ◌-◌, ◌^◌, ℕ, zero, suc, List, [], ◌∷◌, ◌++◌, length, map, All, ap, subst, sym, refl, ◌∙◌, arith}
-use Rattle.std.specs.Prelude.{ℤ, pos, Result, Ok, Err, IsErr, codes, slice_index, slice_index_or}
+use Rattle.std.specs.Prelude.{ℤ, pos, Result, Ok, Err, IsErr, slice_index_or}
 use Rattle.std.specs.Fmt.{decimal}
 use Rattle.std.specs.Global.{Box}
 use Rattle.std.specs.Box.{with_value}
@@ -22,6 +22,7 @@ use Rattle.dossier_terms.specs.Lines.{why_none_line, loose_line, share_line, spa
 use Rattle.dossier_terms.specs.Ranges.{IsNowWord, IsLooseLine, IsSpareLine, IsOverflowLine}
 use Rattle.dossier_terms.specs.Reading.{Reading, Answer, More as Goes, No as Refuses, Above, SplitSite, Parts, limits_below, limits_before, cause_done, parts_due}
 use Rattle.dossier_terms.specs.Rules.{Holds, Fails, Then, Else, Spelled, On}
+use Rattle.dossier_terms.specs.Apart.{other_why}
 use Rattle.node_limits.specs.Rest.{Rest, IsRestOver, trail_over}
 use Rattle.node_limits.specs.Trail.{Trail}
 use Rattle.share_check.specs.Summed.{HasRoom, IsSumsOf, IsSharesOf, IsLooseChoice}
@@ -154,14 +155,6 @@ pub same_pos : (a b : ℕ) → pos a ≡ pos b → a ≡ b
 same_pos a b e = cc
 
 -- ---- the rows of the table
-
--- the first byte of word k
-abbrev first_byte : ℕ → Words → ℕ
-first_byte k ws = slice_index (slice_index_or ws k []) 0
-
--- a cause of another kind
-other_why : (kind : List ℕ) (ws : Words) → (slice_index kind 0 ≡ first_byte 1 ws → ⊥) → (rest : Words) × (ws ≡ codes "why" ∷ kind ∷ rest) → ⊥
-other_why kind ws other e = other (sym (ap (first_byte 1) e.1))
 
 module _ (p : SplitSite) (ws : Words) where
   none_at : why_row p why_none_line (Goes (cause_done p NoCause))

@@ -1,5 +1,5 @@
 -- the lines of a leaf's numbers and the line `end`: what is kept behind them
-use Rattle.std.proofs.Common.{◌≡◌, ℕ, List, Bool, true, false, ap, subst, sym, refl, ◌∙◌, eqb, ◌&&◌}
+use Rattle.std.proofs.Common.{◌≡◌, List, Bool, true, false, ap, subst, sym, refl, ◌∙◌, eqb, ◌&&◌}
 use Rattle.std.specs.Prelude.{if◌then◌else◌}
 use Rattle.std.specs.Global.{Box}
 use Rattle.std.specs.Box.{with_value}
@@ -14,6 +14,7 @@ use Rattle.crew_terms.specs.Branches.{Open, Closed}
 use Rattle.dossier_terms.specs.Lines.{end_line, counts_of}
 use Rattle.dossier_terms.specs.Reading.{Reading, Answer, More as Goes, Whole as Ends, No as Refuses, leaf_done, whole, Above, LeafSite}
 use Rattle.crew_terms.specs.declared.TreeCounts.{TreeCounts}
+use Rattle.crew_terms.specs.Counts.{same_counts}
 use Rattle.dossier_terms.specs.Rules.{Holds, Fails}
 use Rattle.dossier_terms.specs.Table.{Finish, Says, end_row}
 use Rattle.cert_format.specs.Lines.{IsEndLine}
@@ -98,12 +99,6 @@ end_is ws _ h = absurd h
 -- the test that two trees have the same numbers
 abbrev same_numbers : TreeCounts → TreeCounts → Bool
 same_numbers s c = eqb s.splits c.splits && (eqb s.closed c.closed && (eqb s.left_open c.left_open && eqb s.depth c.depth))
-
-abbrev counts : ℕ → ℕ → ℕ → ℕ → TreeCounts
-counts a b c d = record { splits = a; closed = b; left_open = c; depth = d }
-
-same_counts : (a b c d e f g h : ℕ) → a ≡ e → b ≡ f → c ≡ g → d ≡ h → counts a b c d ≡ counts e f g h
-same_counts a b c d e f g h p q r s = rw (p, q, r, s) refl
 
 same_is : (s c : TreeCounts) → same_numbers s c ≡ true → s ≡ c
 same_is s c h =

@@ -7,8 +7,8 @@ use Rattle.std.proofs.lemmas.List.{length-map}
 use Rattle.crew_terms.specs.Words.{Words}
 use Rattle.crew_terms.specs.Limits.{Limits, root_limits}
 use Rattle.dossier_terms.specs.declared.Reason.TheVariants as reasons
-use Rattle.dossier_terms.specs.Causes.{Cause, NoCause, Loose, Overflowed, Spent, unshown_in}
-use Rattle.dossier_terms.specs.Counted.{unshown_fits}
+use Rattle.dossier_terms.specs.Causes.{Cause, unshown_in}
+use Rattle.dossier_terms.specs.Counted.{unshown_fits, unshown_le}
 use Rattle.dossier_terms.specs.Dossier.{Leaf, Written, unshown}
 use Rattle.crew_terms.specs.Branches.{LeafNode, SplitNode, Claim, Bare, InFirst, InSecond, splits, closed, left_open, frame_sum}
 use Rattle.dossier_terms.specs.Lines.{window_line, pair_line, bare_line, open_line, closed_line}
@@ -22,6 +22,7 @@ use Rattle.dossier_terms.specs.Rules.{Holds, Fails, Spelled, Then, Else, On, Beg
 use Rattle.dossier_terms.specs.Ranges.{IsCounts}
 use Rattle.dossier_terms.specs.Table.{Says}
 use Rattle.dossier_terms.specs.NodeTable.{node_row, after_bare, after_leaf, HasSplitRoom, after_split, split_fault}
+use Rattle.dossier_terms.specs.Apart.{not_both, pair_not_window}
 use Rattle.node_limits.specs.Trail.{Trail}
 use Rattle.node_limits.specs.Rest.{Rest, IsRestOver, trail_over}
 use Rattle.tree_walk.specs.Way.{Walked, IsAt, IsLeaf, LeavesLeaf, Enters, branch_of}
@@ -53,12 +54,6 @@ written_back tree held draft rest to unshown e f =
     with_draft t d = record { draft = with_value t.draft (record d { limits = rest }); claimed = t.claimed; walk = to; unshown = unshown; sums = t.sums }
 
 -- ---- of how many splits no cause is shown
-
-unshown_le : (c : Cause) → unshown_in c ≤ 1
-unshown_le NoCause = omega arith
-unshown_le (Loose now shares) = omega arith
-unshown_le (Overflowed now fault) = omega arith
-unshown_le (Spent now) = omega arith
 
 -- of no more than there are
 pub unshown_few : (fs : List Above) → unshown_above fs ≤ frame_sum splits 1 fs
@@ -215,13 +210,6 @@ module _ (b : Begun) (c : TreeCounts) (fs : List Above) where
   leaf_more is_closed room = Holds room (On refl)
 
 -- ---- the rows of the table
-
--- a line doesn't begin with two words
-not_both : (v w : List ℕ) (ws : Words) → (v ≡ w → ⊥) → Begins v ws → Begins w ws → ⊥
-not_both v w ws differ a b = differ (let e = a.1 in let f = b.1 in cc)
-
-pair_not_window : codes "pair" ≡ codes "window" → ⊥
-pair_not_window e = let f : ◌≡◌ {A = ℕ} 112 119 = cc in absurd (omega arith)
 
 leaf_not_window : codes "leaf" ≡ codes "window" → ⊥
 leaf_not_window e = let f : ◌≡◌ {A = ℕ} 108 119 = cc in absurd (omega arith)

@@ -1,5 +1,5 @@
 -- the rows of the table for the lines of a plan
-use Rattle.std.proofs.Common.{◌≡◌, ◌≢◌, ◌≤◌, ◌<◌, ◌-◌, ℕ, zero, suc, List, [], ◌∷◌, length, map, ap, subst, sym, refl, ◌∙◌, arith, ◌⊎◌, inl, inr, None, Some, get_or-set_same, get_or-set_other}
+use Rattle.std.proofs.Common.{◌≡◌, ◌≢◌, ◌≤◌, ◌<◌, ◌-◌, ℕ, zero, suc, List, [], ◌∷◌, length, map, subst, sym, refl, ◌∙◌, arith, ◌⊎◌, inl, inr, None, Some, get_or-set_same, get_or-set_other}
 use Rattle.std.specs.Prelude.{pos, Contains, slice_set}
 use Rattle.std.specs.Global.{Box}
 use Rattle.std.specs.List.{AllByRecursion}
@@ -17,7 +17,7 @@ use Rattle.dossier_terms.specs.Reading.{Answer, Jobs, Trees, Begun}
 use Rattle.dossier_terms.specs.Rules.{Must, Holds, HoldsBy, FailsBy, Spelled, On}
 use Rattle.dossier_terms.specs.Ranges.{IsDoLine}
 use Rattle.dossier_terms.specs.BodyTable.{plan_row, job_row, after_job}
-use Rattle.head_check.specs.Numbers.{naturals, AreBelow}
+use Rattle.head_check.specs.Numbers.{AreBelow}
 use Rattle.cert_checker.specs.Due.{IsBegun, Tells, draft_of}
 use Rattle.cert_checker.specs.declared.due.BegunDossier.{BegunDossier as Held}
 use Rattle.cert_checker.specs.declared.due.Due.TheVariants.{Job as JobDue, Tree as TreeDue}
@@ -30,10 +30,6 @@ pub plan_says : (b : Begun) (u l : ℕ) (ws : Words) (said : Answer) → u ≤ l
 plan_says b u l ws said p q is rest = Holds (_, is, refl) (Spelled (u, l) (p, q) is rest)
 
 -- ---- the numbers at the end of a line
-
-pub naturals-pos : (ns : List ℕ) → naturals (map pos ns) ≡ ns
-naturals-pos [] = refl
-naturals-pos (n ∷ ns) = ap (λ xs. n ∷ xs) (naturals-pos ns)
 
 pub below_from : (past most : ℕ) (ns : List ℕ) → past ≤ most → AllByRecursion (λ n. n < past) ns → AreBelow most (map pos ns)
 below_from past most [] le h k d l = absurd (omega arith)

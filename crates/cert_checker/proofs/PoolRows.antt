@@ -1,5 +1,5 @@
 -- the rows of the table for the lines of a pool
-use Rattle.std.proofs.Common.{◌≡◌, ◌≢◌, ◌≤◌, ◌<◌, ◌++◌, ◌^◌, ℕ, zero, suc, List, [], ◌∷◌, length, map, ap, subst, sym, refl, ◌∙◌, arith, w64, to_z, of_z, None, Some}
+use Rattle.std.proofs.Common.{◌≡◌, ◌≢◌, ◌≤◌, ◌<◌, ◌++◌, ◌^◌, ℕ, List, [], ◌∷◌, length, map, ap, subst, sym, refl, ◌∙◌, arith, w64, to_z, of_z, None, Some}
 use Rattle.std.specs.Prelude.{ℤ, pos, codes, All}
 use Rattle.std.specs.List.{AllByRecursion, flat_map}
 use Rattle.std.proofs.lemmas.List.{length-replicate}
@@ -8,10 +8,11 @@ use Rattle.std.proofs.lemmas.Int.{to_z_pos}
 use Rattle.crew_terms.specs.Words.{Words}
 use Rattle.crew_terms.specs.Instance.{Instance}
 use Rattle.crew_terms.specs.Limits.{Limits, root_limits, Route}
-use Rattle.crew_terms.specs.Plan.{Plan, empty_plan, job_of}
+use Rattle.crew_terms.specs.Plan.{Plan, empty_plan}
 use Rattle.crew_terms.specs.Verdict.{IsPlanOf}
 use Rattle.crew_terms.specs.declared.TheConstants.{LAST_MINUTE, MOST_TASKS}
 use Rattle.crew_terms.specs.declared.Visit.{Visit}
+use Rattle.crew_terms.specs.EmptyPlan.{job_none}
 use Rattle.dossier_terms.specs.declared.DossierForm.{DossierForm}
 use Rattle.dossier_terms.specs.declared.Reason.TheVariants as reasons
 use Rattle.dossier_terms.specs.Lines.{pool_line, route_line}
@@ -54,15 +55,10 @@ root_woke i rest t root woke = (ap (λ (x : Trail). x.limits) woke ∙ root.root
 
 -- ---- the empty plan
 
-no_job : (n j : ℕ) → job_of (empty_plan n) j ≡ None
-no_job zero j = refl
-no_job (suc n) zero = refl
-no_job (suc n) (suc j) = no_job n j
-
 pub empty_is_plan : (i : Instance) → IsPlanOf i (empty_plan (length i.tasks))
 empty_is_plan i = record {
   whole = length-replicate (length i.tasks) None;
-  known = λ k j t d. absurd (let e : None ≡ Some d.0 = sym (no_job (length i.tasks) j) ∙ d.1 in cc);
+  known = λ k j t d. absurd (let e : None ≡ Some d.0 = sym (job_none (length i.tasks) j) ∙ d.1 in cc);
 }
 
 -- what is read behind the line `pool`

@@ -9,12 +9,12 @@ use Rattle.std.specs.Str.{bytes_eq}
 use Rattle.std.specs.List.{AllByRecursion}
 use Rattle.std.specs.Fmt.{decimal, signed_decimal}
 use Rattle.crew_num.specs.declared.Op.{Op}
-use Rattle.crew_num.specs.declared.Op.TheVariants.{Add, Sub, Mul}
 use Rattle.crew_num.specs.declared.Overflow.{Overflow}
 use Rattle.crew_terms.specs.Words.{Words}
 use Rattle.dossier_terms.specs.Lines.{op_word, overflow_line, spare_line}
 use Rattle.dossier_terms.specs.Ranges.{BeginsWhy, IsWhy, IsWhyOverflow, IsOverflowLine, IsSpareLine}
 use Rattle.dossier_terms.specs.Rules.{IsShape}
+use Rattle.dossier_terms.specs.Apart.{op_one}
 use Rattle.cert_format.specs.Fields.{SpellBelow}
 use Rattle.cert_format.specs.declared.kinds.LineKind.{LineKind}
 use Rattle.cert_format.specs.declared.kinds.LineKind.TheVariants as kinds
@@ -34,17 +34,6 @@ word_at k ws xs ys e f = sym (ap (λ zs. get_or zs k []) e) ∙ ap (λ zs. get_o
 -- lines of causes of two kinds
 other_kind : (ws xs ys : Words) → (byte_of 1 xs ≡ byte_of 1 ys → ⊥) → ws ≡ xs → ws ≡ ys → ⊥
 other_kind ws xs ys other e f = other (ap (λ w. get_or w 0 0) (word_at 1 ws xs ys e f))
-
-op_one : (x y : Op) → op_word x ≡ op_word y → x ≡ y
-op_one Add Add e = refl
-op_one Add Sub e = absurd (let l : 97 ≡ 115 = ap (λ word. get_or word 0 0) e in omega arith)
-op_one Add Mul e = absurd (let l : 97 ≡ 109 = ap (λ word. get_or word 0 0) e in omega arith)
-op_one Sub Add e = absurd (let l : 115 ≡ 97 = ap (λ word. get_or word 0 0) e in omega arith)
-op_one Sub Sub e = refl
-op_one Sub Mul e = absurd (let l : 115 ≡ 109 = ap (λ word. get_or word 0 0) e in omega arith)
-op_one Mul Add e = absurd (let l : 109 ≡ 97 = ap (λ word. get_or word 0 0) e in omega arith)
-op_one Mul Sub e = absurd (let l : 109 ≡ 115 = ap (λ word. get_or word 0 0) e in omega arith)
-op_one Mul Mul e = refl
 
 same_fault : (f g : Overflow) → f.op ≡ g.op → f.a ≡ g.a → f.b ≡ g.b → f ≡ g
 same_fault f g op a b = ap (λ (o : Op). record f { op = o }) op ∙ ap (λ (z : ℤ). record f { op = g.op; a = z }) a ∙ ap (λ (z : ℤ). record g { b = z }) b

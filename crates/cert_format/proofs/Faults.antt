@@ -11,6 +11,7 @@ use Rattle.dossier_terms.specs.declared.DossierForm.{DossierForm}
 use Rattle.dossier_terms.specs.declared.DossierForm.TheVariants.{One, Two}
 use Rattle.dossier_terms.specs.LeafTable.{potentials_row}
 use Rattle.dossier_terms.specs.Table.{Says}
+use Rattle.dossier_terms.specs.Apart.{not_both, pair_not_window}
 use Rattle.std.specs.List.{flat_map}
 use Rattle.crew_terms.specs.Limits.{Limits}
 use Rattle.crew_terms.specs.Minutes.{minute_count}
@@ -41,13 +42,6 @@ is_pair w (x ∷ y ∷ []) = at (begins w (x ∷ y ∷ []))
     at (inl b) = inl (b.0, b.1, (let e : y ∷ [] ≡ b.0 = (let g = b.1 in cc) in let f = ap length e in omega arith))
     at (inr b) = inr (λ s. b (s.0, s.1))
 is_pair w (x ∷ y ∷ z ∷ ws) = inr (λ s. let n : length s.0 ≡ 1 = s.2 in let e : y ∷ z ∷ ws ≡ s.0 = (let g = s.1 in cc) in let f = ap length e in absurd (omega arith))
-
--- a line doesn't begin with two words
-not_both : (v w : List ℕ) (ws : Words) → (v ≡ w → ⊥) → Begins v ws → Begins w ws → ⊥
-not_both v w ws differ a b = differ (let e = a.1 in let f = b.1 in cc)
-
-pair_not_window : codes "pair" ≡ codes "window" → ⊥
-pair_not_window e = let f : ◌≡◌ {A = ℕ} 112 119 = cc in absurd (omega arith)
 
 -- a fault of a line of potentials
 potentials_fault : (form : DossierForm) (n : Limits) (k j : ℕ) (ws : Words) (rest : List ℤ → Answer → Type 0) (fault : LineFault)

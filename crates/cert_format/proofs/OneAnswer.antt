@@ -12,11 +12,9 @@ use Rattle.crew_terms.specs.Name.{IsName}
 use Rattle.crew_terms.specs.Leaf.{IsPrice}
 use Rattle.crew_terms.specs.declared.Visit.{Visit}
 use Rattle.crew_terms.specs.declared.TreeCounts.{TreeCounts}
-use Rattle.dossier_terms.specs.declared.DossierForm.{DossierForm}
-use Rattle.dossier_terms.specs.declared.DossierForm.TheVariants.{One, Two}
 use Rattle.dossier_terms.specs.declared.Size.{Size}
-use Rattle.dossier_terms.specs.Lines.{form_line}
 use Rattle.dossier_terms.specs.Counted.{visits_length, runs_length}
+use Rattle.dossier_terms.specs.Apart.{form_one}
 use Rattle.crew_terms.specs.declared.TheConstants.{SKILLS, LAST_MINUTE}
 use Rattle.cert_format.specs.declared.kinds.Expect.{Expect}
 use Rattle.cert_format.specs.declared.kinds.Expect.TheVariants as expected
@@ -62,16 +60,10 @@ behind_name w x y ws xs ys e f = let g : w ∷ x ∷ xs ≡ w ∷ y ∷ ys = sym
 
 -- ---- a line says one thing
 
-one_form : (a b : DossierForm) → form_line a ≡ form_line b → a ≡ b
-one_form One One e = refl
-one_form Two Two e = refl
-one_form One Two e = let f = ap (λ (ws : Words). get_or (get_or ws 2 []) 0 0) e in absurd (omega arith)
-one_form Two One e = let f = ap (λ (ws : Words). get_or (get_or ws 2 []) 0 0) e in absurd (omega arith)
-
-form_one : (ws : Words) (a b : LineKind) → IsFormLine ws a → IsFormLine ws b → a ≡ b
-form_one ws (kinds.Form a) (kinds.Form b) h g = ap kinds.Form (one_form a b (sym h ∙ g))
-form_one ws (kinds.Form a) _ h g = absurd g
-form_one ws _ _ h g = absurd h
+form_line_one : (ws : Words) (a b : LineKind) → IsFormLine ws a → IsFormLine ws b → a ≡ b
+form_line_one ws (kinds.Form a) (kinds.Form b) h g = ap kinds.Form (form_one a b (sym h ∙ g))
+form_line_one ws (kinds.Form a) _ h g = absurd g
+form_line_one ws _ _ h g = absurd h
 
 end_one : (ws : Words) (a b : LineKind) → IsEndLine ws a → IsEndLine ws b → a ≡ b
 end_one ws kinds.End kinds.End h g = refl
@@ -313,7 +305,7 @@ steps_one task ws (kinds.Steps i us) _ h g = absurd g
 steps_one task ws _ _ h g = absurd h
 
 one_kind : (expect : Expect) (ws : Words) (a b : LineKind) → HasCounts expect → IsLineOf expect ws a → IsLineOf expect ws b → a ≡ b
-one_kind expected.Form ws a b few h g = form_one ws a b h g
+one_kind expected.Form ws a b few h g = form_line_one ws a b h g
 one_kind expected.Size ws a b few h g = size_one ws a b h g
 one_kind expected.Place ws a b few h g = place_one ws a b h g
 one_kind (expected.Travel places) ws a b few h g = times_one places ws a b h g

@@ -10,10 +10,8 @@ use Rattle.crew_terms.specs.Limits.{Limits, IsPermittedVisit, root_limits, tasks
 use Rattle.crew_terms.specs.Minutes.{first_minute, minute_count, open_tasks, priced, required_teams}
 use Rattle.crew_terms.specs.Rules.{IsInstance}
 use Rattle.crew_terms.specs.Tree.{child}
-use Rattle.crew_terms.specs.declared.Choice.{Choice}
-use Rattle.crew_terms.specs.declared.Choice.TheVariants as choices
-use Rattle.crew_terms.specs.declared.Side.{Side}
 use Rattle.crew_terms.specs.declared.Side.TheVariants.{First, Second}
+use Rattle.crew_terms.specs.Children.{child_is}
 use Rattle.dossier_terms.specs.Causes.{Cause}
 use Rattle.dossier_terms.specs.Dossier.{Dossier, Leaf, Potentials, Written}
 use Rattle.dossier_terms.specs.declared.DossierForm.TheVariants.{Two}
@@ -25,13 +23,6 @@ use Rattle.cert_write.specs.Given.{AreWritable, Given}
 use Rattle.cert_write.specs.Dossiers.{AreBestRows, ArePricedTables, IsBestRow, IsDossierOf, IsPricedClaim, IsPricedLeaf, IsPricedTable, IsPricedTree, causes_of}
 use Rattle.cert_write.specs.Tables.{may_begin}
 use Rattle.cert_write.proofs.TeamTables.{MinutesLaw}
-
--- the limits of a child are of the same instance
-pub child_instance : (n : Limits) (choice : Choice) (side : Side) → (child n choice side).instance ≡ n.instance
-child_instance n (choices.Window j cut) First = refl
-child_instance n (choices.Window j cut) Second = refl
-child_instance n (choices.Pair k j) First = refl
-child_instance n (choices.Pair k j) Second = refl
 
 -- a team has a worth, and from each visit on a greatest sum
 abbrev pub HaveBests : Type 0
@@ -103,8 +94,8 @@ module _ (law : MinutesLaw) (have : HaveBests) where
   tree n (LeafNode given) causes is enough = let c = claim n given.state given.prices is in (LeafNode c.0, c.1, refl)
   tree n (SplitNode choice first second) [] is enough = absurd (omega arith)
   tree n (SplitNode choice first second) (cause ∷ causes) is enough =
-      let low = tree (child n choice First) first causes (subst IsInstance (sym (child_instance n choice First)) is) (omega arith) in
-      let high = tree (child n choice Second) second (drop (splits first) causes) (subst IsInstance (sym (child_instance n choice Second)) is) (let l = length-drop (splits first) causes in omega (arith, l)) in (
+      let low = tree (child n choice First) first causes (child_is n choice First is) (omega arith) in
+      let high = tree (child n choice Second) second (drop (splits first) causes) (child_is n choice Second is) (let l = length-drop (splits first) causes in omega (arith, l)) in (
         SplitNode (record { choice = choice; cause = cause }) low.0 high.0,
         (refl, low.1, high.1),
         ap (λ r. cause ∷ (r ++ causes_of high.0)) low.2 ∙ ap (λ r. cause ∷ (take (splits first) causes ++ r)) high.2

@@ -5,14 +5,14 @@ use Rattle.std.specs.List.{filter, flat_map, range_with_len}
 use Rattle.std.specs.Fmt.{decimal}
 use Rattle.std.specs.Int.{bit_at}
 use Rattle.std.proofs.lemmas.Bool.{eqb-true}
-use Rattle.std.proofs.lemmas.List.{take_more, map-append, map-id}
+use Rattle.std.proofs.lemmas.List.{take_more, map-append}
 use Rattle.std.proofs.lemmas.List.Elements.{filter-append, All-get_or}
 use Rattle.std.proofs.lemmas.List.Concat.{flat_map-append}
-use Rattle.std.proofs.lemmas.List.FromFn.{map-range_with_len_more}
 use Rattle.crew_io.specs.Chains.{first_front}
 use Rattle.crew_terms.specs.Words.{Words, line_text}
 use Rattle.crew_terms.specs.Instance.{Instance, minutes_between}
 use Rattle.crew_terms.specs.Rules.{IsInstance}
+use Rattle.crew_terms.specs.Listed.{range_more}
 use Rattle.dossier_terms.specs.Lines.{instance_text, size_of, size_line, place_line, travel_line, team_line, task_line}
 use Rattle.line_out.specs.Parts.{part_word}
 use Rattle.line_out.specs.declared.Part.{Part}
@@ -25,18 +25,14 @@ use Rattle.crew_io.specs.Fronts.{IsFront, front_within}
 abbrev pub skills_below : ℕ → ℕ → List ℕ
 skills_below mask n = filter (λ s. bit_at mask s == 1) (range_with_len 0 n)
 
--- one number more comes at the end
-number_more : (n : ℕ) → range_with_len 0 (n + 1) ≡ range_with_len 0 n ++ n ∷ []
-number_more n = simp map-id at (map-range_with_len_more (λ (s : ℕ). s) 0 n n (omega arith))
-
 pub skill_more : (mask n : ℕ) → bit_at mask n ≡ 1 → skills_below mask (n + 1) ≡ skills_below mask n ++ n ∷ []
 skill_more mask n h =
-    ap (filter (λ s. bit_at mask s == 1)) (number_more n) ∙ filter-append (λ s. bit_at mask s == 1) (range_with_len 0 n) (n ∷ [])
+    ap (filter (λ s. bit_at mask s == 1)) (range_more n) ∙ filter-append (λ s. bit_at mask s == 1) (range_with_len 0 n) (n ∷ [])
     ∙ ap (λ b. skills_below mask n ++ b) (ap (λ m. cond (m == 1) (n ∷ []) []) h)
 
 pub skill_not : (mask n : ℕ) → bit_at mask n ≢ 1 → skills_below mask (n + 1) ≡ skills_below mask n
 skill_not mask n h =
-    ap (filter (λ s. bit_at mask s == 1)) (number_more n) ∙ filter-append (λ s. bit_at mask s == 1) (range_with_len 0 n) (n ∷ [])
+    ap (filter (λ s. bit_at mask s == 1)) (range_more n) ∙ filter-append (λ s. bit_at mask s == 1) (range_with_len 0 n) (n ∷ [])
     ∙ ap (λ b. skills_below mask n ++ b) (none (bit_at mask n == 1) refl) ∙ append-nil (skills_below mask n)
   where
     none : (b : Bool) → (bit_at mask n == 1) ≡ b → cond b (n ∷ []) [] ≡ []

@@ -48,10 +48,6 @@ pub some_job : (word : List ℕ) (j start : ℕ) (teams : List ℕ) (o : Option 
     → line_text (word ∷ decimal j ∷ decimal start ∷ map decimal teams) ≡ text (map (counts_line word) (job_list j o))
 some_job word j start teams o is = sym (append-nil _) ∙ ap (λ x. text (map (counts_line word) (job_list j x))) (sym is)
 
-pub none_begun : (o : Option Job) → option_map (λ (job : Job). job.start) o ≡ None → o ≡ None
-none_begun None is = refl
-none_begun (Some job) is = cc
-
 pub some_begun : (o : Option Job) (start : ℕ) (teams : List ℕ) → option_map (λ (job : Job). job.start) o ≡ Some start → teams ≡ job_teams o → o ≡ Some (job_by start teams)
 some_begun None start teams is are = cc
 some_begun (Some job) start teams is are = ap Some (by (let e : job.start ≡ start = cc in e) (sym are))

@@ -1,17 +1,17 @@
 -- the lines of a leaf
-use Rattle.std.proofs.Common.{◌≡◌, ◌+◌, ◌++◌, ◌∷◌, [], ℕ, List, Bool, true, false, cond, map, ap, sym, ◌∙◌, append_assoc, append-nil, arith}
+use Rattle.std.proofs.Common.{◌≡◌, ◌+◌, ◌++◌, ◌∷◌, [], ℕ, List, Bool, true, false, cond, map, ap, sym, ◌∙◌, append_assoc, append-nil}
 use Rattle.std.specs.Prelude.{ℤ}
 use Rattle.std.specs.Fmt.{signed_decimal}
 use Rattle.std.specs.List.{filter, range_with_len}
-use Rattle.std.proofs.lemmas.List.{map-append, map-id}
+use Rattle.std.proofs.lemmas.List.{map-append}
 use Rattle.std.proofs.lemmas.List.Elements.{filter-append}
 use Rattle.std.proofs.lemmas.List.Concat.{flat_map-append}
-use Rattle.std.proofs.lemmas.List.FromFn.{map-range_with_len_more}
 use Rattle.crew_terms.specs.Leaf.{Prices, rho_of}
 use Rattle.crew_terms.specs.Limits.{Limits, is_required, pair_of}
 use Rattle.crew_terms.specs.Minutes.{priced}
 use Rattle.crew_terms.specs.Branches.{Claim, Bare, Open, Closed}
 use Rattle.crew_terms.specs.Words.{Words, line_text}
+use Rattle.crew_terms.specs.Listed.{range_more}
 use Rattle.crew_io.specs.Fronts.{IsFront}
 use Rattle.branch_tree.specs.declared.tree.LeafState.{LeafState}
 use Rattle.branch_tree.specs.declared.tree.LeafState.TheVariants as states
@@ -35,12 +35,9 @@ required_below n j m = filter (λ k. is_required (pair_of n k j)) (range_with_le
 abbrev pub prices_below : Limits → Prices → ℕ → ℕ → Words
 prices_below n p j m = map signed_decimal (map (λ k. rho_of p k j) (required_below n j m))
 
-number_more : (n : ℕ) → range_with_len 0 (n + 1) ≡ range_with_len 0 n ++ n ∷ []
-number_more n = simp map-id at (map-range_with_len_more (λ (s : ℕ). s) 0 n n (omega arith))
-
 required_more : (n : Limits) (j m : ℕ) (b : Bool) → is_required (pair_of n m j) ≡ b → required_below n j (m + 1) ≡ required_below n j m ++ cond b (m ∷ []) []
 required_more n j m b is =
-    ap (filter (λ k. is_required (pair_of n k j))) (number_more m) ∙ filter-append (λ k. is_required (pair_of n k j)) (range_with_len 0 m) (m ∷ [])
+    ap (filter (λ k. is_required (pair_of n k j))) (range_more m) ∙ filter-append (λ k. is_required (pair_of n k j)) (range_with_len 0 m) (m ∷ [])
     ∙ ap (λ x. required_below n j m ++ cond x (m ∷ []) []) is
 
 pub price_pushed : (n : Limits) (p : Prices) (j m : ℕ) (before : Words) (old new : List Part) (v : ℤ) → v ≡ rho_of p m j → is_required (pair_of n m j) ≡ true → new ≡ old ++ Signed v ∷ []

@@ -1,5 +1,5 @@
 -- runs, minute by minute
-use Rattle.std.proofs.Common.{◌≡◌, ◌≢◌, ◌<◌, ◌≤◌, ◌+◌, ◌-◌, ◌++◌, ◌∷◌, [], ℕ, zero, suc, List, Bool, true, false, length, map, ap, sym, refl, ◌∙◌, append_assoc, append-nil, arith}
+use Rattle.std.proofs.Common.{◌≡◌, ◌≢◌, ◌<◌, ◌≤◌, ◌+◌, ◌-◌, ◌++◌, ◌∷◌, [], ℕ, suc, List, Bool, true, false, length, map, ap, sym, refl, ◌∙◌, append_assoc, append-nil, arith}
 use Rattle.std.specs.Prelude.{ℤ, Option, None, Some, if◌then◌else◌}
 use Rattle.std.specs.List.{flat_map, range_with_len}
 use Rattle.std.specs.Ordering.{int_eq}
@@ -7,6 +7,7 @@ use Rattle.std.proofs.lemmas.Bool.Decides.{Decides-int_eq}
 use Rattle.std.proofs.lemmas.List.{map-append}
 use Rattle.std.proofs.lemmas.List.Concat.{flat_map-append}
 use Rattle.std.proofs.lemmas.List.FromFn.{length-map-range_with_len, map-range_with_len_more}
+use Rattle.crew_terms.specs.Ranges.{range_append}
 use Rattle.crew_io.specs.Fronts.{IsFront}
 use Rattle.dossier_terms.specs.Lines.{run_words}
 use Rattle.dossier_terms.specs.Runs.{Run, runs_of, runs_after}
@@ -19,16 +20,13 @@ abbrev pub runs_behind : Option ℤ → ℕ → List ℤ → List Run
 runs_behind last t [] = []
 runs_behind last t (v ∷ vs) = run_at last t v ++ runs_behind (Some v) (t + 1) vs
 
-same_number : (v w : ℤ) → int_eq v w ≡ true → v ≡ w
-same_number v w e = (Decides-int_eq v w).0 e
-
 after : (last : ℤ) (t : ℕ) (vs : List ℤ) → runs_after last t vs ≡ runs_behind (Some last) t vs
 after last t [] = refl
 after last t (v ∷ vs) = by (int_eq v last) refl (λ w. after w (suc t) vs ∙ ap (λ n. runs_behind (Some w) n vs) (let e : suc t ≡ t + 1 = omega arith in e))
   where
     by : (b : Bool) → int_eq v last ≡ b → ((w : ℤ) → runs_after w (suc t) vs ≡ runs_behind (Some w) (t + 1) vs)
         → (if int_eq v last then runs_after last (suc t) vs else record { from = t; value = v } ∷ runs_after v (suc t) vs) ≡ (if int_eq v last then [] else record { from = t; value = v } ∷ []) ++ runs_behind (Some v) (t + 1) vs
-    by true is next = rw is (next last ∙ ap (λ w. runs_behind (Some w) (t + 1) vs) (sym (same_number v last is)))
+    by true is next = rw is (next last ∙ ap (λ w. runs_behind (Some w) (t + 1) vs) (sym ((Decides-int_eq v last).0 is)))
     by false is next = rw is (ap (λ r. record { from = t; value = v } ∷ r) (next v))
 
 pub runs_are : (t : ℕ) (vs : List ℤ) → runs_of t vs ≡ runs_behind None t vs
@@ -47,15 +45,6 @@ runs_append last t (v ∷ vs) ws =
 last_append : (last : Option ℤ) (vs : List ℤ) (v : ℤ) → last_behind last (vs ++ v ∷ []) ≡ Some v
 last_append last [] v = refl
 last_append last (u ∷ us) v = last_append (Some u) us v
-
-range_append : (a m n : ℕ) → range_with_len a (m + n) ≡ range_with_len a m ++ range_with_len (a + m) n
-range_append a zero n = ap2 (let e : zero + n ≡ n = omega arith in e) (let e : a ≡ a + zero = omega arith in e)
-  where
-    ap2 : {b c k l : ℕ} → k ≡ l → b ≡ c → range_with_len b k ≡ range_with_len c l
-    ap2 {b} {c} {k} {l} e f = ap (range_with_len b) e ∙ ap (λ x. range_with_len x l) f
-range_append a (suc m) n =
-    ap (range_with_len a) (let e : suc m + n ≡ suc (m + n) = omega arith in e)
-    ∙ ap (λ r. a ∷ r) (range_append (a + 1) m n ∙ ap (λ x. range_with_len (a + 1) m ++ range_with_len x n) (let e : (a + 1) + m ≡ a + suc m = omega arith in e))
 
 -- ---- the words of runs
 

@@ -1,8 +1,8 @@
 -- texts of lists, and the fronts of a text of several parts
-use Rattle.std.proofs.Common.{◌≡◌, ◌<◌, ◌++◌, ◌∷◌, [], ℕ, List, Bool, true, false, length, map, get_or, ap, sym, refl, ◌∙◌, append_assoc, append-nil, arith}
-use Rattle.std.specs.List.{filter, flat_map, range_with_len}
+use Rattle.std.proofs.Common.{◌≡◌, ◌<◌, ◌++◌, ◌∷◌, [], ℕ, List, length, map, ap, sym, refl, ◌∙◌, append_assoc, arith}
+use Rattle.std.specs.List.{flat_map, range_with_len}
 use Rattle.std.proofs.lemmas.List.Concat.{flat_map-append}
-use Rattle.std.proofs.lemmas.List.FromFn.{get_or-range_with_len, length-range_with_len}
+use Rattle.std.proofs.lemmas.List.FromFn.{length-range_with_len}
 use Rattle.crew_terms.specs.Words.{Words, line_text}
 use Rattle.crew_io.specs.Fronts.{IsFront}
 use Rattle.line_out.specs.Parts.{next_word}
@@ -19,18 +19,6 @@ of_mapped f g (x ∷ xs) = ap (λ r. f (g x) ++ r) (of_mapped f g xs)
 pub of_lists : {A B C : Type 0} (f : B → List C) (g : A → List B) (xs : List A) → flat_map (λ x. flat_map f (g x)) xs ≡ flat_map f (flat_map g xs)
 of_lists f g [] = refl
 of_lists f g (x ∷ xs) = ap (λ r. flat_map f (g x) ++ r) (of_lists f g xs) ∙ sym (flat_map-append f (g x) (flat_map g xs))
-
-one_of_those : (p : ℕ → Bool) (line : ℕ → Words) (x : ℕ) (xs : List ℕ) (b : Bool) → p x ≡ b → text (map line (filter p (x ∷ []))) ++ text (map line (filter p xs)) ≡ text (map line (filter p (x ∷ xs)))
-one_of_those p line x xs true is = rw is (ap (λ h. h ++ text (map line (filter p xs))) (append-nil (line_text (line x))))
-one_of_those p line x xs false is = rw is refl
-
--- the lines of those that pass
-pub of_those : (p : ℕ → Bool) (line : ℕ → Words) (xs : List ℕ) → flat_map (λ x. text (map line (filter p (x ∷ [])))) xs ≡ text (map line (filter p xs))
-of_those p line [] = refl
-of_those p line (x ∷ xs) = ap (λ r. text (map line (filter p (x ∷ []))) ++ r) (of_those p line xs) ∙ one_of_those p line x xs (p x) refl
-
-pub numbered : (n k : ℕ) → k < n → get_or (range_with_len 0 n) k 0 ≡ k
-numbered n k below = get_or-range_with_len 0 n k 0 below ∙ (omega arith)
 
 pub below_range : (j n : ℕ) → j < n → j < length (range_with_len 0 n)
 below_range j n h = let l = length-range_with_len 0 n in omega (arith, l)

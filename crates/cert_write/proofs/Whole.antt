@@ -10,7 +10,7 @@ use Rattle.dossier_terms.specs.declared.DossierForm.TheVariants.{Two}
 use Rattle.branch_tree.specs.Trees.{BranchTree, counts_of as tree_counts}
 use Rattle.cert_write.specs.Given.{Given}
 use Rattle.cert_write.specs.Counted.{same_counts}
-use Rattle.cert_write.specs.Dossiers.{IsDossierOf, IsPricedTree}
+use Rattle.cert_write.specs.Dossiers.{IsDossierOf, IsPricedTree, dossier_is}
 use Rattle.crew_io.specs.Fronts.{IsFront}
 use Rattle.cert_write.proofs.Texts.{front_of, front_1, front_2, text}
 
@@ -42,20 +42,6 @@ tree_front_1 i t w is = front_1 (line_text (tree_line (tree_counts t))) (text (n
 pub tree_front_2 : (i : Instance) (t : BranchTree) (w : Written) → IsPricedTree (root_limits i) t w
     → IsFront (line_text (tree_line (tree_counts t)) ++ text (node_lines Two (root_limits i) w)) (text (tree_lines Two i w))
 tree_front_2 i t w is = front_of (line_text (tree_line (tree_counts t)) ++ text (node_lines Two (root_limits i) w)) (line_text end_line) _ (sym (tree_text i t w is))
-
--- the dossier of these parts with this tree
-abbrev pub dossier_with : Given → Written → Dossier
-dossier_with g tree = record { form = Two; instance = g.instance; budget = g.nodes; kept = g.kept; pool = g.columns; plan = g.plan; bound = g.bound; tree = tree }
-
-pub dossier_is : (g : Given) (d : Dossier) → IsDossierOf g d → d ≡ dossier_with g d.tree
-dossier_is g d is =
-    ap (λ x. record d { form = x }) is.form
-    ∙ ap (λ x. record d { form = Two; instance = x }) is.instance
-    ∙ ap (λ x. record d { form = Two; instance = g.instance; budget = x }) is.budget
-    ∙ ap (λ x. record d { form = Two; instance = g.instance; budget = g.nodes; kept = x }) is.kept
-    ∙ ap (λ x. record d { form = Two; instance = g.instance; budget = g.nodes; kept = g.kept; pool = x }) is.pool
-    ∙ ap (λ x. record d { form = Two; instance = g.instance; budget = g.nodes; kept = g.kept; pool = g.columns; plan = x }) is.plan
-    ∙ ap (λ x. record d { form = Two; instance = g.instance; budget = g.nodes; kept = g.kept; pool = g.columns; plan = g.plan; bound = x }) is.bound
 
 pub dossier_text : (g : Given) (d : Dossier) → IsDossierOf g d
     → ((text (head_lines Two g.instance g.nodes) ++ text (pool_lines g.kept g.columns)) ++ text (plan_lines g.plan g.bound)) ++ text (tree_lines Two g.instance d.tree) ≡ text_of d

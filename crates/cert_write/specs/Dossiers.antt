@@ -1,4 +1,5 @@
 -- the dossier of its parts: what is written of them
+use Rattle.std.proofs.Common.{ap, ◌∙◌}
 use Rattle.std.specs.Prelude.{◌≡◌, ◌<◌, ◌+◌, ◌++◌, ℕ, suc, ℤ, pos, List, [], ◌∷◌, Result, Ok, Err, length, map, slice_index_or}
 use Rattle.crew_terms.specs.Limits.{Limits, root_limits, teams_in}
 use Rattle.crew_terms.specs.Minutes.{first_minute, minute_count, open_tasks, priced, required_teams}
@@ -83,6 +84,21 @@ pub record IsDossierOf (g : Given) (d : Dossier) : Type 0 where
   pub plan : d.plan ≡ g.plan
   pub bound : d.bound ≡ g.bound
   pub tree : IsTreeOfGiven g d.tree
+
+-- the dossier of these parts with this tree
+abbrev pub dossier_with : Given → Written → Dossier
+dossier_with g tree = record { form = Two; instance = g.instance; budget = g.nodes; kept = g.kept; pool = g.columns; plan = g.plan; bound = g.bound; tree = tree }
+
+-- it is that of its own tree
+pub dossier_is : (g : Given) (d : Dossier) → IsDossierOf g d → d ≡ dossier_with g d.tree
+dossier_is g d is =
+    ap (λ x. record d { form = x }) is.form
+    ∙ ap (λ x. record d { form = Two; instance = x }) is.instance
+    ∙ ap (λ x. record d { form = Two; instance = g.instance; budget = x }) is.budget
+    ∙ ap (λ x. record d { form = Two; instance = g.instance; budget = g.nodes; kept = x }) is.kept
+    ∙ ap (λ x. record d { form = Two; instance = g.instance; budget = g.nodes; kept = g.kept; pool = x }) is.pool
+    ∙ ap (λ x. record d { form = Two; instance = g.instance; budget = g.nodes; kept = g.kept; pool = g.columns; plan = x }) is.plan
+    ∙ ap (λ x. record d { form = Two; instance = g.instance; budget = g.nodes; kept = g.kept; pool = g.columns; plan = g.plan; bound = x }) is.bound
 
 -- the call writes the dossier of these parts: all of it, or after a write fault a front of it
 pub record PutsDossier {K T E : Type 0} (sink : Ghosts K) (g : Given) (old new : K) (result : Result T E) : Type 0 where

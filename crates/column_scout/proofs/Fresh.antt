@@ -1,5 +1,5 @@
 -- routes that may be added to the columns, as one is added
-use Rattle.std.proofs.Common.{◌≡◌, ◌≢◌, Bool, true, false, not, List, [], ◌∷◌, ◌++◌, length, get_or, refl, sym, ◌∙◌, arith, true≢false}
+use Rattle.std.proofs.Common.{◌≡◌, ◌≢◌, true, false, List, [], ◌∷◌, ◌++◌, length, get_or, sym, ◌∙◌, arith, true≢false}
 use Rattle.std.specs.List.{list_any}
 use Rattle.std.proofs.lemmas.List.Elements.{All-push}
 use Rattle.std.proofs.lemmas.List.Folds.{list_any_at}
@@ -10,10 +10,6 @@ use Rattle.route_terms.specs.Keys.{same_route}
 use Rattle.route_terms.specs.KeyLaws.{same_route_decides}
 use Rattle.route_terms.specs.Routes.{IsNew}
 use Rattle.search_terms.specs.Search.{IsColumn}
-
-pub not_true : (b : Bool) → not b ≡ true → b ≡ false
-not_true false e = refl
-not_true true e = absurd (true≢false (sym e))
 
 pub none_same : (rs : List Route) (r : Route) → list_any (λ (o : Route). same_route o r) rs ≡ false → IsNew rs r
 none_same rs r none k d below same =

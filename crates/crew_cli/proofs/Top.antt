@@ -1,5 +1,5 @@
 -- what the statuses of a call say
-use Rattle.std.proofs.Common.{◌≡◌, ◌≢◌, ◌⊎◌, inl, inr, true, false, [], List, ℕ, length, Option, None, Some, Result, Ok, Err, take, ap, subst, sym, refl, ◌∙◌, arith}
+use Rattle.std.proofs.Common.{◌≡◌, ◌≢◌, ◌⊎◌, inl, inr, true, false, [], List, ℕ, length, Option, None, Some, Result, Ok, Err, take, ap, subst, sym, refl, ◌∙◌}
 use Rattle.std.proofs.Math.Seq.{take-length}
 use Rattle.std.specs.Prelude.{IfSome, IsTrue}
 use Rattle.crew_io.specs.Io.{Appended}
@@ -14,10 +14,9 @@ use Rattle.dossier_terms.specs.Dossier.{Dossier}
 use Rattle.dossier_commands.specs.Says.{SaysNo, ReadsDossiers}
 use Rattle.dossier_commands.specs.declared.read.Ended.{Ended as DossiersEnded}
 use Rattle.dossier_commands.specs.declared.read.Ended.TheVariants as dossiers
-use Rattle.day_commands.specs.Rounds.{PlansOf, Stops, IsFineDay, IsRefusedOutput, IsTooLong, IsStopped, SaysFirstRounds, SaysOutputPart, change_stop}
+use Rattle.day_commands.specs.Rounds.{PlansOf, Stops, IsFineDay, SaysFirstRounds, SaysOutputPart, change_stop}
 use Rattle.day_commands.specs.Outputs.{MayHave, TextsOf}
 use Rattle.day_commands.specs.Fronts.{part_of, first_are_part}
-use Rattle.day_commands.specs.Legal.{may_have}
 use Rattle.day_commands.specs.Says.{SaysAt, ReadsDay}
 use Rattle.day_commands.specs.declared.ended.DayOutput.{DayOutput}
 use Rattle.day_commands.specs.declared.ended.DayOutput.TheVariants.{Instances, Dossiers}
@@ -25,6 +24,7 @@ use Rattle.day_commands.specs.declared.ended.Ended.{Ended as DayEnded}
 use Rattle.day_commands.specs.declared.ended.Ended.TheVariants as day
 use Rattle.day_commands.specs.Dossiers.{IsProved, IsUnproved}
 use Rattle.day_commands.specs.Taken.{Wrote}
+use Rattle.day_commands.specs.Fine.{refused_not_fine}
 use Rattle.trial_command.specs.Says.{RunsTrial, SaysLine, SaysLineFront, Nothing, OfLine}
 use Rattle.trial_command.specs.declared.trial.TrialEnded.{TrialEnded}
 use Rattle.trial_command.specs.declared.trial.TrialEnded.TheVariants as trial
@@ -242,11 +242,6 @@ module _ {S K : Type 0} (source : SourceTells S) (sink : SinkTells K) (src : S) 
     writes = tells_write source sink src src out new r.writes (λ e. absurd (cc)) (λ e. absurd (cc));
     complete = if_some (source.left src) _ (λ input fine nr nw. inr refl);
   }
-
-refused_not_fine : (output : DayOutput) (text written : List ℕ) → IsRefusedOutput change_stop (TextsOf output) text written → IsFineDay change_stop (MayHave output) text → ⊥
-refused_not_fine output text written (IsTooLong more is) fine = let b = fine.0 in absurd (omega (arith, more, b))
-refused_not_fine output text written (IsStopped within plans rounds stop c lines texts is) fine =
-    absurd (let e = fine.1 plans rounds (Some stop) c (may_have output plans rounds lines texts) in cc)
 
 -- an input that is fine is not refused
 dossiers_done : (text : Dossier → List ℕ) (answer : Status) (unseen : Option (List ℕ)) (input written : List ℕ) (Full : Type 0) → DossiersSay text answer unseen input written → AreDossiers input

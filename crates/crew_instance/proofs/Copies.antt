@@ -1,5 +1,5 @@
 -- a plan that is copied from the first task on
-use Rattle.std.proofs.Common.{◌≡◌, ◌<◌, ◌+◌, ◌-◌, ◌++◌, ◌∷◌, ℕ, suc, List, [], length, take, replicate, set, get_or, Option, None, Some, arith, refl, sym, ap, ◌∙◌, append_assoc}
+use Rattle.std.proofs.Common.{◌≡◌, ◌<◌, ◌+◌, ◌-◌, ◌++◌, ◌∷◌, ℕ, suc, List, [], length, take, replicate, set, get_or, Option, None, Some, arith, sym, ap, ◌∙◌, append_assoc}
 use Rattle.std.proofs.lemmas.List.{take_more, set-append_right, length-take-le}
 use Rattle.std.specs.Option.{option_map}
 use Rattle.crew_terms.specs.Plan.{Plan, Job, job_of}
@@ -39,7 +39,3 @@ module _ (p : Plan) (i : ℕ) (l : i < length p) where
 pub job_again : (o : Option Job) (start : ℕ) (teams : List ℕ) → option_map (λ (job : Job). job.start) o ≡ Some start → teams ≡ job_teams o → o ≡ Some (record { start = start; teams = teams })
 job_again None start teams e f = let x : None ≡ Some start = e in cc
 job_again (Some job) start teams e f = let x : Some job.start ≡ Some start = e in let g : job.start ≡ start = cc in (λ k. Some (record { start = g k; teams = sym f k }))
-
-pub none_again : (o : Option Job) → option_map (λ (job : Job). job.start) o ≡ None → o ≡ None
-none_again None e = refl
-none_again (Some job) e = let x : Some job.start ≡ None = e in cc

@@ -14,3 +14,4 @@ pub mod Got
 pub mod KeptReader
 pub mod Std
 pub mod Text
+pub mod Results

@@ -3,19 +3,15 @@ use Rattle.std.proofs.Common.{◌≡◌, ◌<◌, ◌+◌, ◌*◌, ℕ, zero, s
 use Rattle.std.specs.Prelude.{ℤ, pos, negsuc, ◌+ℤ◌, ◌*ℤ◌, ◌≤ℤ◌, ◌<ℤ◌, unsigned_abs, FitsSigned}
 use Rattle.std.specs.Int.{int_div_euclid, int_rem_euclid, w128}
 use Rattle.std.proofs.lemmas.Int.{ints}
-use Rattle.crew_num.proofs.Products.{sum_times, times_swap}
+use Rattle.ring_laws.specs.Ring.{sum_times}
+use Rattle.ring_laws.specs.Quotients.{division}
+use Rattle.crew_num.proofs.Products.{times_swap}
 use Rattle.crew_num.specs.declared.exact.Op.TheVariants.{Mul}
 use Rattle.crew_num.specs.Exact.{fault}
 use Rattle.crew_num.specs.Ratios.{IsFloor, IsFloorOverflow}
 
 next : (f d : ℕ) → (negsuc (suc f) +ℤ pos 1) *ℤ pos (suc d) ≡ negsuc f *ℤ pos (suc d)
 next f d = let e : negsuc (suc f) +ℤ pos 1 ≡ negsuc f = omega (arith, ints) in ap (λ z. z *ℤ pos (suc d)) e
-
--- the quotient and the rest give the number again
-pub division : (n : ℤ) (d : ℕ) → 0 < d → (int_div_euclid n (pos d) *ℤ pos d) +ℤ int_rem_euclid n (pos d) ≡ n
-division n zero h = absurd (omega arith)
-division (pos n) (suc d) h = omega (arith, ints)
-division (negsuc n) (suc d) h = omega (arith, ints)
 
 -- the floor by the quotient, and what the rest adds to it
 pub scaled : (num whole : ℤ) (rest den scale part last : ℕ) → (whole *ℤ pos den) +ℤ pos rest ≡ num

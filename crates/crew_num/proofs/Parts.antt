@@ -2,7 +2,8 @@
 use Rattle.std.proofs.Common.{◌≡◌, ℕ, ◌*◌, ◌+◌, ap, arith}
 use Rattle.std.specs.Prelude.{ℤ, pos, ◌+ℤ◌, ◌-ℤ◌, ◌*ℤ◌}
 use Rattle.std.proofs.lemmas.Int.{ints}
-use Rattle.crew_num.proofs.Products.{sum_times, difference_times, times_swap}
+use Rattle.ring_laws.specs.Ring.{sum_times, difference_times}
+use Rattle.crew_num.proofs.Products.{times_swap}
 
 -- a difference whose part needs no unit of the whole
 pub plain : (w x y : ℤ) (q a b r : ℕ) → w ≡ x -ℤ y → r + b ≡ a

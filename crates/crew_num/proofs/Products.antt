@@ -1,23 +1,9 @@
 -- products of signed numbers
-use Rattle.std.proofs.Common.{◌≡◌, ◌*◌, ◌+◌, ◌≤◌, ℕ, ap, arith}
-use Rattle.std.specs.Prelude.{ℤ, pos, negsuc, ◌+ℤ◌, ◌-ℤ◌, ◌*ℤ◌, ◌≤ℤ◌}
+use Rattle.std.proofs.Common.{◌≡◌, ◌*◌, ◌≤◌, ℕ, ap, arith}
+use Rattle.std.specs.Prelude.{ℤ, pos, negsuc, ◌*ℤ◌, ◌≤ℤ◌}
 use Rattle.std.proofs.lemmas.Int.{ints}
 use Rattle.std.proofs.Math.Nat.{mul-le-mul}
 use borrow.Author.Differences.{up, down, product_is}
-
-pub sum_times : (a b c : ℤ) → (a +ℤ b) *ℤ c ≡ (a *ℤ c) +ℤ (b *ℤ c)
-sum_times a b c =
-    let f : up (a +ℤ b) + (down a + down b) ≡ down (a +ℤ b) + (up a + up b) = omega (arith, ints) in
-    let g = ap (λ k. k * up c) f in
-    let h = ap (λ k. k * down c) f in
-    omega (arith, ints)
-
-pub difference_times : (a b c : ℤ) → (a -ℤ b) *ℤ c ≡ (a *ℤ c) -ℤ (b *ℤ c)
-difference_times a b c =
-    let f : up (a -ℤ b) + (down a + up b) ≡ down (a -ℤ b) + (up a + down b) = omega (arith, ints) in
-    let g = ap (λ k. k * up c) f in
-    let h = ap (λ k. k * down c) f in
-    omega (arith, ints)
 
 pub times_swap : (a b c : ℤ) → (a *ℤ b) *ℤ c ≡ (a *ℤ c) *ℤ b
 times_swap a b c =
@@ -32,11 +18,6 @@ times_swap a b c =
     let m = ap (λ k. k * up b) r.1 in
     let n = ap (λ k. k * down b) r.1 in
     omega (arith, ints)
-
-pub not_negative : (a b : ℤ) → pos 0 ≤ℤ a → pos 0 ≤ℤ b → pos 0 ≤ℤ (a *ℤ b)
-not_negative (pos a) (pos b) h k = omega (arith, ints)
-not_negative (pos a) (negsuc b) h k = absurd (omega (arith, ints))
-not_negative (negsuc a) b h k = absurd (omega (arith, ints))
 
 -- a bounded product
 pub product_at_most : (a : ℤ) (n most times : ℕ) → pos 0 ≤ℤ a → a ≤ℤ pos most → n ≤ times → (a *ℤ pos n) ≤ℤ pos (most * times)

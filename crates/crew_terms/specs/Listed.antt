@@ -20,6 +20,10 @@ all_below n k d l =
 pub range_more : (n : ℕ) → range_with_len 0 (n + 1) ≡ range_with_len 0 n ++ n ∷ []
 range_more n = simp map-id at (map-range_with_len_more (λ (j : ℕ). j) 0 n n (omega arith))
 
+-- and so below the number after n
+pub range_suc : (n : ℕ) → range_with_len 0 (suc n) ≡ range_with_len 0 n ++ n ∷ []
+range_suc n = let e : suc n ≡ n + 1 = omega arith in ap (range_with_len 0) e ∙ range_more n
+
 -- they rise
 pub below_rises : (n : ℕ) → IsStrictlyIncreasing (range_with_len 0 n)
 below_rises n k l =

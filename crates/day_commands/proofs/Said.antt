@@ -1,6 +1,6 @@
 -- what is written of a day, entry by entry
-use Rattle.std.proofs.Common.{◌≡◌, ◌≢◌, ◌≤◌, ◌<◌, ◌+◌, ◌&&◌, ◌++◌, ◌∷◌, [], ℕ, Bool, true, false, List, Option, None, Some, Result, Ok, Err, length, take, drop, get_or, ap, subst, sym, refl, ◌∙◌, arith, append_assoc, append-nil, length-take}
-use Rattle.std.specs.Prelude.{IfSome, IsErr, IsTrue, OnErr, count_by}
+use Rattle.std.proofs.Common.{◌≡◌, ◌≢◌, ◌≤◌, ◌<◌, ◌+◌, ◌&&◌, ◌++◌, ◌∷◌, [], ℕ, Bool, true, false, List, Option, None, Some, Result, Ok, length, take, drop, get_or, ap, subst, sym, refl, ◌∙◌, arith, append_assoc, append-nil, length-take}
+use Rattle.std.specs.Prelude.{IfSome, IsTrue, count_by}
 use Rattle.std.proofs.lemmas.List.{take_more, take_all, take-append-drop}
 use Rattle.crew_terms.specs.Plan.{Plan}
 use Rattle.crew_terms.specs.declared.TheConstants.{LONGEST_DAY}
@@ -20,12 +20,11 @@ use Rattle.day_terms.specs.Refusal.{AreTaken, refusal_of}
 use Rattle.day_terms.specs.Rounds.{Round, round_at, rounds_of}
 use Rattle.replan.specs.Planning.{Planning}
 use Rattle.day_commands.specs.Refused.{refused_line}
-use Rattle.day_commands.specs.Rounds.{AreTakenBy, DayStop, ComesTo, AllTaken, BadRecord, BadEntry, IsFineDay, IsRefusedOutput, IsTooLong, IsStopped, OfRounds, OfRefusal, SaysFirstRounds, NoRound, Rounds, change_stop}
+use Rattle.day_commands.specs.Rounds.{AreTakenBy, DayStop, ComesTo, AllTaken, BadRecord, BadEntry, IsFineDay, IsTooLong, IsStopped, OfRounds, OfRefusal, SaysFirstRounds, NoRound, Rounds, change_stop}
 use Rattle.day_commands.specs.Outputs.{MayHave, TextsOf}
 use Rattle.day_commands.specs.Says.{SaysAt, whole_end, is_refused_or_write_fault, is_of_text, is_whole, can_end}
 use Rattle.day_commands.specs.Taken.{AreTextsFrom, IsTakenSo, IsDay, Wrote}
 use Rattle.day_commands.specs.Fronts.{take_front}
-use Rattle.day_commands.specs.Legal.{may_have}
 use Rattle.day_commands.specs.declared.ended.DayOutput.{DayOutput}
 use Rattle.day_commands.specs.declared.ended.DayOutput.TheVariants.{Instances, Dossiers}
 use Rattle.day_commands.specs.declared.ended.Ended.{Ended}
@@ -38,14 +37,6 @@ use Rattle.flight_changes.specs.declared.faults.ChangeFault.TheVariants.{OutOfMe
 use Rattle.day_commands.proofs.Applied.{known_none}
 use Rattle.day_commands.proofs.Days.{goes_on, rounds_more, state_takes_entries, stop_same, taken_more, state_more}
 use Rattle.day_commands.proofs.Texts.{HasAll, has_all, texts_none, texts_then, texts_are, texts_proved, texts_unproved}
-
-pub on_err : {X E : Type 0} (r : Result X E) (P : Type 0) → P → OnErr r P
-on_err (Ok x) P p = tt
-on_err (Err e) P p = p
-
-pub err_is_not_ok : {T E : Type 0} (result : Result T E) (x : T) → IsErr result → result ≡ Ok x → ⊥
-err_is_not_ok (Ok y) x is e = absurd (cc)
-err_is_not_ok (Err f) x is e = absurd (cc)
 
 pub same_ok : {T E : Type 0} {x y : T} → ◌≡◌ {A = Result T E} (Ok x) (Ok y) → x ≡ y
 same_ok e = cc
@@ -402,12 +393,6 @@ fault_says output (Some input) later got took = (
     parts = sym (take-append-drop took.0 input);
   },
 )
-
--- what is refused is not fine
-pub refused_not_fine : (output : DayOutput) (text written : List ℕ) → IsRefusedOutput change_stop (TextsOf output) text written → IsFineDay change_stop (MayHave output) text → ⊥
-refused_not_fine output text written (IsTooLong more is) fine = let b = fine.0 in absurd (omega arith)
-refused_not_fine output text written (IsStopped within plans rounds stop c lines texts is) fine =
-    absurd (let e = fine.1 plans rounds (Some stop) c (may_have output plans rounds lines texts) in cc)
 
 pub whole_no_fault : {E : Type 0} (q : Bool) (answer : Ended) → answer ≡ whole_end q → ◌≡◌ {A = Result Ended E} (Ok answer) (Ok ended.WriteFault) → ⊥
 whole_no_fault true answer is e = let f : ended.Done ≡ ended.WriteFault = sym is ∙ same_ok e in absurd (cc)

@@ -7,3 +7,4 @@ pub mod Says
 pub mod Legal
 pub mod Fronts
 pub mod Taken
+pub mod Fine

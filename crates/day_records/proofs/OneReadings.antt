@@ -15,6 +15,7 @@ use Rattle.field_table.specs.declared.fields.Cause.{Cause}
 use Rattle.field_table.specs.declared.fields.Cause.TheVariants.{Count, Spelling, Range}
 use Rattle.field_table.specs.declared.fields.Field.{Field}
 use Rattle.field_table.specs.declared.fields.FieldFault.{FieldFault}
+use Rattle.field_table.specs.OneFault.{one_cause, one_fault}
 use Rattle.day_terms.specs.Records.{field_of}
 use Rattle.day_terms.specs.Forms.{form_of, Slot, Value, Maker}
 use Rattle.day_terms.specs.Forms.Slot.{Named, Ranged, Skilled}
@@ -99,17 +100,9 @@ good_not_bad u Skilled field v Count g b = b
 good_not_bad u Skilled field v Spelling g b = b g.numbers g.spelled
 good_not_bad u Skilled field v Range g b = b.2 (subst (AllByRecursion IsSkill) (spell_all_one u (skill_words field) g.numbers b.0 g.spelled b.1) g.known)
 
-refused_one : (field : Field) (word : List ℕ) (c d : Cause) → Refuses field word c → Refuses field word d → c ≡ d
-refused_one field word Count d a b = absurd a
-refused_one field word c Count a b = absurd b
-refused_one field word Spelling Spelling a b = refl
-refused_one field word Spelling Range a b = absurd (a b.0 b.1)
-refused_one field word Range Spelling a b = absurd (b a.0 a.1)
-refused_one field word Range Range a b = refl
-
 bad_one : (s : Slot) (field : List ℕ) (c d : Cause) → IsBad s field c → IsBad s field d → c ≡ d
-bad_one Named field c d a b = refused_one name_field field c d a b
-bad_one (Ranged kind low high) field c d a b = refused_one (field_in (Ranged kind low high)) field c d a b
+bad_one Named field c d a b = one_cause name_field field c d a b
+bad_one (Ranged kind low high) field c d a b = one_cause (field_in (Ranged kind low high)) field c d a b
 bad_one Skilled field Count d a b = absurd a
 bad_one Skilled field c Count a b = absurd b
 bad_one Skilled field Spelling Spelling a b = refl
@@ -130,12 +123,9 @@ good_no_fault u [] maker fields place e fault a b = b
 good_no_fault u (s ∷ ss) maker fields place e fault (v, g, a) (inl b) = good_not_bad u s (field_of fields place) v fault.cause g b.1
 good_no_fault u (s ∷ ss) maker fields place e fault (v, g, a) (inr (w, h, b)) = good_no_fault u ss (maker v) fields (place + 1) e fault a b
 
-same_fault : (a b : FieldFault) → a.place ≡ b.place → a.cause ≡ b.cause → a ≡ b
-same_fault a b e f = ap (λ p. record { place = p; cause = a.cause }) e ∙ ap (λ c. record { place = b.place; cause = c }) f
-
 first_one : SpellsOne → (ss : List Slot) (fields : Words) (place : ℕ) (a b : FieldFault) → IsFirstBad ss fields place a → IsFirstBad ss fields place b → a ≡ b
 first_one u [] fields place a b x y = absurd x
-first_one u (s ∷ ss) fields place a b (inl x) (inl y) = same_fault a b (x.0 ∙ sym y.0) (bad_one s (field_of fields place) a.cause b.cause x.1 y.1)
+first_one u (s ∷ ss) fields place a b (inl x) (inl y) = one_fault a b (x.0 ∙ sym y.0) (bad_one s (field_of fields place) a.cause b.cause x.1 y.1)
 first_one u (s ∷ ss) fields place a b (inl x) (inr (w, h, y)) = absurd (good_not_bad u s (field_of fields place) w a.cause h x.1)
 first_one u (s ∷ ss) fields place a b (inr (v, g, x)) (inl y) = absurd (good_not_bad u s (field_of fields place) v b.cause g y.1)
 first_one u (s ∷ ss) fields place a b (inr (v, g, x)) (inr (w, h, y)) = first_one u ss fields (place + 1) a b x y

@@ -1,5 +1,6 @@
 -- fields that are good, and the first that is not
 use Rattle.std.proofs.Common.{◌≡◌, ◌<◌, ◌+◌, ◌↔◌, inl, inr, ℕ, zero, suc, List, [], ◌∷◌, refl, sym, subst, arith}
+use Rattle.std.proofs.lemmas.Option.{same_Some}
 use Rattle.crew_terms.specs.Words.{Words}
 use Rattle.field_table.specs.declared.fields.FieldFault.{FieldFault}
 use Rattle.day_terms.specs.Records.{field_of}
@@ -7,7 +8,6 @@ use Rattle.day_terms.specs.Forms.{Slot, Value, Maker}
 use Rattle.day_terms.specs.Fields.{Gives, IsBad, AllGive, IsFirstBad}
 use Rattle.day_terms.specs.Laws.{HasGood, IsBadAt}
 use Rattle.day_terms.specs.declared.Entry.{Entry}
-use Rattle.day_terms.proofs.Places.{same_some}
 
 -- the slot's field at this place is good
 abbrev Good : Words → Slot → ℕ → Type 0
@@ -21,7 +21,7 @@ good_sooner : (s : Slot) (ss : List Slot) (fields : Words) (place k : ℕ) → H
 good_sooner s ss fields place k good t e = let a : (place + 1) + k ≡ place + suc k = omega arith in subst (Good fields t) a (good t e)
 
 good_here : (s : Slot) (ss : List Slot) (fields : Words) (place : ℕ) → Good fields s place → HasGood (s ∷ ss) fields place 0
-good_here s ss fields place good t e = let a : place ≡ place + 0 = omega arith in subst (λ u. Good fields u (place + 0)) (same_some s t e) (subst (Good fields s) a good)
+good_here s ss fields place good t e = let a : place ≡ place + 0 = omega arith in subst (λ u. Good fields u (place + 0)) (same_Some s t e) (subst (Good fields s) a good)
 
 here_good : (s : Slot) (ss : List Slot) (fields : Words) (place : ℕ) → HasGood (s ∷ ss) fields place 0 → Good fields s place
 here_good s ss fields place good = let a : place + 0 ≡ place = omega arith in subst (Good fields s) a (good s refl)
@@ -78,7 +78,7 @@ first_of_bad : (ss : List Slot) (fields : Words) (place : ℕ) (fault : FieldFau
 first_of_bad [] fields place fault n h = absurd (let e = h.slot_is in cc)
 first_of_bad (s ∷ ss) fields place fault zero h =
     let a : place + 0 ≡ place = omega arith in
-    inl ((let e = h.place_is in omega arith), subst (λ t. IsBad t (field_of fields place) fault.cause) (sym (same_some s h.slot h.slot_is)) (subst (λ m. IsBad h.slot (field_of fields m) fault.cause) a h.bad))
+    inl ((let e = h.place_is in omega arith), subst (λ t. IsBad t (field_of fields place) fault.cause) (sym (same_Some s h.slot h.slot_is)) (subst (λ m. IsBad h.slot (field_of fields m) fault.cause) a h.bad))
 first_of_bad (s ∷ ss) fields place fault (suc n) h =
     let here = here_good s ss fields place (h.good 0 (omega arith)) in
     let a : place + suc n ≡ (place + 1) + n = omega arith in

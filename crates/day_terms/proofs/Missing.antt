@@ -5,11 +5,11 @@ use Rattle.std.specs.Option.{option_or}
 use Rattle.std.proofs.lemmas.List.Concat.{flat_map-cons}
 use Rattle.std.proofs.lemmas.List.Elements.{All-cons, All-nil}
 use Rattle.std.proofs.lemmas.List.Folds.{find-append}
+use Rattle.std.proofs.lemmas.Option.{same_Some}
 use Rattle.day_terms.specs.State.{DayState}
 use Rattle.day_terms.specs.Rounds.{lacks_time, first_missing}
 use Rattle.day_terms.specs.Laws.{IsFirstLack}
 use Rattle.day_terms.specs.ByTest.{by_test, find_here, find_later}
-use Rattle.day_terms.proofs.Places.{same_some}
 
 abbrev Bytes : Type 0
 Bytes = List ℕ
@@ -35,7 +35,7 @@ module _ (s : DayState) where
   in_row from (to ∷ ps) q e =
       by_test (lacks_time s (from, to))
       (λ t.
-      let same = same_some (from, to) q (sym (find_here (lacks_time s) (from, to) (row_of ps from) t) ∙ e) in
+      let same = same_Some (from, to) q (sym (find_here (lacks_time s) (from, to) (row_of ps from) t) ∙ e) in
       subst (InRow from (to ∷ ps)) same (record { b = 0; from_is = refl; to_is = refl; lacks = t; earlier = All-nil (Told from) }))
       (λ t.
       let r = in_row from ps q (sym (find_later (lacks_time s) (from, to) (row_of ps from) t) ∙ e) in
@@ -72,7 +72,7 @@ module _ (s : DayState) where
       where
         by : (o : Option (Bytes × Bytes)) → find (lacks_time s) (row_of ps f) ≡ o → (found fs ≡ Some q → InRows fs q) → InRows (f ∷ fs) q
         by (Some w) h later =
-            let same = same_some w q (sym (ap (λ o. option_or o (found fs)) h) ∙ sym (found_by_row f fs) ∙ e) in
+            let same = same_Some w q (sym (ap (λ o. option_or o (found fs)) h) ∙ sym (found_by_row f fs) ∙ e) in
             let r = in_row f ps q (h ∙ ap Some same) in
             record { a = 0; from_is = ap Some (sym r.from_is); row = subst (λ x. InRow x ps q) (sym r.from_is) r; earlier = All-nil AllTold }
         by None h later =

@@ -1,15 +1,13 @@
 -- two lists whose elements belong together, place by place
 use Rattle.std.proofs.Common.{◌≡◌, ◌↔◌, ℕ, zero, suc, ℤ, List, [], ◌∷◌, Some, Ok, length, slice_get, refl, subst₂, arith}
 use Rattle.std.specs.List.{AllZip}
+use Rattle.std.proofs.lemmas.Option.{same_Some}
 use Rattle.crew_terms.specs.Words.{Words}
 use Rattle.field_table.specs.Fields.{Spells}
 use Rattle.field_table.specs.declared.fields.Kind.TheVariants.{Number}
 use Rattle.day_terms.specs.Fields.{SpellAll}
 use Rattle.day_terms.specs.Days.{ReadsRecord, SayEntries}
 use Rattle.day_terms.specs.declared.Entry.{Entry}
-
-pub same_some : {X : Type 0} (x y : X) → Some x ≡ Some y → x ≡ y
-same_some x y e = cc
 
 module _ {A B : Type 0} (R : A → B → Type 0) where
   -- as many of both, and those at each place belong together
@@ -18,7 +16,7 @@ module _ {A B : Type 0} (R : A → B → Type 0) where
 
   at_first : (x : A) (xs : List A) (y : B) (ys : List B) → R x y → ((k : ℕ) (v : A) (w : B) → slice_get xs k ≡ Some v → slice_get ys k ≡ Some w → R v w)
       → (k : ℕ) (v : A) (w : B) → slice_get (x ∷ xs) k ≡ Some v → slice_get (y ∷ ys) k ≡ Some w → R v w
-  at_first x xs y ys r rest zero v w e f = subst₂ R (same_some x v e) (same_some y w f) r
+  at_first x xs y ys r rest zero v w e f = subst₂ R (same_Some x v e) (same_Some y w f) r
   at_first x xs y ys r rest (suc k) v w e f = rest k v w e f
 
   at_places : (xs : List A) (ys : List B) → AllZip R xs ys → AtPlaces xs ys

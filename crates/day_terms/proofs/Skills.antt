@@ -5,12 +5,12 @@ use Rattle.std.specs.Int.{bit_at, bit_not, w64}
 use Rattle.std.proofs.lemmas.Bool.{cases_eq, cases_lt}
 use Rattle.std.proofs.Math.Pow.{pow-lt}
 use Rattle.std.proofs.lemmas.Nat.Bits.{bit_at_and, bit_at_or, bit_at_not, bit_at_above, bit_at-lt, bit_at-pow_same, bit_at-pow_other}
+use Rattle.std.proofs.lemmas.Option.{same_Some}
 use Rattle.crew_terms.specs.declared.Team.{Team}
 use Rattle.day_terms.specs.State.{DayState}
 use Rattle.day_terms.specs.Entries.{after_entry}
 use Rattle.day_terms.specs.declared.Entry.TheVariants.{Skill, Unskill}
 use Rattle.day_terms.proofs.Named.{changed_named}
-use Rattle.day_terms.proofs.Places.{same_some}
 use Rattle.day_terms.proofs.Times.{Bytes}
 
 one_more : (set n m : ℕ) → (bit_at (bit_or set (2 ^ n)) m ≡ 1) ↔ ((m ≡ n) ⊎ (bit_at set m ≡ 1))
@@ -72,12 +72,12 @@ module _ (s : DayState) (team : Bytes) (n k m : ℕ) (before after : Team) (at :
   pub skill : slice_get (after_entry s (Skill team n)).teams k ≡ Some after → (bit_at after.skills m ≡ 1) ↔ ((m ≡ n) ⊎ (bit_at before.skills m ≡ 1))
   skill then =
       let change : Team → Team = λ t. record t { skills = bit_or t.skills (2 ^ n) } in
-      let same : change before ≡ after = same_some (change before) after (sym (changed_named (λ (t : Team). t.name) s.teams team change k before at named) ∙ then) in
+      let same : change before ≡ after = same_Some (change before) after (sym (changed_named (λ (t : Team). t.name) s.teams team change k before at named) ∙ then) in
       subst (λ (t : Team). (bit_at t.skills m ≡ 1) ↔ ((m ≡ n) ⊎ (bit_at before.skills m ≡ 1))) same (one_more before.skills n m)
 
   pub unskill : slice_get (after_entry s (Unskill team n)).teams k ≡ Some after → n < 64 → before.skills < 2 ^ 64
       → (bit_at after.skills m ≡ 1) ↔ ((m ≢ n) × (bit_at before.skills m ≡ 1))
   unskill then known small =
       let change : Team → Team = λ t. record t { skills = bit_and t.skills (bit_not w64 (2 ^ n)) } in
-      let same : change before ≡ after = same_some (change before) after (sym (changed_named (λ (t : Team). t.name) s.teams team change k before at named) ∙ then) in
+      let same : change before ≡ after = same_Some (change before) after (sym (changed_named (λ (t : Team). t.name) s.teams team change k before at named) ∙ then) in
       subst (λ (t : Team). (bit_at t.skills m ≡ 1) ↔ ((m ≢ n) × (bit_at before.skills m ≡ 1))) same (one_less before.skills n m known small)

@@ -3,6 +3,7 @@ use Rattle.std.proofs.Common.{◌≡◌, ◌≢◌, ◌⊎◌, ◌&&◌, inl, in
 use Rattle.std.specs.Prelude.{bytes_eq, find, option_map}
 use Rattle.std.proofs.lemmas.Bool.Decides.{not_from_Decides}
 use Rattle.std.proofs.lemmas.Slice.Eq.{bytes_eq-Decides}
+use Rattle.std.proofs.Math.Bool.{and-false}
 use Rattle.day_terms.specs.State.{DayState, Given, is_way, given_time, with_time_between}
 use Rattle.day_terms.specs.Instances.{minutes_given}
 use Rattle.day_terms.specs.ByTest.{by_test, find_here, find_later}
@@ -19,10 +20,6 @@ same a = (bytes_eq-Decides a a).1 refl
 pub no_tie : (a b : Bytes) → a ≢ b → bytes_eq a b ≡ false
 no_tie a b other = by_test (bytes_eq a b) (λ t. absurd (other ((bytes_eq-Decides a b).0 t))) (λ t. t)
 
-and_false : (x : Bool) → x && false ≡ false
-and_false true = refl
-and_false false = refl
-
 both : (x y : Bool) → x && y ≡ true → (x ≡ true) × (y ≡ true)
 both true true e = (refl, refl)
 both true false e = absurd (cc)
@@ -31,7 +28,7 @@ both false y e = absurd (cc)
 -- names that are not those of a way
 apart : (a b from to : Bytes) → (a ≢ from) ⊎ (b ≢ to) → bytes_eq a from && bytes_eq b to ≡ false
 apart a b from to (inl other) = rw (no_tie a from other) refl
-apart a b from to (inr other) = rw (no_tie b to other) (and_false (bytes_eq a from))
+apart a b from to (inr other) = rw (no_tie b to other) (and-false (bytes_eq a from))
 
 apart_from : (a b from to : Bytes) (g : Given) → (a ≢ from) ⊎ (b ≢ to) → is_way from to g ≡ true → is_way a b g ≡ false
 apart_from a b from to g other way =

@@ -1,6 +1,6 @@
 -- what is written for the dossiers of an input, one after another
-use Rattle.std.proofs.Common.{◌≡◌, ◌^◌, ◌++◌, ℕ, List, [], ◌∷◌, length, take, Option, None, Some, Result, Ok, Err, ap, subst, sym, refl, ◌∙◌, arith, append-nil}
-use Rattle.std.specs.Prelude.{All, IfSome, OnErr, IsErr}
+use Rattle.std.proofs.Common.{◌≡◌, ◌^◌, ◌++◌, ℕ, List, [], ◌∷◌, length, take, Option, None, Some, Result, Ok, ap, subst, sym, refl, ◌∙◌, arith, append-nil}
+use Rattle.std.specs.Prelude.{All, IfSome}
 use Rattle.std.specs.List.{flat_map}
 use Rattle.std.proofs.lemmas.List.Concat.{flat_map-append}
 use Rattle.std.proofs.lemmas.List.Elements.{All-nil, All-push}
@@ -42,14 +42,6 @@ opens reader checker e f = subst (λ r. CanGoOn r checker) (sym e) (subst (CanGo
 -- nothing is read yet of an input
 none_read : (input : List ℕ) → HasRead input [] [] input Form
 none_read input = record { text = refl; within = omega arith; good = All-nil _; each = All-nil _; leads = refl }
-
-pub err_is_not_ok : {T E : Type 0} (result : Result T E) (x : T) → IsErr result → result ≡ Ok x → ⊥
-err_is_not_ok (Ok y) x is e = absurd (cc)
-err_is_not_ok (Err f) x is e = absurd (cc)
-
-pub on_err : {X E : Type 0} (r : Result X E) (P : Type 0) → P → OnErr r P
-on_err (Ok x) P p = tt
-on_err (Err e) P p = p
 
 pub yes_is_no_fault : {E : Type 0} (outcome : Outcome) (verdict : Verdict) → outcome ≡ Yes verdict → ◌≡◌ {A = Result Outcome E} (Ok outcome) (Ok ReadFault) → ⊥
 yes_is_no_fault outcome verdict is e = cc

@@ -1,20 +1,14 @@
 -- the numbers below another, and those of them that a test keeps
-use Rattle.std.proofs.Common.{◌≡◌, ◌<◌, ◌+◌, ℕ, suc, [], ◌∷◌, ◌++◌, get_or, ap, ◌∙◌, sym, subst, inl, inr, arith, Bool}
+use Rattle.std.proofs.Common.{◌<◌, ℕ, get_or, sym, subst, inl, inr, arith, Bool}
 use Rattle.std.specs.Prelude.{map, filter, All}
 use Rattle.std.specs.List.{range_with_len}
 use Rattle.std.specs.List.Sorted.{IsStrictlyIncreasing}
 use Rattle.std.proofs.lemmas.Bool.{cases_lt}
-use Rattle.std.proofs.lemmas.List.{map-id, get_or_past}
-use Rattle.std.proofs.lemmas.List.FromFn.{get_or-map-range_with_len, length-map-range_with_len, map-range_with_len_more}
+use Rattle.std.proofs.lemmas.List.{get_or_past}
+use Rattle.std.proofs.lemmas.List.FromFn.{get_or-map-range_with_len, length-map-range_with_len}
 use Rattle.std.proofs.lemmas.List.Elements.{All-filter}
 use Rattle.std.proofs.lemmas.List.Kept.{IsStrictlyIncreasing-filter}
 use Rattle.crew_terms.specs.Listed.{all_below, below_rises}
-
--- one more number comes at the end
-pub range_more : (n : ℕ) → range_with_len 0 (suc n) ≡ range_with_len 0 n ++ n ∷ []
-range_more n =
-    let e : suc n ≡ n + 1 = omega arith in
-    ap (range_with_len 0) e ∙ simp map-id at (map-range_with_len_more (λ (j : ℕ). j) 0 n n (omega arith))
 
 -- what holds of f at a number below n, and of what stands past its numbers
 pub map_at : {X : Type 0} (P : X → Type 0) (f : ℕ → X) (n k : ℕ) (d : X) → (k < n → P (f k)) → P d → P (get_or (map f (range_with_len 0 n)) k d)

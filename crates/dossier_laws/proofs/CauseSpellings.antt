@@ -1,18 +1,18 @@
 -- no two causes have one spelling
-use Rattle.std.proofs.Common.{◌≡◌, ◌≤◌, ℕ, suc, ℤ, pos, negsuc, List, ◌∷◌, ap, sym, refl, ◌∙◌, arith, true, false}
+use Rattle.std.proofs.Common.{◌≡◌, ◌≤◌, ℕ, suc, ℤ, pos, negsuc, List, ◌∷◌, ap, sym, ◌∙◌, arith, true, false}
 use Rattle.std.proofs.lemmas.Int.{ints}
-use Rattle.std.specs.Prelude.{slice_index_or, ◌≤ℤ◌}
+use Rattle.std.specs.Prelude.{◌≤ℤ◌}
 use Rattle.std.specs.Fmt.{decimal, signed_decimal}
 use Rattle.std.specs.Str.{all_ascii_digits}
 use Rattle.std.proofs.lemmas.Fmt.{decimal_is_IsNumeral_wide}
 use Rattle.crew_num.specs.declared.Op.{Op}
-use Rattle.crew_num.specs.declared.Op.TheVariants.{Add, Sub, Mul}
 use Rattle.crew_num.specs.declared.Overflow.{Overflow}
 use Rattle.crew_terms.specs.declared.TheConstants.{MOST_TASKS}
 use Rattle.dossier_terms.specs.Causes.{Part, IsPartOf}
 use Rattle.dossier_terms.specs.Counted.{IsVast, vast}
 use Rattle.dossier_terms.specs.Lines.{loose_line, share_line, spare_line, op_word, overflow_line, spent_line}
 use Rattle.dossier_terms.specs.Ranges.{IsNowWord, IsLooseLine, IsSpareLine, IsOverflowLine}
+use Rattle.dossier_terms.specs.Apart.{op_one}
 use Rattle.dossier_laws.proofs.Spellings.{dec, map_one, own, read_on}
 
 -- ---- numbers of 128 bits
@@ -59,21 +59,6 @@ share_one columns whole few small x y a b e =
 
 pub spare_one : (n whole : ℕ) → whole ≤ 170141183460469231731687303715884105727 → (x y : List ℕ) → IsSpareLine n whole x → IsSpareLine n whole y → spare_line x ≡ spare_line y → x ≡ y
 spare_one n whole small x y a b e = map_one decimal (λ z. z ≤ whole) (λ k l h i. dec_vast k l (omega arith) (omega arith)) x y a.most b.most cc
-
--- the first letter of an operation
-abbrev letter : Op → ℕ
-letter op = slice_index_or (op_word op) 0 0
-
-op_one : (x y : Op) → op_word x ≡ op_word y → x ≡ y
-op_one Add Add e = refl
-op_one Add Sub e = absurd (let l : letter Add ≡ letter Sub = ap (λ word. slice_index_or word 0 0) e in omega arith)
-op_one Add Mul e = absurd (let l : letter Add ≡ letter Mul = ap (λ word. slice_index_or word 0 0) e in omega arith)
-op_one Sub Add e = absurd (let l : letter Sub ≡ letter Add = ap (λ word. slice_index_or word 0 0) e in omega arith)
-op_one Sub Sub e = refl
-op_one Sub Mul e = absurd (let l : letter Sub ≡ letter Mul = ap (λ word. slice_index_or word 0 0) e in omega arith)
-op_one Mul Add e = absurd (let l : letter Mul ≡ letter Add = ap (λ word. slice_index_or word 0 0) e in omega arith)
-op_one Mul Sub e = absurd (let l : letter Mul ≡ letter Sub = ap (λ word. slice_index_or word 0 0) e in omega arith)
-op_one Mul Mul e = refl
 
 pub overflow_one : (n : ℕ) → n ≤ MOST_TASKS → (x y : ℕ × Overflow) → IsOverflowLine n x → IsOverflowLine n y → overflow_line x.0 x.1 ≡ overflow_line y.0 y.1 → x ≡ y
 overflow_one n few x y a b e =

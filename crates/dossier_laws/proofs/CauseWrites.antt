@@ -2,10 +2,9 @@
 use Rattle.std.proofs.Common.{◌≡◌, ◌≤◌, ℕ, suc, List, [], ◌∷◌, ◌++◌, length, ap, sym, refl, ◌∙◌, subst, arith, append_assoc, append-nil}
 use Rattle.std.proofs.lemmas.List.{get_or_default, length-map}
 use Rattle.std.proofs.lemmas.List.Elements.{recursion_from_All}
-use Rattle.std.specs.Prelude.{map, codes, slice_index, slice_index_or}
+use Rattle.std.specs.Prelude.{map}
 use Rattle.std.specs.List.{AllByRecursion}
 use Rattle.std.specs.Fmt.{decimal}
-use Rattle.crew_terms.specs.Words.{Words}
 use Rattle.crew_terms.specs.Instance.{Instance}
 use Rattle.crew_terms.specs.Limits.{root_limits}
 use Rattle.search_terms.specs.Shares.{IsRouteIn, Share}
@@ -17,11 +16,8 @@ use Rattle.dossier_terms.specs.Rules.{Holds, Then, Else, Spelled, On}
 use Rattle.dossier_terms.specs.Table.{Reaches}
 use Rattle.dossier_terms.specs.CauseTable.{tasks_at, open_at}
 use Rattle.dossier_terms.specs.Counted.{instance_below}
+use Rattle.dossier_terms.specs.Apart.{other_why}
 use Rattle.dossier_laws.proofs.Rules.{reaches-append}
-
--- the first byte of word k
-abbrev first_byte : ℕ → Words → ℕ
-first_byte k ws = slice_index (slice_index_or ws k []) 0
 
 -- a number of tasks that may be told is one that its line may have
 now_written : (p : SplitSite) (now : ℕ) → IsNow (limits_before p) (open_at p) now → IsNowWord (tasks_at p) now
@@ -67,10 +63,6 @@ loose_reached p now s known h loose =
     )
 
 -- ---- causes
-
--- a cause of another kind
-other_why : (kind : List ℕ) (ws : Words) → (slice_index kind 0 ≡ first_byte 1 ws → ⊥) → (rest : Words) × (ws ≡ codes "why" ∷ kind ∷ rest) → ⊥
-other_why kind ws other e = other (sym (ap (first_byte 1) e.1))
 
 pub cause_reached : (p : SplitSite) (cause : Cause) → IsCauseIn p.begun.pool (limits_before p) (open_at p) cause → Reaches (Whys p) (cause_lines cause) (cause_done p cause)
 cause_reached p NoCause h = (

@@ -8,6 +8,7 @@ use Rattle.crew_terms.specs.Instance.{Instance}
 use Rattle.crew_terms.specs.Rules.{IsInstance}
 use Rattle.crew_terms.specs.Plan.{Plan, empty_plan, job_of}
 use Rattle.crew_terms.specs.Legal.{IsFeasible}
+use Rattle.crew_terms.specs.EmptyPlan.{job_none, empty_feasible}
 use Rattle.dossier_terms.specs.declared.DossierForm.{DossierForm}
 use Rattle.dossier_terms.specs.declared.DossierForm.TheVariants.{One, Two}
 use Rattle.dossier_terms.specs.declared.Size.{Size}
@@ -18,7 +19,6 @@ use Rattle.dossier_terms.specs.Rules.{Holds, Spelled, On}
 use Rattle.dossier_terms.specs.HeadTable.{CanFreeze, frozen_row, after_keep, keep_row}
 use Rattle.dossier_terms.specs.Table.{Reaches}
 use Rattle.dossier_laws.proofs.SoFar.{head_so_far, keeps_lines, AreKeeps, IsUnfrozen, IsReading, spelled, Follows}
-use Rattle.dossier_laws.proofs.Empty.{job_none, empty_feasible}
 use Rattle.dossier_laws.proofs.Jobs.{jobs_count, jobs_none, jobs_set, no_jobs, do_fits}
 use Rattle.dossier_laws.proofs.Lists.{map_more}
 use Rattle.dossier_laws.proofs.HeadReads.{parts_whole, times_whole, size_is}

@@ -15,12 +15,13 @@ use Rattle.dossier_terms.specs.declared.DossierForm.TheVariants.{One, Two}
 use Rattle.dossier_terms.specs.declared.Size.{Size}
 use Rattle.dossier_terms.specs.Dossier.{FitsForm, skills_of, mask_of}
 use Rattle.crew_terms.specs.Words.{Words}
+use Rattle.crew_terms.specs.EmptyPlan.{empty_feasible}
 use Rattle.dossier_terms.specs.Lines.{form_line, size_line, place_line, travel_line, team_line, task_line, size_of, team_words, task_words}
 use Rattle.dossier_terms.specs.Reading.{Reading, Answer, Opening, nothing, Form, Sizes, Places, Travels, Teams, Tasks, places_due, travels_due, teams_due, tasks_due, tasks_done}
 use Rattle.dossier_terms.specs.Ranges.{IsSize, IsTravel}
 use Rattle.dossier_terms.specs.HeadTable.{form_row, size_row, place_row, travel_row, team_row, task_row}
 use Rattle.dossier_laws.proofs.SoFar.{head_so_far, AreNamed, IsPart, HasRead, ArePlaces, AreTravels, AreTeams, AreTasks, IsHead, IsReading, spelled, Follows}
-use Rattle.dossier_laws.proofs.Empty.{empty_more, empty_feasible}
+use Rattle.dossier_laws.proofs.Empty.{empty_more}
 use Rattle.dossier_laws.proofs.Skills.{skills_again, mask_small}
 use Rattle.dossier_laws.proofs.Rules.{must_then, spells_then, goes_then}
 

@@ -1,11 +1,10 @@
 -- the prices of a leaf: only required pairs have one, and each lies in its range
-use Rattle.std.proofs.Common.{◌≡◌, ◌<◌, ℕ, ℤ, List, [], ◌∷◌, length, get_or, ap, sym, refl, ◌∙◌, arith, Bool, true, false, inl, inr, cond}
+use Rattle.std.proofs.Common.{◌≡◌, ℕ, ℤ, List, [], ◌∷◌, length, get_or, ap, sym, refl, ◌∙◌, arith, Bool, true, false, inl, inr, cond}
 use Rattle.std.specs.Prelude.{pos, map, filter, ◌==◌}
 use Rattle.std.specs.List.{AllByRecursion, range_with_len}
 use Rattle.std.proofs.lemmas.Int.{ints}
 use Rattle.std.proofs.lemmas.Bool.{cases_eq, ne_eqb}
 use Rattle.std.proofs.lemmas.List.Elements.{All-from_recursion}
-use Rattle.std.proofs.lemmas.List.FromFn.{get_or-map-range_with_len}
 use Rattle.crew_terms.specs.Limits.{Limits, pair_of, tasks_in, teams_in, is_required}
 use Rattle.crew_terms.specs.Minutes.{required_teams, priced}
 use Rattle.crew_terms.specs.Leaf.{IsOnRequired, IsPrice, AreInRange, rho_of}
@@ -29,12 +28,6 @@ beside_none {A} P (k ∷ ks) xs key other h = at (P k) refl (λ ys. beside_none 
     at false e ih xs = ih xs
     at true e ih [] = refl
     at true e ih (x ∷ ys) = test x ys e (ih ys) (k == key) refl
-
--- what stands in the prices for a team and a task
-pub rho_at : (n : Limits) (leaf : Leaf) (k j : ℕ) → k < teams_in n → j < tasks_in n → rho_of (prices_of n leaf) k j ≡ extra_of n leaf k j
-rho_at n leaf k j lt l =
-    ap (λ r. get_or r j (pos 0)) (get_or-map-range_with_len (λ k. map (extra_of n leaf k) (range_with_len 0 (tasks_in n))) 0 (teams_in n) k k [] lt (omega arith))
-    ∙ get_or-map-range_with_len (extra_of n leaf k) 0 (tasks_in n) j j (pos 0) l (omega arith)
 
 -- what holds of 0 and of the extra of a pair holds of its price
 rho_each : (P : ℤ → Type 0) (n : Limits) (leaf : Leaf) (k j : ℕ) → P (extra_of n leaf k j) → P (pos 0) → P (rho_of (prices_of n leaf) k j)

@@ -16,13 +16,14 @@ use Rattle.dossier_terms.specs.Lines.{open_line, closed_line, price_line, extra_
 use Rattle.dossier_terms.specs.Runs.{values_of}
 use Rattle.dossier_terms.specs.Reading.{Reading, Answer, limits_of, Prices, Extras, Worths, Phis, LeafSite}
 use Rattle.dossier_terms.specs.LeafTable.{after_table, after_phi, after_extra, price_row, extra_row, worth_row, potentials_row, table_row}
+use Rattle.dossier_terms.specs.RunLengths.{values_length}
 use Rattle.dossier_laws.proofs.SoFar.{IsLeafSite, NodeHolds, RowsSoFar, AreLeafPrices, TablesHold, IsLeafPart, IsReading, spelled, Follows, nodes_so_far, leaf_line, site_so_far, prices_so_far, tables_so_far, row_line, table_so_far}
 use Rattle.dossier_laws.proofs.Rules.{must_then, each_then, spells_then, goes_then}
 use Rattle.dossier_laws.proofs.NodeReads.{done_reads}
 use Rattle.dossier_laws.proofs.LeafPrices.{on_required, in_range}
 use Rattle.dossier_laws.proofs.Lists.{All-at}
 use Rattle.dossier_laws.proofs.Days.{tasks_open}
-use Rattle.dossier_laws.proofs.Runs.{runs_again, values_length, values_in}
+use Rattle.dossier_laws.proofs.Runs.{runs_again, values_in}
 
 -- ---- rows
 

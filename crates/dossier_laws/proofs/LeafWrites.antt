@@ -22,8 +22,9 @@ use Rattle.dossier_terms.specs.Table.{Reaches}
 use Rattle.dossier_terms.specs.LeafTable.{after_table, after_phi, after_extra, potentials_row}
 use Rattle.dossier_laws.proofs.SoFar.{TablesHold, row_line}
 use Rattle.dossier_laws.proofs.Rules.{reaches-append}
-use Rattle.dossier_laws.proofs.Days.{IsDay, IsOpen, tasks_in_time}
+use Rattle.dossier_laws.proofs.Days.{IsOpen, tasks_in_time}
 use Rattle.dossier_laws.proofs.Runs.{they_are_runs, some_runs, runs_below, runs_in, values_again}
+use Rattle.dossier_laws.specs.Days.{IsDay}
 
 -- ---- what is due after the last line of a part
 

@@ -1,6 +1,6 @@
 -- the lines of a sound tree are read
-use Rattle.std.proofs.Common.{◌≡◌, ◌<◌, ◌≤◌, ◌+◌, ℕ, List, [], ◌∷◌, ◌++◌, length, ap, sym, refl, ◌∙◌, subst, arith, true, false}
-use Rattle.std.specs.Prelude.{codes, slice_index, slice_index_or}
+use Rattle.std.proofs.Common.{◌≡◌, ◌<◌, ◌≤◌, ◌+◌, List, [], ◌∷◌, ◌++◌, length, ap, sym, refl, ◌∙◌, subst, arith, true, false}
+use Rattle.std.specs.Prelude.{codes}
 use Rattle.crew_terms.specs.Words.{Words}
 use Rattle.crew_terms.specs.Instance.{Instance}
 use Rattle.crew_terms.specs.Rules.{IsInstance}
@@ -21,11 +21,12 @@ use Rattle.dossier_terms.specs.Reading.{Answer, More, limits_below, choice_done,
 use Rattle.dossier_terms.specs.Rules.{Holds, Then, Else, Spelled, On}
 use Rattle.dossier_terms.specs.Table.{Reaches}
 use Rattle.dossier_terms.specs.NodeTable.{HasSplitRoom, node_row, leaf_row}
+use Rattle.dossier_terms.specs.Apart.{first_byte}
 use Rattle.dossier_laws.proofs.SoFar.{NodeHolds, CauseHolds}
 use Rattle.dossier_laws.proofs.CauseWrites.{cause_reached}
 use Rattle.dossier_laws.proofs.Rules.{reaches-append}
-use Rattle.dossier_laws.proofs.Days.{IsDay, last_minute, root_day, child_day}
 use Rattle.dossier_laws.proofs.LeafWrites.{leaf_reached}
+use Rattle.dossier_laws.specs.Days.{IsDay, last_minute, root_day, child_day}
 
 -- ---- numbers of a tree
 
@@ -46,10 +47,6 @@ room : (c : TreeCounts) (above : List Above) (split : Split) (first second : Wri
 room c above split first second f = (omega arith, omega arith)
 
 -- ---- nodes
-
--- the first byte of word k
-abbrev first_byte : ℕ → Words → ℕ
-first_byte k ws = slice_index (slice_index_or ws k []) 0
 
 split_said : (b : Begun) (c : TreeCounts) (above : List Above) (choice : Choice) → (limits_below (root_limits b.instance) above).instance ≡ b.instance → IsDay (limits_below (root_limits b.instance) above)
     → CanSplit (limits_below (root_limits b.instance) above) choice → HasSplitRoom c above → node_row b c above (choice_line choice) (More (choice_done b.form b c above choice))

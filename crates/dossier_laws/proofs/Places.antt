@@ -7,9 +7,9 @@ use Rattle.std.proofs.lemmas.List.Kept.{AllPairs-from_increasing}
 use Rattle.crew_terms.specs.Limits.{Limits, tasks_in, teams_in, pair_of, is_required, has_required}
 use Rattle.crew_terms.specs.Leaf.{IsPrice, rho_of}
 use Rattle.dossier_terms.specs.Dossier.{Leaf, Potentials, no_potentials, beside, AreRows, Tables, IsTable, IsSigned, IsWritten, prices_of, phi_of}
+use Rattle.dossier_terms.specs.PricesAt.{rho_at}
 use Rattle.crew_terms.specs.Minutes.{priced, required_teams, open_tasks, minute_count, first_minute}
 use Rattle.crew_terms.specs.Rising.{rises_tail}
-use Rattle.dossier_laws.proofs.LeafPrices.{rho_at}
 use Rattle.dossier_laws.proofs.Below.{kept_less, kept_rises}
 
 rows-length : (In : ℤ → Type 0) (wants : ℕ → ℕ) (keys : List ℕ) (rows : List (List ℤ)) → AreRows In wants keys rows → length rows ≡ length keys

@@ -7,13 +7,13 @@ use Rattle.crew_terms.specs.Rules.{IsInstance}
 use Rattle.crew_terms.specs.Plan.{Plan, empty_plan, job_of, unassigned_count}
 use Rattle.crew_terms.specs.Legal.{IsLegal}
 use Rattle.crew_terms.specs.Words.{Words}
+use Rattle.crew_terms.specs.EmptyPlan.{job_none}
 use Rattle.dossier_terms.specs.Lines.{plan_line, do_line, jobs_from, plan_lines}
 use Rattle.dossier_terms.specs.Reading.{Reading, Answer, More, Plans, Jobs, Trees, jobs_due, Begun}
 use Rattle.dossier_terms.specs.Rules.{Holds, HoldsBy, Spelled, On}
 use Rattle.dossier_terms.specs.Table.{Reaches}
 use Rattle.dossier_terms.specs.BodyTable.{plan_row, job_row, after_job}
 use Rattle.dossier_laws.proofs.SoFar.{IsPoolPart, AreRoutes, IsPlanPart, AreJobs, IsReading, spelled, Follows, routes_lines, jobs_lines}
-use Rattle.dossier_laws.proofs.Empty.{job_none}
 use Rattle.dossier_laws.proofs.Jobs.{jobs_count, jobs_none, jobs_set, no_jobs, do_fits}
 use Rattle.dossier_laws.proofs.Lists.{map_more}
 use Rattle.dossier_laws.proofs.Rules.{must_then, by_then, spells_then, goes_then}

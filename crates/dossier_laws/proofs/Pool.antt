@@ -19,9 +19,9 @@ use Rattle.dossier_terms.specs.BodyTable.{pool_row, route_row, begin}
 use Rattle.dossier_terms.specs.Counted.{route_pairs}
 use Rattle.dossier_laws.proofs.SoFar.{IsHead, IsPoolPart, AreRoutes, IsReading, spelled, Follows, routes_lines}
 use Rattle.crew_terms.specs.declared.TheConstants.{LAST_MINUTE}
-use Rattle.dossier_laws.proofs.Days.{IsDay, last_minute, root_day}
 use Rattle.dossier_laws.proofs.Lists.{All-at, AllPairs-at, map_more}
 use Rattle.dossier_laws.proofs.Rules.{must_then, spells_then, goes_then, reaches_all}
+use Rattle.dossier_laws.specs.Days.{IsDay, last_minute, root_day}
 
 -- ---- what is read
 

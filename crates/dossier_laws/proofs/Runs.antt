@@ -1,15 +1,10 @@
 -- runs of equal numbers and the numbers that they stand for
-use Rattle.std.proofs.Common.{◌≡◌, ◌<◌, ◌≤◌, ◌+◌, ◌-◌, ℕ, zero, suc, ℤ, List, [], ◌∷◌, ◌++◌, length, replicate, ap, sym, refl, ◌∙◌, arith, append-nil, length-append, Bool, true, false, cond}
+use Rattle.std.proofs.Common.{◌≡◌, ◌<◌, ◌≤◌, ◌+◌, ◌-◌, ℕ, zero, suc, ℤ, List, [], ◌∷◌, ◌++◌, length, replicate, ap, sym, refl, ◌∙◌, arith, Bool, true, false, cond}
 use Rattle.std.specs.Prelude.{◌≢◌}
 use Rattle.std.specs.List.{AllByRecursion}
 use Rattle.std.specs.Ordering.{int_eq}
 use Rattle.std.proofs.lemmas.Bool.Decides.{Decides-int_eq, not_from_Decides}
-use Rattle.std.proofs.lemmas.List.{length-replicate}
 use Rattle.dossier_terms.specs.Runs.{Run, runs_after, runs_of, begin_of, values_of, RunsGoOn, AreRuns}
-
--- the test of a number and the one before it
-is_same : (v w : ℤ) → int_eq v w ≡ true → v ≡ w
-is_same v w e = (Decides-int_eq v w).0 e
 
 is_other : (v w : ℤ) → int_eq v w ≡ false → v ≢ w
 is_other v w e = not_from_Decides (int_eq v w) (Decides-int_eq v w) e
@@ -22,7 +17,7 @@ other_is v w other = at (int_eq v w) refl
   where
     at : (b : Bool) → int_eq v w ≡ b → b ≡ false
     at false e = refl
-    at true e = absurd (other (is_same v w e))
+    at true e = absurd (other ((Decides-int_eq v w).0 e))
 
 -- ---- the numbers of the runs of numbers
 
@@ -53,7 +48,7 @@ values_after past last t (v ∷ vs) e = at (int_eq v last) refl (values_after pa
     at : (b : Bool) → int_eq v last ≡ b → Follow last → Follow v → replicate (begin_of past (rest b) - t) last ++ values_of past (rest b) ≡ v ∷ vs
     at true same h k =
         one_value last t (begin_of past (runs_after last (suc t) vs)) (values_of past (runs_after last (suc t) vs)) vs (begins_later past last (suc t) vs (omega arith)) h
-        ∙ ap (λ w. w ∷ vs) (sym (is_same v last same))
+        ∙ ap (λ w. w ∷ vs) (sym ((Decides-int_eq v last).0 same))
     at false other h k =
         ap (λ n. replicate n last ++ values_of past (record { from = t; value = v } ∷ runs_after v (suc t) vs)) (let n : t - t ≡ 0 = omega arith in n)
         ∙ one_value v t (begin_of past (runs_after v (suc t) vs)) (values_of past (runs_after v (suc t) vs)) vs (begins_later past v (suc t) vs (omega arith)) k
@@ -138,16 +133,6 @@ runs_again first past (r ∷ rs) h l =
     ap (λ vs. runs_of first vs) (values_cons past r rs (go_on_begin r past rs h.1 in_time))
     ∙ ap (λ t. runs_of t (r.value ∷ (replicate (begin_of past rs - suc r.from) r.value ++ values_of past rs))) (sym h.0)
     ∙ ap (λ ws. r ∷ ws) (runs_back r past rs h.1 in_time)
-
-go_on_length : (r : Run) (past : ℕ) (rs : List Run) → RunsGoOn r past rs → length (values_of past (r ∷ rs)) ≡ past - r.from
-go_on_length r past [] h = ap length (append-nil (replicate (past - r.from) r.value)) ∙ length-replicate (past - r.from) r.value
-go_on_length r past (s ∷ rs) h =
-    let a = go_on_length s past rs h.3 in
-    length-append (replicate (s.from - r.from) r.value) (values_of past (s ∷ rs)) ∙ (let n : length (replicate (s.from - r.from) r.value) + length (values_of past (s ∷ rs)) ≡ past - r.from = omega (arith, length-replicate (s.from - r.from) r.value, h.0, h.1) in n)
-
-pub values_length : (first past : ℕ) (rs : List Run) → AreRuns first past rs → length (values_of past rs) ≡ past - first
-values_length first past [] h = absurd h
-values_length first past (r ∷ rs) h = go_on_length r past rs h.1 ∙ ap (λ t. past - t) h.0
 
 many_in : (In : ℤ → Type 0) (k : ℕ) (v : ℤ) (vs : List ℤ) → In v → AllByRecursion In vs → AllByRecursion In (replicate k v ++ vs)
 many_in In zero v vs h each = each

@@ -15,10 +15,10 @@ use Rattle.crew_terms.specs.declared.Task.{Task}
 use Rattle.crew_terms.specs.declared.TheConstants.{LAST_MINUTE}
 use Rattle.dossier_terms.specs.Dossier.{IsGood}
 use Rattle.crew_terms.specs.Limits.{Route}
+use Rattle.crew_terms.specs.EmptyPlan.{job_none, empty_feasible}
 use Rattle.dossier_terms.specs.Lines.{lines_of}
 use Rattle.dossier_laws.specs.Sheet.{sheet, sheet_instance, sheet_plan, sheet_lines}
 use Rattle.std.proofs.lemmas.List.Elements.{All-from_recursion}
-use Rattle.dossier_laws.proofs.Empty.{job_none, empty_feasible}
 
 pub sheet_spelled : lines_of sheet ≡ sheet_lines
 sheet_spelled = refl

@@ -21,8 +21,9 @@ use Rattle.dossier_terms.specs.BodyTable.{BreaksPlan, after_job}
 use Rattle.dossier_terms.specs.CauseTable.{tasks_at}
 use Rattle.dossier_terms.specs.HeadTable.{after_keep}
 use Rattle.dossier_terms.specs.LeafTable.{after_table, after_phi, after_extra, potentials_row}
+use Rattle.dossier_terms.specs.Apart.{form_one}
 use Rattle.dossier_laws.proofs.SoFar.{IsReading}
-use Rattle.dossier_laws.proofs.Spellings.{form_one, size_one, name_one, travel_one, team_one, task_one, pool_one, plan_one, window_one, node_pair_one, tree_one, route_one, do_one, prices_one, signed_one, worth_one, frozen_one, keep_one, steps_one}
+use Rattle.dossier_laws.proofs.Spellings.{size_one, name_one, travel_one, team_one, task_one, pool_one, plan_one, window_one, node_pair_one, tree_one, route_one, do_one, prices_one, signed_one, worth_one, frozen_one, keep_one, steps_one}
 use Rattle.dossier_laws.proofs.CauseSpellings.{loose_one, share_one, spare_one, overflow_one, spent_one}
 use Rattle.dossier_laws.proofs.HeadReads.{parts_whole}
 

@@ -11,10 +11,10 @@ use Rattle.std.proofs.lemmas.Bool.{cases_lt, eqb-true, eq-eqb}
 use Rattle.std.proofs.lemmas.List.Elements.{filter-append, recursion_from_All}
 use Rattle.crew_terms.specs.Minutes.{IsListOf}
 use Rattle.crew_terms.specs.declared.TheConstants.{SKILLS}
-use Rattle.crew_terms.specs.Listed.{list_of}
+use Rattle.crew_terms.specs.Listed.{list_of, range_suc}
 use Rattle.crew_terms.specs.Rising.{rises_tail}
 use Rattle.dossier_terms.specs.Dossier.{skills_of, mask_of}
-use Rattle.dossier_laws.proofs.Below.{range_more, kept_less, kept_rises}
+use Rattle.dossier_laws.proofs.Below.{kept_less, kept_rises}
 
 pub skills_known : (mask : ℕ) → All (λ s. s < SKILLS) (skills_of mask)
 skills_known mask = kept_less (λ s. bit_at mask s == 1) SKILLS
@@ -56,7 +56,7 @@ mask_to : (mask n : ℕ) → mask_of (filter (λ s. bit_at mask s == 1) (range_w
 mask_to mask zero = omega arith
 mask_to mask (suc n) =
     let p : ℕ → Bool = λ s. bit_at mask s == 1 in
-    let a = ap (λ ss. mask_of (filter p ss)) (range_more n) ∙ ap mask_of (filter-append p (range_with_len 0 n) (n ∷ [])) ∙ mask-append (filter p (range_with_len 0 n)) (filter p (n ∷ [])) in
+    let a = ap (λ ss. mask_of (filter p ss)) (range_suc n) ∙ ap mask_of (filter-append p (range_with_len 0 n) (n ∷ [])) ∙ mask-append (filter p (range_with_len 0 n)) (filter p (n ∷ [])) in
     let b = mask_to mask n in
     let c = one_bit mask n in
     let d : mask % 2 ^ (1 + n) ≡ (mask / 2 ^ n % 2 ^ 1) * 2 ^ n + mask % 2 ^ n = mod-pow-add mask 1 n in

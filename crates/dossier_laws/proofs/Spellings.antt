@@ -1,7 +1,7 @@
 -- no two values have one spelling
 use Rattle.std.proofs.Common.{◌≡◌, ◌<◌, ◌≤◌, ◌+◌, ◌-◌, ◌*◌, ℕ, suc, ℤ, pos, negsuc, List, [], ◌∷◌, drop, ap, sym, refl, ◌∙◌, arith, rules, true, false}
 use Rattle.std.proofs.lemmas.Int.{ints}
-use Rattle.std.specs.Prelude.{map, slice_index_or, codes, ◌≤ℤ◌}
+use Rattle.std.specs.Prelude.{map, codes, ◌≤ℤ◌}
 use Rattle.std.specs.List.{AllByRecursion, flat_map}
 use Rattle.std.specs.Fmt.{decimal, signed_decimal}
 use Rattle.std.specs.Str.{all_ascii_digits}
@@ -13,13 +13,11 @@ use Rattle.crew_terms.specs.declared.Team.{Team}
 use Rattle.crew_terms.specs.declared.Task.{Task}
 use Rattle.crew_terms.specs.declared.Visit.{Visit}
 use Rattle.crew_terms.specs.declared.TheConstants.{LAST_MINUTE, MOST_PLACES, MOST_TASKS, MOST_TEAMS, SKILLS}
-use Rattle.dossier_terms.specs.declared.DossierForm.{DossierForm}
-use Rattle.dossier_terms.specs.declared.DossierForm.TheVariants.{One, Two}
 use Rattle.dossier_terms.specs.declared.Size.{Size}
 use Rattle.dossier_terms.specs.Dossier.{IsWorthNumber, IsSigned}
 use Rattle.crew_terms.specs.Limits.{Route}
 use Rattle.crew_terms.specs.Leaf.{IsPrice}
-use Rattle.dossier_terms.specs.Lines.{form_line, size_line, place_line, travel_line, team_words, task_words, pool_line, route_line, visit_words, plan_line, do_line, tree_line, window_line, pair_line, worth_line, frozen_line, keep_line, run_words, steps_line}
+use Rattle.dossier_terms.specs.Lines.{size_line, place_line, travel_line, team_words, task_words, pool_line, route_line, visit_words, plan_line, do_line, tree_line, window_line, pair_line, worth_line, frozen_line, keep_line, run_words, steps_line}
 use Rattle.dossier_terms.specs.Runs.{Run}
 use Rattle.crew_terms.specs.declared.TreeCounts.{TreeCounts}
 use Rattle.dossier_terms.specs.Ranges.{IsSize, IsTravel, IsTeamLine, IsTaskLine, IsRouteLine, IsDoLine, IsCounts, AreNumbers, IsStepsLine}
@@ -192,12 +190,6 @@ pub worth_one : (x y : ℤ) → IsWorthNumber x → IsWorthNumber y → worth_li
 worth_one x y a b e = sdec x y (worth_wide x a) (worth_wide y b) cc
 
 -- ---- what form 2 has besides
-
-pub form_one : (x y : DossierForm) → form_line x ≡ form_line y → x ≡ y
-form_one One One e = refl
-form_one One Two e = absurd (let n : 49 ≡ 50 = ap (λ ws. slice_index_or (slice_index_or ws 2 []) 0 0) e in omega arith)
-form_one Two One e = absurd (let n : 50 ≡ 49 = ap (λ ws. slice_index_or (slice_index_or ws 2 []) 0 0) e in omega arith)
-form_one Two Two e = refl
 
 pub frozen_one : (n : ℕ) → n ≤ MOST_TASKS → (x y : ℕ) → x ≤ n → y ≤ n → frozen_line x ≡ frozen_line y → x ≡ y
 frozen_one n few x y a b e = dec x y (omega arith) (omega arith) cc

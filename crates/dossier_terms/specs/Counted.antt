@@ -29,7 +29,7 @@ depth_le (LeafNode claim) = omega arith
 depth_le (SplitNode split first second) = let a = depth_le first in let b = depth_le second in omega arith
 
 -- a cause is unshown or not
-unshown_le : (c : Cause) → unshown_in c ≤ 1
+pub unshown_le : (c : Cause) → unshown_in c ≤ 1
 unshown_le NoCause = omega arith
 unshown_le (Loose now shares) = omega arith
 unshown_le (Overflowed now fault) = omega arith

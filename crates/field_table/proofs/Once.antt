@@ -14,6 +14,7 @@ use Rattle.field_table.specs.declared.fields.Cause.{Cause}
 use Rattle.field_table.specs.declared.fields.Cause.TheVariants.{Count, Spelling, Range}
 use Rattle.field_table.specs.declared.fields.Field.{Field}
 use Rattle.field_table.specs.declared.fields.FieldFault.{FieldFault}
+use Rattle.field_table.specs.OneFault.{one_cause, one_fault}
 
 -- a clock text has one number
 one_clock : (m n : ℕ) → m < 6000 → n < 6000 → clock_text m ≡ clock_text n → m ≡ n
@@ -34,18 +35,6 @@ not_both : (field : Field) (word : List ℕ) (z : ℤ) (cause : Cause) → Accep
 not_both field word z Count a r = r
 not_both field word z Spelling a r = r z a.spelled
 not_both field word z Range a (y, s, out) = out (subst (Accepts field word) (one_spelling field.kind word z y a.spelled s) a)
-
--- and refused for one cause
-one_cause : (field : Field) (word : List ℕ) (a b : Cause) → Refuses field word a → Refuses field word b → a ≡ b
-one_cause field word Count b r s = absurd r
-one_cause field word a Count r s = absurd s
-one_cause field word Spelling Spelling r s = refl
-one_cause field word Range Range r s = refl
-one_cause field word Spelling Range r (z, s, out) = absurd (r z s)
-one_cause field word Range Spelling (z, s, out) r = absurd (r z s)
-
-one_fault : (f g : FieldFault) → f.place ≡ g.place → f.cause ≡ g.cause → f ≡ g
-one_fault f g p c = ap (λ n. record f { place = n }) p ∙ ap (λ (x : Cause). record g { cause = x }) c
 
 pub one_word : (field : Field) (word : List ℕ) (place : ℕ) (r s : Result ℤ FieldFault) → ReadsWord field word place r → ReadsWord field word place s → r ≡ s
 one_word field word place (Ok y) (Ok z) a b = ap Ok (one_spelling field.kind word y z a.spelled b.spelled)

@@ -4,3 +4,4 @@ pub mod Cut
 pub mod Clocks
 pub mod Fields
 pub mod Schemas
+pub mod OneFault

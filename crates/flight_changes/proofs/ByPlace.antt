@@ -1,12 +1,13 @@
 -- entries by their places, and loops that go on by one place
 use Rattle.std.proofs.Common.{◌≡◌, ◌<◌, ◌+◌, ◌++◌, ℕ, zero, suc, Bool, true, false, cond, List, [], ◌∷◌, Some, None, length, map, filter, fold, get_or, take, nat_lt, slice_get, append-nil, append_assoc, arith, refl, sym, ap, ◌∙◌}
 use Rattle.std.specs.Prelude.{bytes_eq, flat_map, position}
-use Rattle.std.specs.List.{position_or_len, range_with_len}
+use Rattle.std.specs.List.{position_or_len}
 use Rattle.std.specs.Map.{keys_of, values_of}
 use Rattle.std.proofs.lemmas.List.{length-map}
 use Rattle.std.proofs.lemmas.List.Concat.{flat_map-append}
 use Rattle.std.proofs.lemmas.List.Elements.{filter_more}
 use Rattle.std.proofs.lemmas.List.Sums.{fold-append}
+use Rattle.crew_terms.specs.Ranges.{range_from}
 use Rattle.day_terms.specs.ByTest.{by_test}
 use Rattle.day_terms.specs.Faulty.{below}
 use Rattle.flight_changes.proofs.Keyed.{Bytes, IsNamed, has}
@@ -46,17 +47,10 @@ module _ {A B : Type 0} (f : B → A → B) (p : A → Bool) (a : B) (xs : List 
 
 -- ---- numbers below a bound, one further
 
-range_more : (a n : ℕ) → range_with_len a (n + 1) ≡ range_with_len a n ++ (a + n) ∷ []
-range_more a zero = let e : a ≡ a + 0 = omega arith in ap (λ k. k ∷ []) e
-range_more a (suc n) =
-    let e : suc n + 1 ≡ suc (n + 1) = omega arith in
-    let f : a + 1 + n ≡ a + suc n = omega arith in
-    ap (range_with_len a) e ∙ ap (λ ks. a ∷ ks) (range_more (a + 1) n ∙ ap (λ k. range_with_len (a + 1) n ++ k ∷ []) f)
-
 pub each_more : {X : Type 0} (f : ℕ → List X) (n : ℕ) → flat_map f (below (n + 1)) ≡ flat_map f (below n) ++ f n
 each_more f n =
     let e : 0 + n ≡ n = omega arith in
-    ap (flat_map f) (range_more 0 n ∙ ap (λ k. below n ++ k ∷ []) e)
+    ap (flat_map f) (range_from 0 n ∙ ap (λ k. below n ++ k ∷ []) e)
     ∙ flat_map-append f (below n) (n ∷ [])
     ∙ ap (λ xs. flat_map f (below n) ++ xs) (append-nil (f n))
 

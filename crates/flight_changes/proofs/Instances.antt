@@ -1,6 +1,6 @@
 -- the travel times of a state within the limits
-use Rattle.std.proofs.Common.{◌≡◌, ◌≤◌, ℕ, Bool, true, false, List, [], ◌∷◌, Option, None, Some, length, map, arith, if◌then◌else◌}
-use Rattle.std.specs.Prelude.{All, IfSome, bytes_eq, find, option_map, unwrap_or}
+use Rattle.std.proofs.Common.{◌≡◌, ◌≤◌, List, [], ◌∷◌, length, map}
+use Rattle.std.specs.Prelude.{All, IfSome, bytes_eq, find, option_map}
 use Rattle.std.proofs.lemmas.List.{length-map}
 use Rattle.std.proofs.lemmas.List.Elements.{All-map, All-head, All-tail}
 use Rattle.crew_terms.specs.Rules.{AreTimes}
@@ -9,6 +9,7 @@ use Rattle.day_terms.specs.State.{DayState, Given, is_way}
 use Rattle.day_terms.specs.Instances.{minutes_given, minutes_by_name, day_instance}
 use Rattle.flight_changes.specs.Limits.{IsState}
 use Rattle.day_terms.specs.ByTest.{by_test}
+use Rattle.crew_instance.specs.Times.{few_by}
 use Rattle.flight_changes.proofs.Keyed.{Bytes}
 
 abbrev Few : Given → Type 0
@@ -18,12 +19,6 @@ few_found : (gs : List Given) (from to : Bytes) → All Few gs → IfSome (optio
 few_found [] from to all = tt
 few_found (g ∷ gs) from to all =
     by_test (is_way from to g) (λ t. rw t (All-head Few g gs all)) (λ t. rw t (few_found gs from to (All-tail Few g gs all)))
-
-few_by : (t : Option ℕ) (e : Bool) (default : Option ℕ) → IfSome t (λ m. m ≤ LAST_MINUTE) → IfSome default (λ m. m ≤ LAST_MINUTE) → unwrap_or t (if e then 0 else unwrap_or default 0) ≤ LAST_MINUTE
-few_by (Some m) e default h k = h
-few_by None true default h k = omega arith
-few_by None false (Some m) h k = k
-few_by None false None h k = omega arith
 
 module _ (s : DayState) (is : IsState s) where
   few : (from to : Bytes) → minutes_by_name s from to ≤ LAST_MINUTE

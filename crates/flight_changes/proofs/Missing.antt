@@ -7,6 +7,7 @@ use Rattle.day_terms.specs.Instances.{minutes_given}
 use Rattle.std.specs.Option.{option_or}
 use Rattle.std.proofs.Math.Seq.{drop-cons}
 use Rattle.std.proofs.lemmas.List.Folds.{find-append}
+use Rattle.std.proofs.Math.Bool.{and-false}
 
 module _ {A B : Type 0} (p : B → Bool) (xs : List A) (i : ℕ) (x : A) (below : i < length xs) (at : x ≡ get_or xs i x) where
   from_here : drop i xs ≡ x ∷ drop (i + 1) xs
@@ -25,10 +26,6 @@ module _ {A B : Type 0} (p : B → Bool) (xs : List A) (i : ℕ) (x : A) (below 
     row_found y found =
         rest ∙ ap (λ ys. find p (flat_map g ys)) from_here ∙ find-append p (g x) (flat_map g (drop (i + 1) xs)) ∙ ap (λ o. option_or o (find p (flat_map g (drop (i + 1) xs)))) found
 
-and_false : (b : Bool) → b && false ≡ false
-and_false true = refl
-and_false false = refl
-
 none_of : {X : Type 0} (o : Option X) → is_some o ≡ true → is_none o ≡ false
 none_of (Some x) e = refl
 none_of None e = cc
@@ -38,5 +35,5 @@ pub none_missing : (s : DayState) → is_some s.default_minutes ≡ true → (ps
 none_missing s e [] = refl
 none_missing s e (p ∷ ps) =
     let n = none_of s.default_minutes e in
-    let f : lacks_time s p ≡ false = ap (λ b. not (bytes_eq p.0 p.1) && is_none (minutes_given s p.0 p.1) && b) n ∙ and_false (not (bytes_eq p.0 p.1) && is_none (minutes_given s p.0 p.1)) in
+    let f : lacks_time s p ≡ false = ap (λ b. not (bytes_eq p.0 p.1) && is_none (minutes_given s p.0 p.1) && b) n ∙ and-false (not (bytes_eq p.0 p.1) && is_none (minutes_given s p.0 p.1)) in
     rw f (none_missing s e ps)

@@ -1,10 +1,8 @@
 -- a plan that is made task by task
 use Rattle.std.proofs.Common.{◌≡◌, ◌≢◌, ◌<◌, ◌≤◌, ◌+◌, ◌++◌, ℕ, [], ◌∷◌, None, length, take, set, arith, refl, sym, ap, ◌∙◌}
-use Rattle.std.proofs.lemmas.Bool.{cases_lt}
-use Rattle.std.proofs.lemmas.List.{get_or-replicate, get_or-set_other, get_or_past, length-replicate, length-set, take_all, take_more, take_more_set}
-use Rattle.std.specs.Prelude.{◌⊎◌}
-use Rattle.std.proofs.Common.{inl, inr}
+use Rattle.std.proofs.lemmas.List.{get_or-set_other, length-replicate, length-set, take_all, take_more, take_more_set}
 use Rattle.crew_terms.specs.Plan.{Plan, empty_plan, job_of}
+use Rattle.crew_terms.specs.EmptyPlan.{job_none}
 
 -- p is as q below task j, and has no job from there on
 pub record IsSoFar (p q : Plan) (j : ℕ) : Type 0 where
@@ -12,15 +10,8 @@ pub record IsSoFar (p q : Plan) (j : ℕ) : Type 0 where
   pub below : take j p ≡ take j q
   pub rest : (h : ℕ) → j ≤ h → job_of p h ≡ None
 
-none_at : (n h : ℕ) → job_of (empty_plan n) h ≡ None
-none_at n h = at (cases_lt h n)
-  where
-    at : (h < n) ⊎ (n ≤ h) → job_of (empty_plan n) h ≡ None
-    at (inl l) = get_or-replicate n h None None l
-    at (inr m) = let e : length (empty_plan n) ≡ n = length-replicate n None in get_or_past (empty_plan n) h None (omega arith)
-
 pub so_far_none : (q : Plan) (n : ℕ) → n ≡ length q → IsSoFar (empty_plan n) q 0
-so_far_none q n e = record { whole = length-replicate n None ∙ e; below = refl; rest = λ h l. none_at n h }
+so_far_none q n e = record { whole = length-replicate n None ∙ e; below = refl; rest = λ h l. job_none n h }
 
 pub so_far_more : (p q : Plan) (j : ℕ) → IsSoFar p q j → j < length q → IsSoFar (set p j (job_of q j)) q (j + 1)
 so_far_more p q j so l =

@@ -1,5 +1,5 @@
 -- a step of the numbers of a route; and what the widened rows are
-use Rattle.std.proofs.Common.{◌≡◌, ◌<◌, ◌+◌, ◌++◌, ◌∷◌, [], ℕ, ℤ, ◌+ℤ◌, ◌*ℤ◌, suc, zero, List, true, false, cond, length, take, get_or, map, filter, refl, ap, sym, arith, ◌∙◌, append-nil, length-append}
+use Rattle.std.proofs.Common.{◌≡◌, ◌<◌, ◌+◌, ◌++◌, ◌∷◌, [], ℕ, ℤ, ◌+ℤ◌, ◌*ℤ◌, suc, List, true, false, cond, length, take, get_or, map, filter, ap, sym, arith, ◌∙◌, append-nil, length-append}
 use Rattle.std.specs.Global.{Vec}
 use Rattle.std.proofs.Math.Seq.{get_or-append_seam}
 use Rattle.std.proofs.lemmas.List.{map-append, map_more, get_or_append_left}
@@ -10,16 +10,10 @@ use Rattle.search_terms.specs.declared.Place.TheVariants.{Right, Value}
 use Rattle.search_terms.specs.Rows.{Row}
 use Rattle.search_terms.specs.Opening.{cost, cost_sum, opens, places_where, visit_number}
 use Rattle.crew_terms.specs.Limits.{Route}
+use Rattle.crew_terms.specs.Totals.{total-same}
 use Rattle.frac_master.specs.Table.{rows_of}
 use Rattle.frac_master.specs.Columns.{entry_of}
 use Rattle.frac_master.proofs.Walked.{where_more}
-
-pub total-same : (n : ℕ) (f g : ℕ → ℤ) → ((i : ℕ) → i < n → f i ≡ g i) → total n f ≡ total n g
-total-same zero f g h = refl
-total-same (suc n) f g h =
-    let a = total-same n f g (λ i below. h i (omega arith)) in
-    let b = h n (omega arith) in
-    cc
 
 abbrev sum_at : (Place → ℤ) → List Place → ℤ
 sum_at a l = total (length l) (λ h. cost (get_or l h Value) *ℤ a (get_or l h Value))

@@ -12,6 +12,7 @@ use Rattle.search_terms.specs.declared.Place.TheVariants.{Right, Value, Unused, 
 use Rattle.search_terms.specs.Rows.{Row, Rows, number, row_of, value_row, width}
 use Rattle.search_terms.specs.Opening.{basics, cost_sum, entered, entry, openers, opener, opening_basis, opens, places, places_where, route_number, times, visit_number}
 use Rattle.crew_terms.specs.Limits.{Route}
+use Rattle.crew_terms.specs.Totals.{total-same}
 use Rattle.search_terms.specs.Overflows.{IsOfSum}
 use Rattle.search_terms.specs.Overflows.IsOfSum.{Product, Sum}
 use Rattle.frac_master.specs.Table.{rows_of, table}
@@ -22,7 +23,6 @@ use Rattle.frac_master.specs.declared.solved.Added.TheVariants.{Overflow as Over
 use Rattle.std.specs.Prelude.{None, MatchOption}
 use Rattle.frac_master.specs.Sums.{sum_to}
 use Rattle.frac_master.specs.Columns.{AreWidened, IsColumn, IsRowFault, entry_of}
-use Rattle.frac_master.proofs.Columned.{total-same}
 
 list_ext : {A : Type 0} (xs ys : List A) (d : A) → length xs ≡ length ys → ((k : ℕ) → k < length xs → get_or xs k d ≡ get_or ys k d) → xs ≡ ys
 list_ext xs ys d e h = same_lists xs ys e (λ k b lt.

@@ -1,22 +1,10 @@
 -- lists over a range that grows by one
 use Rattle.std.proofs.Common.{◌≡◌, ◌<◌, ◌+◌, ◌++◌, ◌∷◌, ◌∙◌, ◌↔◌, [], ℕ, zero, suc, List, Bool, true, false, cond, not, ap, refl, arith, length, filter, append_assoc, append-nil, length-append}
-use Rattle.crew_terms.specs.Limits.{is_required}
-use Rattle.crew_terms.specs.declared.Pair.{Pair}
-use Rattle.crew_terms.specs.declared.Pair.TheVariants.{Free, Forbidden, Required}
+use Rattle.crew_terms.specs.Listed.{range_more}
 use Rattle.std.specs.Prelude.{flat_map}
 use Rattle.std.specs.List.{range_with_len}
 use Rattle.std.proofs.lemmas.List.Elements.{filter-append}
 use Rattle.std.proofs.lemmas.Grind.{flat_map-append}
-
-pub range_from : (a n : ℕ) → range_with_len a (n + 1) ≡ range_with_len a n ++ (a + n) ∷ []
-range_from a zero = ap (λ k. k ∷ []) (omega arith)
-range_from a (suc n) =
-    let e : suc n + 1 ≡ suc (n + 1) = omega arith in
-    let f : a + 1 + n ≡ a + suc n = omega arith in
-    rw e (ap (λ l. a ∷ l) (range_from (a + 1) n ∙ ap (λ k. range_with_len (a + 1) n ++ k ∷ []) f))
-
-pub range_more : (n : ℕ) → range_with_len 0 (n + 1) ≡ range_with_len 0 n ++ n ∷ []
-range_more n = range_from 0 n ∙ ap (λ k. range_with_len 0 n ++ k ∷ []) (omega arith)
 
 pub flat_more : {A : Type 0} (f : ℕ → List A) (n : ℕ) → flat_map f (range_with_len 0 (n + 1)) ≡ flat_map f (range_with_len 0 n) ++ f n
 flat_more f n = ap (flat_map f) (range_more n) ∙ flat_map-append f (range_with_len 0 n) (n ∷ []) ∙ ap (λ l. flat_map f (range_with_len 0 n) ++ l) (append-nil (f n))
@@ -42,11 +30,6 @@ closed_from b m s ne = ap not (s.0 (by_case m ne))
     by_case : (m : ℕ) → (m ≡ 0 → ⊥) → 0 < m
     by_case zero ne = absurd (ne refl)
     by_case (suc m) ne = omega arith
-
-pub pair_from : (q : Pair) → is_required q ≡ true → q ≡ Required
-pair_from Free e = absurd (cc)
-pair_from Forbidden e = absurd (cc)
-pair_from Required e = refl
 
 pub longer_by_one : {A : Type 0} (front new : List A) (x : A) → new ≡ front ++ x ∷ [] → length new ≡ length front + 1
 longer_by_one front new x e = ap length e ∙ length-append front (x ∷ [])

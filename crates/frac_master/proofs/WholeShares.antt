@@ -5,7 +5,6 @@ use Rattle.std.specs.Int.{◌∣◌, w128}
 use Rattle.std.specs.List.{range_with_len}
 use Rattle.std.proofs.lemmas.Int.{ints}
 use Rattle.std.proofs.lemmas.Bool.{cases_lt, eqb-true}
-use Rattle.std.proofs.lemmas.List.{length-map, get_or-map}
 use Rattle.std.proofs.lemmas.List.Elements.{Contains-append_left, Contains-append_right, length_all_zip, AllZip-get_or, Contains-get_or}
 use Rattle.std.proofs.lemmas.List.FromFn.{get_or-range_with_len, length-range_with_len, get_or-map-range_with_len}
 use Rattle.std.proofs.lemmas.List.Sums.{get_or-le-sum_by}
@@ -13,9 +12,8 @@ use Rattle.crew_num.specs.declared.Overflow.{Overflow}
 use Rattle.crew_terms.specs.Limits.{Limits, Route, tasks_in, teams_in}
 use Rattle.search_terms.specs.declared.Place.{Place}
 use Rattle.search_terms.specs.declared.Place.TheVariants.{Right, Value, Unused, Unassigned, Shortage, Excess, Missed, Repeated}
-use Rattle.search_terms.specs.declared.TheConstants.{VALUE}
 use Rattle.search_terms.specs.Rows.{Rows, width, AreBasic, AreFeasible}
-use Rattle.search_terms.specs.Opening.{basics, openers, opening, opening_number, place_at, places, places_where}
+use Rattle.search_terms.specs.Opening.{place_at, places, places_where}
 use Rattle.search_terms.specs.Pivot.{IsPivot, IsOptimal}
 use Rattle.search_terms.specs.MasterRun.{IsMasterRun}
 use Rattle.search_terms.specs.MasterRun.MasterRun.{Opens, Pivots, Enters}
@@ -23,6 +21,7 @@ use Rattle.search_terms.specs.Overflows.{IsDenominator, OverflowAt, is_unassigne
 use Rattle.search_terms.specs.Overflows.OverflowAt.{InShares}
 use Rattle.search_terms.specs.Shares.{unassigned_of}
 use Rattle.search_terms.specs.BasicChoice.{AreWholeParts, choice_of, is_unassigned_at}
+use Rattle.master_laws.specs.Opening.{wide_opening, above_of}
 use Rattle.frac_master.specs.declared.shares.Share.{Share}
 use Rattle.frac_master.specs.Table.{table}
 use Rattle.frac_master.specs.Follows.{FollowsRun}
@@ -40,24 +39,8 @@ KeepWidths = (t next : Rows) → AreBasic t → IsPivot t next → width next �
 abbrev pub AreFeasibleRuns : Type 0
 AreFeasibleRuns = (n : Limits) (routes : List Route) (made : ℕ) (t : Rows) → IsMasterRun n routes made t → AreFeasible t
 
-opening_wide : (n : Limits) → width (opening n) ≡ length (places n)
-opening_wide n =
-    let f = λ (b : Place). map (opening_number n b) (places n) in
-    let l = length-map (openers (places n)) f in
-    let lt : length (opening n).rows - 1 < length (openers (places n)) = last_in (openers (places n)) (length (opening n).rows) l (openers_some n) in
-    ap length (get_or-map f (openers (places n)) (length (opening n).rows - 1) Value [] lt) ∙ length-map (places n) (opening_number n (get_or (openers (places n)) (length (opening n).rows - 1) Value))
-  where
-    last_in : (ps : List Place) (k : ℕ) → k ≡ length ps → 0 < length ps → k - 1 < length ps
-    last_in ps k e some = omega arith
-
-    openers_some : (n : Limits) → 0 < length (openers (places n))
-    openers_some n = behind (basics (places n))
-      where
-        behind : (ps : List Place) → 0 < length (ps ++ Value ∷ [])
-        behind ps = omega (arith, length-append ps (Value ∷ []))
-
 pub run_width : KeepWidths → AreFeasibleRuns → (n : Limits) (routes : List Route) (made : ℕ) (t : Rows) → IsMasterRun n routes made t → width t ≡ length (places n) + length routes
-run_width keep feasible n _ _ _ Opens = opening_wide n ∙ omega arith
+run_width keep feasible n _ _ _ Opens = wide_opening n ∙ omega arith
 run_width keep feasible n _ _ _ (Pivots {routes} {made} {t} {next} run p) =
     keep t next (feasible n routes made t run).basic p ∙ run_width keep feasible n routes made t run
 run_width keep feasible n _ _ _ (Enters {routes} {made} {t} r run free) =
@@ -113,11 +96,6 @@ share_places_are n t columns e =
     let f : columns ≡ width t - length (places n) = omega arith in
     ap (λ k. range_with_len (length (places n)) k ++ places_where is_unassigned 0 (places n)) f
 
-above : (n : Limits) (i j : ℕ) → place_at (places n) i ≡ Unassigned j → VALUE < i
-above n zero j e = absurd (cc)
-above n (suc zero) j e = absurd (cc)
-above n (suc (suc i)) j e = omega arith
-
 -- the shares are whole numbers of parts
 pub whole_parts : (n : Limits) (routes : List Route) (t : Rows) (whole : ℕ) → AreFeasible t
     → IsCommonOf t (range_with_len (length (places n)) (length routes) ++ places_where is_unassigned 0 (places n)) whole → AreWholeParts n routes t whole (parts_at t whole)
@@ -127,7 +105,7 @@ whole_parts n routes t whole f c =
       some = omega (arith, c.some);
       of_routes = λ i lt. has_parts t whole (length (places n) + i) f (omega arith)
           (multiple_at t _ whole (length (places n) + i) f.basic c (route_in (places n) (length routes) i lt));
-      of_tasks = λ i j lt e. has_parts t whole i f (above n i j e)
+      of_tasks = λ i j lt e. has_parts t whole i f (above_of n i j e)
           (multiple_at t _ whole i f.basic c (task_in (places n) (length routes) i lt (ap is_unassigned e)));
     }
 

@@ -1,23 +1,16 @@
 -- a child of a node, and back
-use Rattle.std.proofs.Common.{◌≡◌, ◌≤◌, ◌<◌, ◌+◌, ◌-◌, ◌∙◌, ◌∷◌, ℕ, ℤ, zero, suc, List, length, refl, ap, sym, subst, arith}
+use Rattle.std.proofs.Common.{◌≡◌, ◌≤◌, ◌<◌, ◌+◌, ◌-◌, ◌∙◌, ◌∷◌, ℕ, ℤ, zero, suc, List, length, ap, sym, subst, arith}
 use Rattle.crew_terms.specs.Instance.{Instance}
 use Rattle.crew_terms.specs.Leaf.{IsOnRequired, Prices, Proves}
 use Rattle.crew_terms.specs.Limits.{Limits, tasks_in}
 use Rattle.crew_terms.specs.Tree.{child}
 use Rattle.crew_terms.specs.declared.Choice.{Choice}
-use Rattle.crew_terms.specs.declared.Choice.TheVariants as choices
 use Rattle.crew_terms.specs.declared.Side.{Side}
-use Rattle.crew_terms.specs.declared.Side.TheVariants.{First, Second}
+use Rattle.crew_terms.specs.Nodes.{child_instance}
 use Rattle.keyed_steps.specs.States.{DecidesProved}
 use Rattle.node_limits.specs.Trail.{Trail, changed}
 use Rattle.potentials.specs.Prices.{ArePricesOf}
 use Rattle.search_terms.specs.Proven.{IsProvedCount, PricesProve, ProveAsMuch}
-
-pub child_instance : (n : Limits) (choice : Choice) (side : Side) → (child n choice side).instance ≡ n.instance
-child_instance n (choices.Window j cut) First = refl
-child_instance n (choices.Window j cut) Second = refl
-child_instance n (choices.Pair k j) First = refl
-child_instance n (choices.Pair k j) Second = refl
 
 -- prices of a node are prices of its children
 pub child_prices : (n m : Limits) (choice : Choice) (side : Side) (p : Prices) → m ≡ child n choice side → ArePricesOf n p → ArePricesOf m p

@@ -21,8 +21,8 @@ use Rattle.head_check.specs.declared.due.HeadDue.{HeadDue}
 use Rattle.head_check.specs.declared.due.HeadStep.TheVariants.{More}
 use Rattle.head_check.proofs.Steps.{plainly}
 use Rattle.head_check.proofs.GivenRow.{time_in_row, time_elsewhere}
-use Rattle.head_check.proofs.Listed.{naturals-pos}
 use Rattle.head_check.proofs.HeadRows.{none_of}
+use Rattle.head_check.specs.NumbersBack.{naturals-pos}
 
 pub if_ok : {X E : Type 0} (r : Result X E) (P Q : X → Type 0) → IfOk r P → ((x : X) → P x → Q x) → IfOk r Q
 if_ok (Ok x) P Q h f = f x h

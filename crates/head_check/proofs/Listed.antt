@@ -10,10 +10,6 @@ use Rattle.std.proofs.lemmas.List.{length-map, take_more}
 use Rattle.dossier_terms.specs.Dossier.{mask_of}
 use Rattle.head_check.specs.Numbers.{natural, naturals, AreBelow}
 
-pub naturals-pos : (ns : List ℕ) → naturals (map pos ns) ≡ ns
-naturals-pos [] = refl
-naturals-pos (n ∷ ns) = ap (λ xs. n ∷ xs) (naturals-pos ns)
-
 pub below_from : (past : ℕ) (ns : List ℕ) → AllByRecursion (λ n. n < past) ns → AreBelow past (map pos ns)
 below_from past [] h k d l = absurd (omega arith)
 below_from past (n ∷ ns) h zero d l = (n, refl, h.0)

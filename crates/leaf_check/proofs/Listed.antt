@@ -5,22 +5,12 @@ use Rattle.std.specs.List.{AllByRecursion, range_with_len}
 use Rattle.std.proofs.lemmas.List.{append-nil}
 use Rattle.std.proofs.lemmas.List.Elements.{filter-append}
 use Rattle.std.proofs.lemmas.Bool.{cases_lt, eq-eqb, ne_eqb}
+use Rattle.crew_terms.specs.Ranges.{range_append}
 use Rattle.dossier_terms.specs.Dossier.{beside}
 use Rattle.leaf_check.specs.Keys.{IsNextKey, IsRowDue, AreLeft, keys_below, keys_from}
+use Rattle.crew_terms.specs.Listed.{range_suc}
 
 -- ---- numbers in a row
-
-range_append : (a m n : ℕ) → range_with_len a (m + n) ≡ range_with_len a m ++ range_with_len (a + m) n
-range_append a zero n =
-    let e : a ≡ a + 0 = omega arith in
-    ap (range_with_len a) (zero-add n) ∙ ap (λ b. range_with_len b n) e
-range_append a (suc m) n =
-    let e : suc m + n ≡ suc (m + n) = omega arith in
-    let f : a + 1 + m ≡ a + suc m = omega arith in
-    ap (range_with_len a) e ∙ ap (λ xs. a ∷ xs) (range_append (a + 1) m n ∙ ap (λ b. range_with_len (a + 1) m ++ range_with_len b n) f)
-
-range_more : (n : ℕ) → range_with_len 0 (suc n) ≡ range_with_len 0 n ++ n ∷ []
-range_more n = ap (range_with_len 0) (sym (add-one n)) ∙ range_append 0 n 1 ∙ ap (λ m. range_with_len 0 n ++ m ∷ []) (zero-add n)
 
 range_split : (n j : ℕ) → j ≤ n → range_with_len 0 n ≡ range_with_len 0 j ++ range_with_len j (n - j)
 range_split n j l =
@@ -91,11 +81,11 @@ module _ (p : ℕ → Bool) where
 
   -- the keys below the number after a key
   pub keys_with : (j : ℕ) → p j ≡ true → keys_below p (suc j) ≡ keys_below p j ++ j ∷ []
-  keys_with j h = ap (filter p) (range_more j) ∙ filter-append p (range_with_len 0 j) (j ∷ []) ∙ ap (λ xs. keys_below p j ++ xs) (keep j [] h)
+  keys_with j h = ap (filter p) (range_suc j) ∙ filter-append p (range_with_len 0 j) (j ∷ []) ∙ ap (λ xs. keys_below p j ++ xs) (keep j [] h)
 
   pub keys_without : (j : ℕ) → p j ≡ false → keys_below p (suc j) ≡ keys_below p j
   keys_without j h =
-      ap (filter p) (range_more j) ∙ filter-append p (range_with_len 0 j) (j ∷ []) ∙ ap (λ xs. keys_below p j ++ xs) (skip j [] h) ∙ append-nil (keys_below p j)
+      ap (filter p) (range_suc j) ∙ filter-append p (range_with_len 0 j) (j ∷ []) ∙ ap (λ xs. keys_below p j ++ xs) (skip j [] h) ∙ append-nil (keys_below p j)
 
   -- a number is not among the keys below it
   absent_one : (j x : ℕ) (xs : List ℕ) → x ≢ j → AllByRecursion (λ k. k ≢ j) (filter p xs) → (b : Bool) → AllByRecursion (λ k. k ≢ j) (cond b (x ∷ filter p xs) (filter p xs))

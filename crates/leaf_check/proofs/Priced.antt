@@ -13,6 +13,7 @@ use Rattle.std.proofs.Math.Seq.{take-length}
 use Rattle.crew_terms.specs.Limits.{Limits, pair_of, is_required, tasks_in, teams_in}
 use Rattle.crew_terms.specs.Leaf.{Prices, rho_of}
 use Rattle.dossier_terms.specs.Dossier.{Leaf, beside, extra_of, prices_of}
+use Rattle.dossier_terms.specs.PricesAt.{rho_at}
 use Rattle.crew_terms.specs.Minutes.{required_teams}
 use Rattle.potentials.specs.Prices.{with_rho}
 use Rattle.leaf_check.specs.Keys.{keys_below, keys_from}
@@ -199,11 +200,6 @@ tasks_more n old cleared new j given task count so are but zeros e = subst (λ p
     by g h a b (inr ne) = but.others g h ne ∙ so.pairs g h a (omega arith)
 
 -- ---- the prices that a leaf writes
-
-pub rho_at : (n : Limits) (leaf : Leaf) (k j : ℕ) → k < teams_in n → j < tasks_in n → rho_of (prices_of n leaf) k j ≡ extra_of n leaf k j
-rho_at n leaf k j lt l =
-    ap (λ r. get_or r j (pos 0)) (get_or-map-range_with_len (λ k. map (extra_of n leaf k) (range_with_len 0 (tasks_in n))) 0 (teams_in n) k k [] lt (zero-add k))
-    ∙ get_or-map-range_with_len (extra_of n leaf k) 0 (tasks_in n) j j (pos 0) l (zero-add j)
 
 -- prices are those of a leaf where each of them is
 pub prices_by_each : (n : Limits) (leaf : Leaf) (p : Prices) → ArePricesIn n p → p.pi ≡ leaf.prices

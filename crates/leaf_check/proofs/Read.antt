@@ -6,12 +6,13 @@ use Rattle.std.proofs.lemmas.List.{take-set}
 use Rattle.crew_terms.specs.Limits.{Limits, has_required, tasks_in, teams_in}
 use Rattle.crew_terms.specs.Leaf.{Prices, rho_of}
 use Rattle.dossier_terms.specs.Dossier.{Leaf, beside, extra_of, prices_of, worths_of}
+use Rattle.dossier_terms.specs.PricesAt.{rho_at}
 use Rattle.crew_terms.specs.Minutes.{priced, required_teams}
 use Rattle.leaf_check.specs.Keys.{IsRowDue}
 use Rattle.leaf_check.specs.Prices.{ArePricesIn, SamePairsBut}
 use Rattle.leaf_check.specs.Reader.{priced_leaf}
 use Rattle.leaf_check.proofs.Listed.{beside_nothing, row_absent, row_new, row_other}
-use Rattle.leaf_check.proofs.Priced.{prices_by_each, rho_at}
+use Rattle.leaf_check.proofs.Priced.{prices_by_each}
 
 -- after the prices of the tasks
 pub first_prices : (n : Limits) (p : Prices) (vs : List ℤ) → ArePricesIn n p → p.pi ≡ vs

@@ -1,5 +1,5 @@
 -- runs by their numbers in a line, and the numbers that they stand for
-use Rattle.std.proofs.Common.{◌≡◌, ◌<◌, ◌≤◌, ◌+◌, ◌*◌, ◌-◌, ℕ, zero, suc, ℤ, pos, List, [], ◌∷◌, length, get_or, replicate, ap, sym, refl, ◌∙◌, arith, append-nil, length-append, w64, to_z, of_z}
+use Rattle.std.proofs.Common.{◌≡◌, ◌<◌, ◌≤◌, ◌+◌, ◌*◌, ◌-◌, ℕ, zero, suc, ℤ, pos, List, [], ◌∷◌, length, get_or, replicate, ap, sym, refl, ◌∙◌, arith, w64, to_z, of_z}
 use Rattle.std.specs.Prelude.{FitsSigned}
 use Rattle.std.proofs.lemmas.Int.{to_z-of_z}
 use Rattle.std.proofs.lemmas.List.{drop_all, get_or-append_right, get_or_append_left, get_or-replicate, length-replicate}
@@ -117,14 +117,3 @@ pub run_value : (first past : ℕ) (runs : List Run) → AreRuns first past runs
 run_value first past [] h l n t m from until = absurd h
 run_value first past (r ∷ rs) h l n t m from until =
     ap (λ f. get_or (values_of past (r ∷ rs)) (t - f) (pos 0)) (sym h.0) ∙ value_in r past rs h.1 (let e = h.0 in omega arith) n t (omega arith) from until
-
-go_on_length : (r : Run) (past : ℕ) (rs : List Run) → RunsGoOn r past rs → length (values_of past (r ∷ rs)) ≡ past - r.from
-go_on_length r past [] h = ap length (append-nil (replicate (past - r.from) r.value)) ∙ length-replicate (past - r.from) r.value
-go_on_length r past (s ∷ rs) h =
-    let a = go_on_length s past rs h.3 in
-    length-append (replicate (s.from - r.from) r.value) (values_of past (s ∷ rs))
-    ∙ (let n : length (replicate (s.from - r.from) r.value) + length (values_of past (s ∷ rs)) ≡ past - r.from = omega (arith, length-replicate (s.from - r.from) r.value, h.0, h.1) in n)
-
-pub values_length : (first past : ℕ) (runs : List Run) → AreRuns first past runs → length (values_of past runs) ≡ past - first
-values_length first past [] h = absurd h
-values_length first past (r ∷ rs) h = go_on_length r past rs h.1 ∙ ap (λ t. past - t) h.0

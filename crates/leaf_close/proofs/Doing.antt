@@ -1,28 +1,21 @@
 -- what a team does in the plan of the required pairs
-use Rattle.std.proofs.Common.{◌≡◌, ◌≤◌, ◌<◌, ◌⊎◌, inl, inr, ℕ, zero, suc, Bool, true, false, cond, List, [], length, get_or, None, Some, refl, sym, ap, subst, arith, ◌∙◌}
+use Rattle.std.proofs.Common.{◌≡◌, ◌≤◌, ◌<◌, ◌⊎◌, inl, inr, ℕ, Bool, true, false, cond, List, [], length, get_or, None, Some, refl, sym, ap, subst, arith, ◌∙◌}
 use Rattle.std.specs.Prelude.{Contains}
-use Rattle.std.proofs.lemmas.Bool.{cases_lt, or_left, or_right}
+use Rattle.std.proofs.lemmas.Bool.{cases_lt}
 use Rattle.std.proofs.lemmas.List.{get_or_past}
 use Rattle.std.proofs.lemmas.List.Elements.{All-get_or}
 use Rattle.std.proofs.lemmas.List.FromFn.{get_or-map-range_with_len, length-map-range_with_len}
-use Rattle.crew_terms.specs.Limits.{Limits, IsLimits, any_below, has_required, is_required, pair_of, tasks_in, teams_in}
+use Rattle.crew_terms.specs.Limits.{Limits, IsLimits, has_required, is_required, pair_of, tasks_in, teams_in}
 use Rattle.crew_terms.specs.Minutes.{IsListOf, required_teams}
 use Rattle.crew_terms.specs.Plan.{Does, Job, job_of}
 use Rattle.crew_terms.specs.declared.Pair.{Pair}
 use Rattle.crew_terms.specs.declared.Pair.TheVariants.{Free, Required}
+use Rattle.crew_terms.specs.Below.{any_below-some}
 use Rattle.search_terms.specs.Closing.{minute_of, required_job, required_plan}
 
 -- the law that the required teams of a task are listed
 abbrev pub RequiredAreListed : Type 0
 RequiredAreListed = (n : Limits) (j : ℕ) → IsListOf (λ k. (k < teams_in n) × (pair_of n k j ≡ Required)) (required_teams n j)
-
-any_at : (m : ℕ) (f : ℕ → Bool) (k : ℕ) → k < m → f k ≡ true → any_below m f ≡ true
-any_at zero f k h e = absurd (omega arith)
-any_at (suc m) f k h e = by (cases_lt k m) (any_at m f k)
-  where
-    by : (k < m) ⊎ (m ≤ k) → (k < m → f k ≡ true → any_below m f ≡ true) → any_below (suc m) f ≡ true
-    by (inl lt) rest = or_left (any_below m f) (f m) (rest lt e)
-    by (inr ge) rest = let s : k ≡ m = omega arith in or_right (any_below m f) (f m) (sym (ap f s) ∙ e)
 
 free_is_other : Free ≡ Required → ⊥
 free_is_other e = cc
@@ -47,7 +40,7 @@ module _ (n : Limits) (is : IsLimits n) where
       by (inr ge) = absurd (free_is_other (sym (get_or_past (get_or n.pairs k []) j Free (let r = row in omega arith)) ∙ e))
 
   pub some_required : (k j : ℕ) → pair_of n k j ≡ Required → has_required n j ≡ true
-  some_required k j e = any_at (teams_in n) (λ h. is_required (pair_of n h j)) k (known_team k j e) (ap is_required e)
+  some_required k j e = any_below-some (teams_in n) (λ h. is_required (pair_of n h j)) k (known_team k j e) (ap is_required e)
 
   pub job_at : (j : ℕ) → j < tasks_in n → job_of (required_plan n) j ≡ required_job n j
   job_at j l = get_or-map-range_with_len (required_job n) 0 (tasks_in n) j j None l (omega arith)

@@ -9,6 +9,7 @@ use Rattle.crew_terms.specs.declared.Pair.{Pair}
 use Rattle.crew_terms.specs.declared.Pair.TheVariants.{Free, Forbidden, Required}
 use Rattle.crew_terms.specs.Leaf.{zero_prices}
 use Rattle.crew_terms.specs.ZeroPrices.{zero_pi, zero_rho}
+use Rattle.crew_terms.specs.Nodes.{required_is}
 use Rattle.potentials.specs.Prices.{ArePrices, ArePricesOf, with_rho}
 use Rattle.search_terms.specs.Closing.{ArePricedBy, StuckPrices, all_cost}
 use Rattle.leaf_close.proofs.Doing.{known_task, known_team}
@@ -78,11 +79,6 @@ pub record IsOfTask (n : Limits) (j m g h : ℕ) : Type 0 where
   pub below : g < m
   pub required : pair_of n g h ≡ Required
 
-required_of : (x : Pair) → is_required x ≡ true → x ≡ Required
-required_of Free e = absurd (let f : false ≡ true = e in cc)
-required_of Forbidden e = absurd (let f : false ≡ true = e in cc)
-required_of Required e = refl
-
 pub tell : (x : Pair) → (x ≡ Required) ⊎ ((x ≡ Required → ⊥) × (is_required x ≡ false))
 tell Free = inr ((λ e. let f : Free ≡ Required = e in cc), refl)
 tell Forbidden = inr ((λ e. let f : Forbidden ≡ Required = e in cc), refl)
@@ -92,7 +88,7 @@ module _ (n : Limits) (p : Prices) (v : ℤ) (is : ArePrices p) (shape : ArePric
   pub team_set : is_required (pair_of n k j) ≡ true → ArePairs p v (IsOfTeam n k j) → ArePairs (with_rho p k j v) v (IsOfTeam n k (j + 1))
   team_set e are =
       pairs_set p k j v (IsOfTeam n k j) (IsOfTeam n k (j + 1)) is (let s = shape.teams in omega arith) (let s = shape.tasks in omega arith) are
-      (record { team = refl; below = omega arith; required = required_of (pair_of n k j) e })
+      (record { team = refl; below = omega arith; required = required_is (pair_of n k j) e })
       (λ g h o. record { team = o.team; below = (let b = o.below in omega arith); required = o.required })
       (λ g h o. split g h o (cases_eq h j))
     where
@@ -115,7 +111,7 @@ module _ (n : Limits) (p : Prices) (v : ℤ) (is : ArePrices p) (shape : ArePric
   pub task_set : is_required (pair_of n k j) ≡ true → ArePairs p v (IsOfTask n j k) → ArePairs (with_rho p k j v) v (IsOfTask n j (k + 1))
   task_set e are =
       pairs_set p k j v (IsOfTask n j k) (IsOfTask n j (k + 1)) is (let s = shape.teams in omega arith) (let s = shape.tasks in omega arith) are
-      (record { task = refl; below = omega arith; required = required_of (pair_of n k j) e })
+      (record { task = refl; below = omega arith; required = required_is (pair_of n k j) e })
       (λ g h o. record { task = o.task; below = (let b = o.below in omega arith); required = o.required })
       (λ g h o. split g h o (cases_eq g k))
     where

@@ -1,7 +1,7 @@
 -- laws of calls that write the lines of items, one after another
-use Rattle.std.proofs.Common.{◌≡◌, ◌<◌, ◌≤◌, ◌+◌, ◌++◌, ◌∷◌, [], ℕ, List, length, take, map, get_or, ap, sym, refl, append-nil}
+use Rattle.std.proofs.Common.{◌≡◌, ◌<◌, ◌≤◌, ◌+◌, ◌++◌, ◌∷◌, [], ℕ, List, Bool, true, false, length, take, map, get_or, ap, sym, refl, ◌∙◌, append-nil}
 use Rattle.std.specs.Prelude.{Result, Ok, Err, IsErr}
-use Rattle.std.specs.List.{flat_map, join_with_byte}
+use Rattle.std.specs.List.{filter, flat_map, join_with_byte}
 use Rattle.crew_terms.specs.Words.{Words, line_text}
 use Rattle.crew_io.specs.Puts.{Puts}
 use Rattle.crew_io.specs.Chains.{fine, puts_same, puts_more, puts_more_front, puts_all}
@@ -20,6 +20,16 @@ line_parts w ws = ap (λ text. text ++ 10 ∷ []) (joined w ws)
 pub of_each : {A : Type 0} (line : A → Words) (items : List A) → flat_map (λ a. line_text (line a)) items ≡ flat_map line_text (map line items)
 of_each line [] = refl
 of_each line (a ∷ items) = ap (λ rest. line_text (line a) ++ rest) (of_each line items)
+
+one_of_those : (p : ℕ → Bool) (line : ℕ → Words) (x : ℕ) (xs : List ℕ) (b : Bool) → p x ≡ b
+    → flat_map line_text (map line (filter p (x ∷ []))) ++ flat_map line_text (map line (filter p xs)) ≡ flat_map line_text (map line (filter p (x ∷ xs)))
+one_of_those p line x xs true is = rw is (ap (λ h. h ++ flat_map line_text (map line (filter p xs))) (append-nil (line_text (line x))))
+one_of_those p line x xs false is = rw is refl
+
+-- the lines of those that pass
+pub of_those : (p : ℕ → Bool) (line : ℕ → Words) (xs : List ℕ) → flat_map (λ x. flat_map line_text (map line (filter p (x ∷ [])))) xs ≡ flat_map line_text (map line (filter p xs))
+of_those p line [] = refl
+of_those p line (x ∷ xs) = ap (λ r. flat_map line_text (map line (filter p (x ∷ []))) ++ r) (of_those p line xs) ∙ one_of_those p line x xs (p x) refl
 
 -- the words that are written are the line of the item
 module _ {K A : Type 0} (sink : Ghosts K) (line : A → Words) (items : List A) (i : ℕ) (d : A) (within : i < length items) (words : Words) (is : words ≡ line (get_or items i d)) where

@@ -11,7 +11,7 @@ use Rattle.search_terms.specs.declared.Place.{Place}
 use Rattle.search_terms.specs.declared.Place.TheVariants.{Right, Value, Unused, Unassigned, Shortage, Excess, Missed, Repeated}
 use Rattle.search_terms.specs.Rows.{Rows, IsSolution}
 use Rattle.search_terms.specs.Opening.{variables, places, place_at, basic_number, visit_number, cost, one_if, less_one_if, teams_for}
-use Rattle.ring_laws.specs.Ring.{minus_times, scale_sum, scale_diff, assoc}
+use Rattle.ring_laws.specs.Ring.{minus_times, scale_diff, assoc, sum_times, difference_times}
 use Rattle.crew_terms.specs.Totals.{total-same, total-zero, total-one, total-front, total-plus, total-swap}
 use Rattle.master_laws.proofs.Totals.{total-minus, total-scale}
 use Rattle.master_laws.proofs.Apart.{not_same, same, and_false, basic_value}
@@ -124,32 +124,16 @@ picks_again k j (Excess h) = inl refl
 picks_again k j (Missed h i) = inl refl
 
 -- ---- amounts are linear
-times_plus : (a b x : ℤ) → (a +ℤ b) *ℤ x ≡ (a *ℤ x) +ℤ (b *ℤ x)
-times_plus a b x =
-    let d = scale_sum x a b in
-    let e = *ℤ_comm (a +ℤ b) x in
-    let f = *ℤ_comm a x in
-    let g = *ℤ_comm b x in
-    omega (arith, ints)
-
-times_minus : (a b x : ℤ) → (a -ℤ b) *ℤ x ≡ (a *ℤ x) -ℤ (b *ℤ x)
-times_minus a b x =
-    let d = scale_diff x a b in
-    let e = *ℤ_comm (a -ℤ b) x in
-    let f = *ℤ_comm a x in
-    let g = *ℤ_comm b x in
-    omega (arith, ints)
-
 pub amount-plus : (n : Limits) (x : ℕ → ℤ) (a b : Place → ℤ) → amount n x (λ p. a p +ℤ b p) ≡ amount n x a +ℤ amount n x b
 amount-plus n x a b =
     total-same (length (variables n)) (λ i. (a (variable_at n i) +ℤ b (variable_at n i)) *ℤ x (suc (suc i))) (λ i. (a (variable_at n i) *ℤ x (suc (suc i))) +ℤ (b (variable_at n i) *ℤ x (suc (suc i))))
-    (λ i _. times_plus (a (variable_at n i)) (b (variable_at n i)) (x (suc (suc i))))
+    (λ i _. sum_times (a (variable_at n i)) (b (variable_at n i)) (x (suc (suc i))))
     ∙ total-plus (length (variables n)) (λ i. a (variable_at n i) *ℤ x (suc (suc i))) (λ i. b (variable_at n i) *ℤ x (suc (suc i)))
 
 pub amount-minus : (n : Limits) (x : ℕ → ℤ) (a b : Place → ℤ) → amount n x (λ p. a p -ℤ b p) ≡ amount n x a -ℤ amount n x b
 amount-minus n x a b =
     total-same (length (variables n)) (λ i. (a (variable_at n i) -ℤ b (variable_at n i)) *ℤ x (suc (suc i))) (λ i. (a (variable_at n i) *ℤ x (suc (suc i))) -ℤ (b (variable_at n i) *ℤ x (suc (suc i))))
-    (λ i _. times_minus (a (variable_at n i)) (b (variable_at n i)) (x (suc (suc i))))
+    (λ i _. difference_times (a (variable_at n i)) (b (variable_at n i)) (x (suc (suc i))))
     ∙ total-minus (length (variables n)) (λ i. a (variable_at n i) *ℤ x (suc (suc i))) (λ i. b (variable_at n i) *ℤ x (suc (suc i)))
 
 pub amount-scale : (n : Limits) (x : ℕ → ℤ) (c : ℤ) (a : Place → ℤ) → amount n x (λ p. c *ℤ a p) ≡ c *ℤ amount n x a

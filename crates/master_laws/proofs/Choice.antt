@@ -14,7 +14,7 @@ use Rattle.search_terms.specs.declared.Place.TheVariants.{Right, Value, Unused, 
 use Rattle.search_terms.specs.Rows.{Rows, number, row_of, basic_of, last, AreBasic}
 use Rattle.search_terms.specs.Opening.{variables, places, places_where, one_if}
 use Rattle.search_terms.specs.Shares.{Share, distance}
-use Rattle.ring_laws.specs.Ring.{assoc, swap, scale_sum, scale_diff, cancel_zero, not_negative, cancel_up_to}
+use Rattle.ring_laws.specs.Ring.{assoc, swap, scale_sum, scale_diff, cancel_zero, not_negative, cancel_up_to, difference_times}
 use Rattle.crew_terms.specs.Totals.{total-same, total-front}
 use Rattle.master_laws.proofs.Totals.{total-scale}
 use Rattle.master_laws.proofs.Duals.{no_route}
@@ -35,22 +35,6 @@ cancel_equal c a b up e =
 
 pub cancel_equal_right : (a b c : ℤ) → pos 0 <ℤ c → a *ℤ c ≡ b *ℤ c → a ≡ b
 cancel_equal_right a b c up e = cancel_equal c a b up (*ℤ_comm c a ∙ e ∙ *ℤ_comm b c)
-
-pub plus_times : (a b x : ℤ) → (a +ℤ b) *ℤ x ≡ (a *ℤ x) +ℤ (b *ℤ x)
-plus_times a b x =
-    let d = scale_sum x a b in
-    let e = *ℤ_comm (a +ℤ b) x in
-    let f = *ℤ_comm a x in
-    let g = *ℤ_comm b x in
-    omega (arith, ints)
-
-pub minus_times_right : (a b x : ℤ) → (a -ℤ b) *ℤ x ≡ (a *ℤ x) -ℤ (b *ℤ x)
-minus_times_right a b x =
-    let d = scale_diff x a b in
-    let e = *ℤ_comm (a -ℤ b) x in
-    let f = *ℤ_comm a x in
-    let g = *ℤ_comm b x in
-    omega (arith, ints)
 
 -- so many parts of q each against x of w each
 pub record AreSame (q w : ℤ) (parts : ℕ) (x : ℤ) : Type 0 where
@@ -246,7 +230,7 @@ gap_is a b q w s e up low low_s low_e (inl z) h =
     let less : a ≤ b = omega (arith, ints) in
     let d : distance a b ≡ b - a = omega arith in
     let i : pos (b - a) ≡ pos b -ℤ pos a = omega (arith, ints) in
-    let j = minus_times_right (pos b) (pos a) w in
+    let j = difference_times (pos b) (pos a) w in
     let k = scale_sum q s e in
     ap (λ m. pos m *ℤ w) d ∙ ap (λ y. y *ℤ w) i ∙ omega (arith, ints)
 gap_is a b q w s e up low low_s low_e (inr z) h =
@@ -258,6 +242,6 @@ gap_is a b q w s e up low low_s low_e (inr z) h =
     let less : b ≤ a = omega (arith, ints) in
     let d : distance a b ≡ a - b = omega arith in
     let i : pos (a - b) ≡ pos a -ℤ pos b = omega (arith, ints) in
-    let j = minus_times_right (pos a) (pos b) w in
+    let j = difference_times (pos a) (pos b) w in
     let k = scale_sum q s e in
     ap (λ m. pos m *ℤ w) d ∙ ap (λ y. y *ℤ w) i ∙ omega (arith, ints)

@@ -14,11 +14,12 @@ use Rattle.search_terms.specs.MasterRun.{MasterRun}
 use Rattle.search_terms.specs.MasterRun.MasterRun.{Opens, Pivots, Enters}
 use Rattle.ring_laws.specs.Ring.{minus_times, swap, scale_diff}
 use Rattle.crew_terms.specs.Totals.{total-same, total-zero, total-swap, lt_or_last}
+use Rattle.master_laws.specs.Opening.{wide_opening}
 use Rattle.master_laws.proofs.Totals.{total-scale, total-minus}
 use Rattle.master_laws.proofs.Solutions.{solves_before}
 use Rattle.master_laws.proofs.Entering.{AreWithin, folded, stand_in, solves_folded, product_plus, product_scaled, product_spread}
 use Rattle.master_laws.proofs.Runs.{of_run}
-use Rattle.master_laws.proofs.Positions.{count, openers_count, opener_basic, opener_last, basic_position, last_position, rows_count, opening_width, basic_at_number, last_number, wide_opening}
+use Rattle.master_laws.proofs.Positions.{count, openers_count, opener_basic, opener_last, basic_position, last_position, rows_count, opening_width, basic_at_number, last_number}
 use Rattle.master_laws.proofs.Unique.{basic_run}
 
 -- the sum of the costs at the opening places

@@ -1,5 +1,5 @@
 -- strong duality, as the contracts say it
-use Rattle.std.proofs.Common.{◌≡◌, ◌≢◌, ◌<◌, ◌+◌, ◌∙◌, ℕ, zero, suc, ◌⊎◌, inl, inr, unsigned_abs, List, length, refl, ap, sym, arith, true}
+use Rattle.std.proofs.Common.{◌≡◌, ◌≢◌, ◌<◌, ◌+◌, ◌∙◌, ℕ, suc, ◌⊎◌, inl, inr, unsigned_abs, List, length, refl, ap, sym, arith, true}
 use Rattle.std.specs.Prelude.{ℤ, pos, ◌+ℤ◌, ◌-ℤ◌, ◌*ℤ◌, ◌≤ℤ◌, All}
 use Rattle.std.proofs.lemmas.Int.{ints}
 use Rattle.crew_terms.specs.Limits.{Limits, tasks_in, teams_in, pair_of, is_required, Route}
@@ -8,9 +8,9 @@ use Rattle.crew_terms.specs.Total.{total}
 use Rattle.crew_terms.specs.declared.Pair.{Pair}
 use Rattle.crew_terms.specs.declared.Pair.TheVariants.{Free, Forbidden, Required}
 use Rattle.std.proofs.lemmas.Bool.{cases_eq}
-use Rattle.search_terms.specs.declared.Place.TheVariants.{Unassigned, Value}
+use Rattle.search_terms.specs.declared.Place.TheVariants.{Value}
 use Rattle.search_terms.specs.Rows.{Rows, number, row_of, value_row}
-use Rattle.search_terms.specs.Opening.{basic_at, basic_number, opener, openers, opens, place_at, places, variables}
+use Rattle.search_terms.specs.Opening.{basic_at, basic_number, opener, openers, opens, places, variables}
 use Rattle.search_terms.specs.Pivot.{IsOptimal}
 use Rattle.search_terms.specs.MasterRun.{IsMasterRun}
 use Rattle.search_terms.specs.Duals.{AreDuals, AreUpToPenalty, IsUpTo, best_reward, term_over, extras}
@@ -33,6 +33,7 @@ use Rattle.master_laws.proofs.Strong.{Solved, fractional, choice_value_is}
 use Rattle.master_laws.proofs.Standing.{prices_at, worths_at, prices_stand, worths_stand}
 use Rattle.search_terms.specs.declared.TheConstants.{BIG_M, RIGHT, VALUE}
 use Rattle.search_terms.specs.BasicChoice.{AreWholeParts, HasParts, choice_of}
+use Rattle.master_laws.specs.Opening.{above_of}
 
 pub duals_stand : (n : Limits) (t : Rows) → (prices : Prices) × AreDuals n (value_row t) prices
 duals_stand n t = (prices_at n (value_row t), prices_stand n (value_row t))
@@ -104,11 +105,6 @@ choice_value_of n routes made t whole x run o legal a =
 
 abs_same : (z : ℤ) → pos 0 ≤ℤ z → pos (unsigned_abs z) ≡ z
 abs_same z low = omega (arith, ints)
-
-above_of : (n : Limits) (i j : ℕ) → place_at (places n) i ≡ Unassigned j → VALUE < i
-above_of n zero j e = absurd (cc)
-above_of n (suc zero) j e = absurd (cc)
-above_of n (suc (suc i)) j e = omega arith
 
 -- some whole number of parts makes all shares whole
 pub parts_stand : (n : Limits) (routes : List Route) (made : ℕ) (t : Rows) → IsMasterRun n routes made t → (whole : ℕ) × ((x : ℕ → ℕ) × AreWholeParts n routes t whole x)

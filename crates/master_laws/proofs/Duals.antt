@@ -19,9 +19,10 @@ use Rattle.master_laws.proofs.Solutions.{by_row, spread}
 use Rattle.master_laws.proofs.Entering.{AreWithin, row_entered, number_entered, count_entered}
 use Rattle.master_laws.proofs.Unique.{cancel_same}
 use Rattle.master_laws.proofs.Runs.{of_run}
-use Rattle.master_laws.proofs.Positions.{count, openers_count, opener_basic, opener_last, basic_position, last_position, wide_opening}
+use Rattle.master_laws.proofs.Positions.{count, openers_count, opener_basic, opener_last, basic_position, last_position}
 use Rattle.master_laws.proofs.Costs.{opening_within, visit_row}
 use Rattle.search_terms.specs.declared.TheConstants.{VALUE}
+use Rattle.master_laws.specs.Opening.{wide_opening}
 
 entry_same : (n : Limits) (r : Route) (a b : Row) → ((h : ℕ) → h < length (openers (places n)) → times (places n) a h ≡ times (places n) b h) → entry (places n) r a ≡ entry (places n) r b
 entry_same n r a b e = total-same (length (openers (places n))) (λ h. times (places n) a h *ℤ route_number (places n) r (opener (places n) h)) (λ h. times (places n) b h *ℤ route_number (places n) r (opener (places n) h))

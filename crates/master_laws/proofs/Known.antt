@@ -2,6 +2,7 @@
 use Rattle.std.proofs.Common.{◌≡◌, ◌<◌, ◌+◌, ◌-◌, ◌∙◌, ℕ, suc, zero, List, [], ◌∷◌, ◌++◌, length, get_or, refl, ap, arith, subst, Bool, true, false, cond, map, filter, flat_map, not, ◌⊎◌, inl, inr}
 use Rattle.std.specs.Prelude.{ℤ, pos, ◌*ℤ◌, ◌≤ℤ◌}
 use Rattle.std.specs.List.{range_with_len}
+use Rattle.std.proofs.lemmas.Bool.{not-true}
 use Rattle.std.proofs.Math.IntN.{*ℤ-zero, zero-*ℤ}
 use Rattle.crew_terms.specs.Limits.{Limits, tasks_in, teams_in, pair_of, has_required, is_required}
 use Rattle.crew_terms.specs.Total.{total}
@@ -67,10 +68,6 @@ IsKnown n (Excess j) = j < tasks_in n
 IsKnown n (Missed k j) = IsPairOf n k j
 IsKnown n (Repeated k j) = IsPairOf n k j
 
-not_true : (b : Bool) → not b ≡ true → b ≡ false
-not_true true e = absurd (cc)
-not_true false e = refl
-
 all_known : (n : Limits) → AllOf (IsKnown n) (variables n)
 all_known n =
     let a = map Unused (below (teams_in n)) in
@@ -90,7 +87,7 @@ all_known n =
     (all-append K a b
     (all-map (λ k. k < teams_in n) K Unused (below (teams_in n)) teams (λ k lt. lt))
     (all-map (λ j. (j < tasks_in n) × (not (has_required n j) ≡ true)) K Unassigned (filter (λ j. not (has_required n j)) (below (tasks_in n)))
-    (all-filter (λ j. j < tasks_in n) (λ j. not (has_required n j)) (below (tasks_in n)) tasks) (λ j q. record { task = q.0; free = not_true (has_required n j) q.1 })))
+    (all-filter (λ j. j < tasks_in n) (λ j. not (has_required n j)) (below (tasks_in n)) tasks) (λ j q. record { task = q.0; free = not-true (has_required n j) q.1 })))
     (all-flat (λ j. j < tasks_in n) K (λ j. Shortage j ∷ Excess j ∷ []) (below (tasks_in n)) tasks (λ j lt. (lt, (lt, tt)))))
     (all-flat (λ (q : ℕ × ℕ). IsPairOf n q.0 q.1) K (λ (p : ℕ × ℕ). Missed p.0 p.1 ∷ Repeated p.0 p.1 ∷ []) (required_pairs n) pairs (λ q h. (h, (h, tt))))
 

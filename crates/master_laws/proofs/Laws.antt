@@ -10,13 +10,13 @@ use Rattle.search_terms.specs.MasterRun.{IsMasterRun, IsRunOver}
 use Rattle.master_laws.proofs.Runs.{feasible_run, of_run}
 use Rattle.master_laws.proofs.Unique.{basic_run, one_run}
 use Rattle.master_laws.proofs.Costs.{costed_run, opening_within}
-use Rattle.master_laws.proofs.Positions.{wide_opening}
 use Rattle.master_laws.proofs.Bounded.{some_row_bounds}
 use Rattle.master_laws.proofs.Duals.{optimal_duals}
 use Rattle.master_laws.proofs.Basic.{value_right}
 use Rattle.master_laws.proofs.Entering.{number_entered, last_entered}
 use Rattle.master_laws.proofs.Opened.{basic_opening, feasible_opening}
 use Rattle.search_terms.specs.declared.TheConstants.{RIGHT, VALUE}
+use Rattle.master_laws.specs.Opening.{wide_opening}
 
 pub feasible_of : (n : Limits) (routes : List Route) (made : ℕ) (t : Rows) → IsMasterRun n routes made t → AreFeasible t
 feasible_of n routes made t run = feasible_run n _ routes made t (feasible_opening n) run

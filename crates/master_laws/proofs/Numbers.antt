@@ -18,10 +18,11 @@ use Rattle.master_laws.proofs.Solutions.{by_row, spread}
 use Rattle.master_laws.proofs.Entering.{AreWithin, number_entered, count_entered}
 use Rattle.master_laws.proofs.Unique.{cancel_same}
 use Rattle.master_laws.proofs.Runs.{of_run}
-use Rattle.master_laws.proofs.Positions.{count, openers_count, opener_basic, opener_last, basic_position, last_position, rows_count, wide_opening, opening_at, basic_row}
+use Rattle.master_laws.proofs.Positions.{count, openers_count, opener_basic, opener_last, basic_position, last_position, rows_count, opening_at, basic_row}
 use Rattle.master_laws.proofs.Costs.{opening_within}
 use Rattle.master_laws.proofs.Opened.{basic_opening, own_one}
 use Rattle.search_terms.specs.declared.TheConstants.{VALUE}
+use Rattle.master_laws.specs.Opening.{wide_opening}
 
 -- the sum of what the opening rows have, each as often as the row has it
 abbrev pub combined : Limits → (ℕ → ℤ) → Row → ℤ

@@ -8,7 +8,8 @@ use Rattle.search_terms.specs.declared.Place.TheVariants.{Value}
 use Rattle.search_terms.specs.Rows.{number, row_of, basic_of, last, width, AreBasic, AreFeasible}
 use Rattle.search_terms.specs.Opening.{places, basic_at, opening, opening_basis, basic_number, cost, cost_sum}
 use Rattle.crew_terms.specs.Totals.{total-zero, total-one, lt_or_last}
-use Rattle.master_laws.proofs.Positions.{count, basic_position, last_position, rows_count, basis_count, opening_width, wide_opening, basic_at_number, last_number}
+use Rattle.master_laws.specs.Opening.{wide_opening}
+use Rattle.master_laws.proofs.Positions.{count, basic_position, last_position, rows_count, basis_count, opening_width, basic_at_number, last_number}
 use Rattle.master_laws.proofs.Apart.{basics_apart, basic_one, basic_value, basic_right}
 
 last_is : (n : Limits) → last (opening n) ≡ count n

@@ -20,7 +20,7 @@ use Rattle.ring_laws.specs.Ring.{minus_times}
 use Rattle.crew_terms.specs.Totals.{total-same, total-zero, total-one, total-swap}
 use Rattle.master_laws.proofs.Totals.{total-minus}
 use Rattle.master_laws.proofs.Runs.{of_run}
-use Rattle.master_laws.proofs.Positions.{count, openers_count, opener_basic, basic_position, wide_opening}
+use Rattle.master_laws.proofs.Positions.{count, openers_count, opener_basic, basic_position}
 use Rattle.master_laws.proofs.Costs.{opening_within}
 use Rattle.master_laws.proofs.Apart.{not_same, same, and_false}
 use Rattle.master_laws.proofs.Duals.{entries_run, earned_is_entry, no_route}
@@ -28,6 +28,7 @@ use Rattle.master_laws.proofs.Numbers.{by_duals, value_number}
 use Rattle.master_laws.proofs.ByKind.{at_required, sum_basics}
 use Rattle.master_laws.proofs.Stands.{Stands, unused_stands, unassigned_stands, shortage_stands, excess_stands, missed_stands, repeated_stands}
 use Rattle.search_terms.specs.declared.TheConstants.{BIG_M, RIGHT, VALUE}
+use Rattle.master_laws.specs.Opening.{wide_opening}
 
 -- ---- the duals as prices, extras and worths
 abbrev pub said : Prices → List ℤ → Place → ℤ

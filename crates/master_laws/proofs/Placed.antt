@@ -1,9 +1,9 @@
 -- what stands in the places of a node; a run over a list is a run
-use Rattle.std.proofs.Common.{◌≡◌, ◌<◌, ◌∙◌, ℕ, suc, zero, List, ap, sym, arith, Contains, ◌↔◌, refl, true}
+use Rattle.std.proofs.Common.{◌≡◌, ◌<◌, ◌∙◌, ℕ, suc, zero, List, ap, sym, arith, Contains, ◌↔◌}
 use Rattle.std.proofs.lemmas.List.{get_or_default}
 use Rattle.crew_terms.specs.Limits.{Limits, Route, tasks_in, teams_in, pair_of, is_required}
-use Rattle.crew_terms.specs.declared.Pair.{Pair}
-use Rattle.crew_terms.specs.declared.Pair.TheVariants.{Free, Forbidden, Required}
+use Rattle.crew_terms.specs.declared.Pair.TheVariants.{Required}
+use Rattle.crew_terms.specs.Nodes.{required_is}
 use Rattle.search_terms.specs.declared.Place.{Place}
 use Rattle.search_terms.specs.declared.Place.TheVariants.{Right, Value, Unused, Shortage, Missed}
 use Rattle.search_terms.specs.Rows.{Rows}
@@ -32,11 +32,6 @@ tasks_stand n j = (
   λ c. stands_known n (Shortage j) (standing n (Shortage j) (λ e. absurd (cc)) (λ e. absurd (cc)) c),
   λ lt. contained n (Shortage j) (shortage_stands n j lt),
 )
-
-required_is : (q : Pair) → is_required q ≡ true → q ≡ Required
-required_is Free e = absurd (cc)
-required_is Forbidden e = absurd (cc)
-required_is Required e = refl
 
 pub pairs_stand : (n : Limits) (k j : ℕ) → Contains (places n) (Missed k j) ↔ ((k < teams_in n) × (j < tasks_in n) × (pair_of n k j ≡ Required))
 pairs_stand n k j = (

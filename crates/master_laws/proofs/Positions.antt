@@ -6,7 +6,7 @@ use Rattle.std.proofs.lemmas.List.{get_or_append_left, get_or-map, length-map}
 use Rattle.crew_terms.specs.Limits.{Limits}
 use Rattle.search_terms.specs.declared.Place.{Place}
 use Rattle.search_terms.specs.declared.Place.TheVariants.{Right, Value, Unused, Unassigned, Shortage, Excess, Missed, Repeated}
-use Rattle.search_terms.specs.Rows.{number, row_of, last, width}
+use Rattle.search_terms.specs.Rows.{number, row_of}
 use Rattle.search_terms.specs.Opening.{variables, cost, cost_sum, places, basics, openers, opener, basic_at, place_at, opens, places_where, opening_basis, opening, opening_number, basic_number}
 use Rattle.search_terms.specs.declared.TheConstants.{VALUE}
 
@@ -120,8 +120,3 @@ basic_at_number n h j below known =
 pub last_number : (n : Limits) (j : ℕ) → j < length (places n)
     → number (row_of (opening n) (count n)) j ≡ cost_sum (places n) (λ b. basic_number n b (place_at (places n) j)) -ℤ cost (place_at (places n) j)
 last_number n j known = opening_at n (count n) j (omega arith) known ∙ ap (λ b. opening_number n b (place_at (places n) j)) (opener_last n)
-
-pub wide_opening : (n : Limits) → width (opening n) ≡ length (places n)
-wide_opening n =
-    let e : last (opening n) ≡ count n = ap (λ k. k - 1) (rows_count n) ∙ omega arith in
-    ap (λ k. length (row_of (opening n) k)) e ∙ opening_width n (count n) (omega arith)

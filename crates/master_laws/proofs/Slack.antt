@@ -20,6 +20,7 @@ use Rattle.search_terms.specs.Duals.{AreDuals, best_reward, term_over, extras}
 use Rattle.search_terms.specs.Shares.{IsRouteIn, visits_to}
 use Rattle.ring_laws.specs.Ring.{scale_sum}
 use Rattle.crew_terms.specs.Totals.{total-same, total-zero, total-one, total-plus}
+use Rattle.crew_terms.specs.Greater.{max_left, max_right}
 use Rattle.master_laws.proofs.Apart.{not_same, same}
 use Rattle.master_laws.proofs.Duals.{no_route}
 use Rattle.master_laws.proofs.ByKind.{at_required}
@@ -30,6 +31,7 @@ use Rattle.master_laws.proofs.Known.{amount-none}
 use Rattle.master_laws.proofs.Summed.{IsSummed}
 use Rattle.master_laws.proofs.Amounts.{team_sum, unused_at, picks_unused}
 use Rattle.search_terms.specs.declared.TheConstants.{RIGHT, VALUE}
+use Rattle.master_laws.specs.Rewards.{best_low}
 
 -- a variable of positive reduced cost is 0
 pub slack : (n : Limits) (routes : List Route) (t : Rows) (p : Prices) (ws : List ℤ) (whole : ℤ) (x : ℕ → ℤ) (j : ℕ) → Optimum n routes t p ws → IsBasicSolution t whole x
@@ -107,22 +109,9 @@ abbrev pub AllLegal : Limits → List Route → Type 0
 AllLegal n routes = (i : ℕ) → i < length routes → IsRouteIn n (get_or routes i no_route)
 
 -- ---- the best reward
-int_max_left : (a b : ℤ) → a ≤ℤ int_max a b
-int_max_left a b = omega (arith, ints, clamps)
-
-int_max_right : (a b : ℤ) → b ≤ℤ int_max a b
-int_max_right a b = omega (arith, ints, clamps)
 
 int_max_most : (a b w : ℤ) → a ≤ℤ w → b ≤ℤ w → int_max a b ≤ℤ w
 int_max_most a b w p q = omega (arith, ints, clamps)
-
-best_low : (p : Prices) (rs : List Route) (k : ℕ) → pos 0 ≤ℤ best_reward p rs k
-best_low p [] k = omega (arith, ints)
-best_low p (r ∷ rs) k = by_test (eqb k r.team) (best_low p rs k)
-  where
-    by_test : (t : Bool) → pos 0 ≤ℤ best_reward p rs k → pos 0 ≤ℤ cond t (int_max (rewards p k r.visits) (best_reward p rs k)) (best_reward p rs k)
-    by_test true h = let e = int_max_right (rewards p k r.visits) (best_reward p rs k) in omega (arith, ints)
-    by_test false h = h
 
 best_has : (p : Prices) (rs : List Route) (k i : ℕ) → i < length rs → (get_or rs i no_route).team ≡ k → rewards p k (get_or rs i no_route).visits ≤ℤ best_reward p rs k
 best_has p [] k i lt e = absurd (omega arith)
@@ -130,13 +119,13 @@ best_has p (r ∷ rs) k zero lt e = by_test (eqb_tells k r.team)
   where
     by_test : ((eqb k r.team ≡ true) × (k ≡ r.team)) ⊎ ((eqb k r.team ≡ false) × (k ≢ r.team))
         → rewards p k r.visits ≤ℤ cond (eqb k r.team) (int_max (rewards p k r.visits) (best_reward p rs k)) (best_reward p rs k)
-    by_test (inl q) = rw q.0 (int_max_left (rewards p k r.visits) (best_reward p rs k))
+    by_test (inl q) = rw q.0 (max_left (rewards p k r.visits) (best_reward p rs k))
     by_test (inr q) = absurd (q.1 (sym e))
 best_has p (r ∷ rs) k (suc i) lt e = by_test (eqb k r.team) (best_has p rs k i (omega arith) e)
   where
     by_test : (t : Bool) → rewards p k (get_or rs i no_route).visits ≤ℤ best_reward p rs k
         → rewards p k (get_or rs i no_route).visits ≤ℤ cond t (int_max (rewards p k r.visits) (best_reward p rs k)) (best_reward p rs k)
-    by_test true h = let e = int_max_right (rewards p k r.visits) (best_reward p rs k) in omega (arith, ints)
+    by_test true h = let e = max_right (rewards p k r.visits) (best_reward p rs k) in omega (arith, ints)
     by_test false h = h
 
 best_most : (p : Prices) (rs : List Route) (k : ℕ) (w : ℤ) → pos 0 ≤ℤ w → ((i : ℕ) → i < length rs → (get_or rs i no_route).team ≡ k → rewards p k (get_or rs i no_route).visits ≤ℤ w) → best_reward p rs k ≤ℤ w

@@ -15,7 +15,7 @@ use Rattle.search_terms.specs.declared.Place.TheVariants.{Unused, Unassigned, Sh
 use Rattle.search_terms.specs.Rows.{Rows, number, last, value_row}
 use Rattle.search_terms.specs.Opening.{places, one_if, teams_for}
 use Rattle.search_terms.specs.Shares.{Share, FractionalChoice, IsRouteIn, IsFractional, choice_value, shares_of, parts_of, weighed_visits, distance, task_gap, pair_gap, unassigned_of, visits_to}
-use Rattle.ring_laws.specs.Ring.{assoc, swap, scale_sum, scale_diff, positive, not_negative, times_up_to, cancel_up_to, cancel_positive}
+use Rattle.ring_laws.specs.Ring.{assoc, swap, scale_sum, scale_diff, positive, not_negative, times_up_to, cancel_up_to, cancel_positive, sum_times, difference_times}
 use Rattle.crew_terms.specs.Totals.{total-same}
 use Rattle.master_laws.proofs.Totals.{total-scale}
 use Rattle.master_laws.proofs.Bounded.{total-not_negative}
@@ -28,7 +28,7 @@ use Rattle.master_laws.proofs.Known.{stands_known, amount, amount-none, amount-l
 use Rattle.master_laws.proofs.Summed.{IsSummed}
 use Rattle.master_laws.proofs.Amounts.{taken, unused_at, open_at, short_at, over_at, miss_at, again_at, picks_unused, picks_open, picks_short, picks_over, picks_miss, picks_again, team_sum, task_sum, pair_sum, value_sum, off_task, off_pair}
 use Rattle.master_laws.proofs.Slack.{slack}
-use Rattle.master_laws.proofs.Choice.{AreAll, open_parts, open_same, shares_total, team_total, taken_same, gap_is, cancel_equal_right, plus_times, minus_times_right}
+use Rattle.master_laws.proofs.Choice.{AreAll, open_parts, open_same, shares_total, team_total, taken_same, gap_is, cancel_equal_right}
 use Rattle.search_terms.specs.declared.TheConstants.{BIG_M, RIGHT, VALUE}
 use Rattle.master_laws.proofs.Below.{below}
 use Rattle.search_terms.specs.BasicChoice.{choice_of, route_shares}
@@ -217,7 +217,7 @@ module _ (n : Limits) (routes : List Route) (t : Rows) (p : Prices) (ws : List �
       let d : pos (q - u) ≡ pos q -ℤ pos u = omega (arith, ints) in
       let a1 : pos a *ℤ w ≡ r *ℤ (pos (q - u) *ℤ w) = assoc r (pos (q - u)) w in
       let a2 = ap (λ y. r *ℤ (y *ℤ w)) d in
-      let a3 = ap (λ y. r *ℤ y) (minus_times_right (pos q) (pos u) w) in
+      let a3 = ap (λ y. r *ℤ y) (difference_times (pos q) (pos u) w) in
       let a4 = ap (λ y. r *ℤ ((pos q *ℤ w) -ℤ y)) (open_is j c lt) in
       let a5 = ap (λ y. r *ℤ y) (sym (scale_diff (pos q) w z)) in
       let a6 = swap r (pos q) (w -ℤ z) in
@@ -265,7 +265,7 @@ module _ (n : Limits) (routes : List Route) (t : Rows) (p : Prices) (ws : List �
 
   plus_same : (a b y z : ℤ) → a *ℤ w ≡ pos q *ℤ y → b *ℤ w ≡ pos q *ℤ z → (a +ℤ b) *ℤ w ≡ pos q *ℤ (y +ℤ z)
   plus_same a b y z e f =
-      let g = plus_times a b w in
+      let g = sum_times a b w in
       let h = scale_sum (pos q) y z in
       omega (arith, ints)
 

@@ -12,10 +12,11 @@ use Rattle.search_terms.specs.Opening.{places, openers, opener, basic_at, place_
 use Rattle.search_terms.specs.MasterRun.{MasterRun}
 use Rattle.search_terms.specs.MasterRun.MasterRun.{Opens, Pivots, Enters}
 use Rattle.crew_terms.specs.Totals.{total-same, total-zero}
+use Rattle.master_laws.specs.Opening.{wide_opening}
 use Rattle.master_laws.proofs.Solutions.{solves_before}
 use Rattle.master_laws.proofs.Entering.{folded, stand_in, solves_folded, product_plus, product_scaled, product_spread, spike, spike-other}
 use Rattle.master_laws.proofs.Runs.{of_run}
-use Rattle.master_laws.proofs.Positions.{count, opener_basic, basic_position, opening_width, basic_at_number, wide_opening}
+use Rattle.master_laws.proofs.Positions.{count, opener_basic, basic_position, opening_width, basic_at_number}
 use Rattle.master_laws.proofs.Costs.{opening_within, basic_product, visit_row}
 use Rattle.master_laws.proofs.Duals.{no_route}
 use Rattle.master_laws.proofs.Numbers.{combined_opening}

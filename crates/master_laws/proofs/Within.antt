@@ -24,10 +24,11 @@ use Rattle.search_terms.specs.declared.TheConstants.{VALUE}
 use Rattle.master_laws.proofs.Below.{below}
 use Rattle.ring_laws.specs.Ring.{not_negative, cancel_up_to, times_up_to}
 use Rattle.crew_terms.specs.Totals.{total-same, lt_or_last}
+use Rattle.master_laws.specs.Opening.{wide_opening}
 use Rattle.master_laws.proofs.Solutions.{solves_next}
 use Rattle.master_laws.proofs.Entering.{folded, stand_in, solves_unfolded, spike, spike-other, product_plus, product_spike}
 use Rattle.master_laws.proofs.Runs.{of_run}
-use Rattle.master_laws.proofs.Positions.{count, rows_count, opening_width, basic_at_number, wide_opening, last_position}
+use Rattle.master_laws.proofs.Positions.{count, rows_count, opening_width, basic_at_number, last_position}
 use Rattle.master_laws.proofs.Opened.{basic_opening, own_one}
 use Rattle.master_laws.proofs.Costs.{opening_within}
 use Rattle.master_laws.proofs.Bounded.{cofactors, total-not_negative}

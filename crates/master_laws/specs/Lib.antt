@@ -1,0 +1,2 @@
+pub mod Rewards
+pub mod Opening

@@ -1,9 +1,8 @@
 -- columns that grow by one, and the routes of their numbers
-use Rattle.std.proofs.Common.{◌≡◌, ◌<◌, ℕ, zero, suc, List, [], ◌∷◌, ◌++◌, length, All, Contains, sym, ap, subst, refl, ◌∙◌, arith, append_assoc}
+use Rattle.std.proofs.Common.{◌≡◌, ◌<◌, ℕ, List, [], ◌∷◌, ◌++◌, length, All, Contains, sym, ap, subst, refl, ◌∙◌, append_assoc}
 use Rattle.std.proofs.lemmas.List.{append-nil, get_or_append_left, get_or_push, map-append}
 use Rattle.std.proofs.lemmas.List.Elements.{All-nil, All-cons, All-head, All-tail, All-append, Contains-push, Contains-get_or}
-use Rattle.crew_terms.specs.Limits.{Limits, Route, IsRoute, GoesOn, tasks_in}
-use Rattle.crew_terms.specs.declared.Visit.{Visit}
+use Rattle.crew_terms.specs.Limits.{Limits, Route}
 use Rattle.search_terms.specs.Earned.{AreLegalOf}
 use Rattle.search_terms.specs.Earned.AreLegalOf.{None, Kept, Left}
 use Rattle.search_terms.specs.Search.{Extends, IsColumn}
@@ -17,12 +16,6 @@ pub legal_one : (n : Limits) (cs rs : List Route) (c : Route) → AreLegalOf n c
 legal_one n cs rs c None is = Kept c is None
 legal_one n cs rs c (Kept r legal rest) is = Kept r legal (legal_one n _ _ c rest is)
 legal_one n cs rs c (Left r illegal rest) is = Left r illegal (legal_one n _ _ c rest is)
-
--- the routes are routes in the node
-pub legal_are : (n : Limits) (cs rs : List Route) → AreLegalOf n cs rs → All (IsRouteIn n) rs
-legal_are n cs rs None = All-nil (IsRouteIn n)
-legal_are n cs rs (Kept r legal rest) = All-cons (IsRouteIn n) r _ legal (legal_are n _ _ rest)
-legal_are n cs rs (Left r illegal rest) = legal_are n _ _ rest
 
 -- numbers name the same columns among more
 pub routes_of-grown : (cs : List Route) (c : Route) (ids : List ℕ) → All (λ id. id < length cs) ids → routes_of (cs ++ c ∷ []) ids ≡ routes_of cs ids
@@ -59,22 +52,3 @@ pub held_added : (cs more : List Route) (c : Route) (id : ℕ) → IsAdded cs c 
 held_added cs more c id (Stood known equal same) =
     subst (λ l. Contains l c) (sym same) (subst (Contains cs) equal (Contains-get_or cs id no_column known))
 held_added cs more c id (Last fresh number last) = subst (λ l. Contains l c) (sym last) (Contains-push cs c)
-
--- ---- a route's tasks are known
-
-later_known : (n : Limits) (k : ℕ) (v : Visit) (vs : List Visit) → GoesOn n k v vs → All (λ (v : Visit). v.task < tasks_in n) vs
-later_known n k v [] h = All-nil (λ (v : Visit). v.task < tasks_in n)
-later_known n k v (w ∷ ws) h = All-cons (λ (v : Visit). v.task < tasks_in n) w ws (h.1).known (later_known n k w ws h.2)
-
-pub tasks_known : (n : Limits) (k : ℕ) (vs : List Visit) → IsRoute n k vs → All (λ (v : Visit). v.task < tasks_in n) vs
-tasks_known n k [] h = All-nil (λ (v : Visit). v.task < tasks_in n)
-tasks_known n k (v ∷ vs) h = All-cons (λ (v : Visit). v.task < tasks_in n) v vs (h.0).known (later_known n k v vs h.1)
-
--- a column that is a route in the node is among the legal ones
-pub legal_held : (n : Limits) (cs rs : List Route) (r : Route) → AreLegalOf n cs rs → Contains cs r → IsRouteIn n r → Contains rs r
-legal_held n cs rs r None (k, below, at) is = absurd (omega arith)
-legal_held n cs rs r (Kept q legal rest) (zero, below, at) is = (0, omega arith, at)
-legal_held n cs rs r (Kept q legal rest) (suc k, below, at) is =
-    let (m, less, e) = legal_held n _ _ r rest (k, omega arith, at) is in (suc m, omega arith, e)
-legal_held n cs rs r (Left q illegal rest) (zero, below, at) is = absurd (illegal (subst (IsRouteIn n) (sym at) is))
-legal_held n cs rs r (Left q illegal rest) (suc k, below, at) is = legal_held n _ _ r rest (k, omega arith, at) is

@@ -1,12 +1,13 @@
 -- prices of a run's optimum that are rounded
-use Rattle.std.proofs.Common.{◌≡◌, ◌<◌, ◌≤◌, ◌+◌, ◌⊎◌, inl, inr, ◌≢◌, ℕ, zero, suc, ℤ, pos, List, [], ◌∷◌, length, get_or, set, replicate, sym, ap, subst, refl, ◌∙◌, arith}
+use Rattle.std.proofs.Common.{◌≡◌, ◌<◌, ◌+◌, ◌⊎◌, inl, inr, ◌≢◌, ℕ, zero, suc, ℤ, pos, List, [], ◌∷◌, length, get_or, set, sym, ap, subst, refl, ◌∙◌, arith}
 use Rattle.std.specs.Prelude.{Contains}
-use Rattle.std.proofs.lemmas.Bool.{cases_eq, cases_lt}
-use Rattle.std.proofs.lemmas.List.{append-nil, get_or-replicate, get_or-set_same, get_or-set_other, get_or_past, length-replicate}
+use Rattle.std.proofs.lemmas.Bool.{cases_eq}
+use Rattle.std.proofs.lemmas.List.{append-nil, get_or-set_same, get_or-set_other}
 use Rattle.std.proofs.lemmas.List.Elements.{All-contains, All-contains_itself, All-filter, All-get_or, Contains-append_cases, Contains-get_or}
 use Rattle.crew_num.specs.declared.Overflow.{Overflow}
 use Rattle.crew_terms.specs.Leaf.{IsOnRequired, Prices, pi_of, rho_of, zero_prices}
 use Rattle.crew_terms.specs.Limits.{Limits, Route, tasks_in, teams_in}
+use Rattle.crew_terms.specs.ZeroPrices.{zero_rho}
 use Rattle.potentials.specs.Prices.{ArePrices, with_rho}
 use Rattle.search_terms.specs.Earned.{AreLegalOf, AreRounded, RunOverflows}
 use Rattle.search_terms.specs.Opening.{OpensWith, basics, openers, opens, places}
@@ -114,19 +115,5 @@ kept_then n t a b c h g = record { tasks = g.tasks ∙ h.tasks; pairs = λ k j w
 
 -- ---- prices that are all 0
 
-zero_at : (m i : ℕ) → get_or (replicate m (pos 0)) i (pos 0) ≡ pos 0
-zero_at m i = elim (cases_lt i m) [
-  | inl l ↦ get_or-replicate m i (pos 0) (pos 0) l
-  | inr ge ↦ get_or_past (replicate m (pos 0)) i (pos 0) (let e = length-replicate m (pos 0) in omega arith)
-]
-
 pub zero_on_required : (n : Limits) (p : Prices) → p ≡ zero_prices n → IsOnRequired n p
-zero_on_required n p is = subst (IsOnRequired n) (sym is) (λ k j _. by k j (cases_lt k (teams_in n)))
-  where
-    row : List ℤ
-    row = replicate (tasks_in n) (pos 0)
-
-    by : (k j : ℕ) → (k < teams_in n) ⊎ (teams_in n ≤ k) → rho_of (zero_prices n) k j ≡ pos 0
-    by k j (inl l) = ap (λ (r : List ℤ). get_or r j (pos 0)) (get_or-replicate (teams_in n) k row [] l) ∙ zero_at (tasks_in n) j
-    by k j (inr ge) = ap (λ (r : List ℤ). get_or r j (pos 0))
-        (get_or_past (replicate (teams_in n) row) k [] (let e = length-replicate (teams_in n) row in omega arith))
+zero_on_required n p is = subst (IsOnRequired n) (sym is) (λ k j ne. zero_rho n k j)

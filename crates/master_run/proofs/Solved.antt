@@ -18,9 +18,9 @@ use Rattle.frac_master.specs.Shares.{AreShares, GivesShares, IsCommonFault, basi
 use Rattle.frac_master.specs.State.{MasterState}
 use Rattle.frac_master.specs.declared.shares.Share.{Share}
 use Rattle.master_run.specs.Along.{IsOver}
+use Rattle.master_run.specs.Legal.{legal_are}
 use Rattle.master_run.specs.Shares.{ArePositive, fractional_of, share_of}
 use Rattle.master_run.specs.State.{Rise, RunState, routes_of}
-use Rattle.master_run.proofs.Growing.{legal_are}
 
 -- what the master tells where no overflow has ended it
 pub gives_shares : (n : Limits) (m : MasterState) (den : ℤ) (out : List Share) (left_open : List ℤ) → m.ended ≡ None

@@ -3,3 +3,4 @@ pub mod Kept
 pub mod Along
 pub mod Rounding
 pub mod Shares
+pub mod Legal

@@ -1,13 +1,11 @@
 -- maps that have the keys of a slab's values by what is read of each
 use Rattle.std.proofs.Common.{◌≡◌, ◌≢◌, ◌⊎◌, inl, inr, ℕ, Bool, true, false, cond, Option, None, Some, refl, ap, sym, ◌∙◌}
-use Rattle.std.specs.Option.{option_map, unwrap_or}
+use Rattle.std.specs.Option.{option_map}
 use Rattle.std.proofs.lemmas.Bool.{cases_eq}
+use Rattle.std.proofs.lemmas.Option.{same_Some}
 use Rattle.slab.specs.Slab.{Slab, get, Updates}
 use Rattle.node_queue.specs.declared.Entry.{Entry}
 use Rattle.node_queue.specs.Kept.{IsIndex}
-
-value_is : {X : Type 0} (x y : X) → Some x ≡ Some y → x ≡ y
-value_is x y e = ap (λ o. unwrap_or o x) e
 
 none_not_some : {X : Type 0} (x : X) (o : Option X) → o ≡ None → o ≡ Some x → ⊥
 none_not_some x o n s = cc
@@ -27,7 +25,7 @@ module _ {K : Type 0} (of : Entry → K) (s t : Slab Entry) (m n : K → Option 
       where
         has_by : (k : ℕ) (f : Entry) → get t k ≡ Some f → (k ≡ key) ⊎ (k ≡ key → ⊥) → n (of f) ≡ Some k
         has_by k f at (inl same) =
-            let is_e : e ≡ f = value_is e f (sym u.changed ∙ ap (get t) (sym same) ∙ at) in
+            let is_e : e ≡ f = same_Some e f (sym u.changed ∙ ap (get t) (sym same) ∙ at) in
             ap (λ g. n (of g)) (sym is_e) ∙ finds (of e) ∙ ap (λ b. cond b (Some key) (m (of e))) itself ∙ ap (λ j. Some j) (sym same)
         has_by k f at (inr differs) =
             let had : m (of f) ≡ Some k = is.has k f (sym (u.others k differs) ∙ at) in
@@ -40,7 +38,7 @@ module _ {K : Type 0} (of : Entry → K) (s t : Slab Entry) (m n : K → Option 
 
         all_by : (q : K) (k : ℕ) → n q ≡ Some k → (b : Bool) → hit q ≡ b → option_map of (get t k) ≡ Some q
         all_by q k at true h =
-            let same : key ≡ k = value_is key k (sym (ap (λ b. cond b (Some key) (m q)) h) ∙ sym (finds q) ∙ at) in
+            let same : key ≡ k = same_Some key k (sym (ap (λ b. cond b (Some key) (m q)) h) ∙ sym (finds q) ∙ at) in
             ap (λ j. option_map of (get t j)) (sym same) ∙ ap (option_map of) u.changed ∙ ap (λ p. Some p) (tells q h)
         all_by q k at false h =
             let had : option_map of (get s k) ≡ Some q = is.all q k (sym (ap (λ b. cond b (Some key) (m q)) h) ∙ sym (finds q) ∙ at) in
@@ -58,7 +56,7 @@ module _ {K : Type 0} (of : Entry → K) (s t : Slab Entry) (m n : K → Option 
         has_by k f at true h =
             let had : m (of f) ≡ Some k = is.has k f (sym (u.others k (other k f at)) ∙ at) in
             let both : Some key ≡ Some k = sym (is.has key e was) ∙ ap m (tells (of f) h) ∙ had in
-            absurd (other k f at (sym (value_is key k both)))
+            absurd (other k f at (sym (same_Some key k both)))
         has_by k f at false h =
             let had : m (of f) ≡ Some k = is.has k f (sym (u.others k (other k f at)) ∙ at) in
             finds (of f) ∙ ap (λ b. cond b None (m (of f))) h ∙ had
@@ -68,6 +66,6 @@ module _ {K : Type 0} (of : Entry → K) (s t : Slab Entry) (m n : K → Option 
         all_by q k at false h =
             let had : option_map of (get s k) ≡ Some q = is.all q k (sym (ap (λ b. cond b None (m q)) h) ∙ sym (finds q) ∙ at) in
             let differs : k ≢ key = λ same.
-            let its : of e ≡ q = value_is (of e) q (sym (ap (option_map of) was) ∙ ap (λ j. option_map of (get s j)) (sym same) ∙ had) in
+            let its : of e ≡ q = same_Some (of e) q (sym (ap (option_map of) was) ∙ ap (λ j. option_map of (get s j)) (sym same) ∙ had) in
             none_not_some k (n q) (finds q ∙ ap (λ b. cond b None (m q)) (ap hit (sym its) ∙ itself)) at in
             ap (option_map of) (u.others k differs) ∙ had

@@ -7,14 +7,6 @@ use Rattle.crew_terms.specs.declared.TheConstants.{MOST_PRICE}
 use Rattle.crew_terms.specs.declared.Visit.{Visit}
 use Rattle.potentials.specs.Sums.{IsBoundedBy}
 
-pub bounded_more : (limit n : ℕ) (sum next : ℤ) → IsBoundedBy (limit * n) sum → IsBoundedBy limit next → IsBoundedBy (limit * (n + 1)) (sum +ℤ next)
-bounded_more limit n sum next a b =
-    let c = a.least in
-    let d = a.most in
-    let e = b.least in
-    let f = b.most in
-    record { least = omega (arith, ints); most = omega (arith, ints) }
-
 pub reward_bounded : (p r : ℤ) → IsPrice p → IsPrice r → IsBoundedBy (2 * MOST_PRICE) (p +ℤ r)
 reward_bounded p r is of =
     let a = is.least in

@@ -9,7 +9,7 @@ use Rattle.crew_terms.specs.Limits.{Limits, Route, tasks_in}
 use Rattle.crew_terms.specs.declared.TheConstants.{MOST_TASKS}
 use Rattle.crew_terms.specs.declared.Visit.{Visit}
 use Rattle.search_terms.specs.Search.{Extends, IsColumn}
-use Rattle.node_solver.proofs.MeetingLemmas.{tasks_known}
+use Rattle.master_run.specs.Legal.{tasks_known}
 
 pub extends_none : (n : Limits) (cs : List Route) → Extends n cs cs
 extends_none n cs = record { added = []; all = sym (append-nil cs); routes = All-nil (IsColumn n) }

@@ -2,4 +2,3 @@ pub mod Earning
 pub mod Growing
 pub mod MeetingLemmas
 pub mod Ending
-pub mod Permitted

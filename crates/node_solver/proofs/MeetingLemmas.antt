@@ -1,10 +1,10 @@
 -- when held routes of a team earn what it can earn
-use Rattle.std.proofs.Common.{◌≡◌, ◌<◌, ◌≤◌, ◌↔◌, ℕ, zero, suc, ℤ, pos, ◌≤ℤ◌, ◌<ℤ◌, List, [], ◌∷◌, length, Contains, sym, subst, refl, ◌∙◌, ap, arith, All, get_or}
+use Rattle.std.proofs.Common.{◌≡◌, ◌<◌, ◌≤◌, ◌↔◌, ℕ, ℤ, pos, ◌≤ℤ◌, ◌<ℤ◌, List, [], ◌∷◌, length, Contains, sym, subst, refl, ◌∙◌, ap, arith, get_or}
 use Rattle.std.proofs.lemmas.Int.{ints}
 use Rattle.std.proofs.lemmas.List.{length-map}
 use Rattle.std.proofs.Math.ListN.{get_or-map}
-use Rattle.std.proofs.lemmas.List.Elements.{All-nil, All-cons, All-get_or, Contains-append_left}
-use Rattle.crew_terms.specs.Limits.{Limits, Route, IsRoute, GoesOn, teams_in, tasks_in}
+use Rattle.std.proofs.lemmas.List.Elements.{All-get_or, Contains-append_left}
+use Rattle.crew_terms.specs.Limits.{Limits, Route, IsRoute, teams_in, tasks_in}
 use Rattle.crew_terms.specs.Leaf.{Prices, IsWorth, Proves, bound_of, rewards, worth_of}
 use Rattle.crew_terms.specs.declared.Visit.{Visit}
 use Rattle.route_terms.specs.Routes.{route_of}
@@ -19,35 +19,11 @@ use Rattle.search_terms.specs.MasterRun.{IsRunOver}
 use Rattle.search_terms.specs.Proven.{PricesProve, IsProvedCount}
 use Rattle.search_terms.specs.Search.{Extends, IsColumn}
 use Rattle.search_terms.specs.Shares.{IsRouteIn}
-use Rattle.search_terms.specs.Earned.AreLegalOf.{None, Kept, Left}
 use Rattle.column_arena.specs.Columns.{column_of}
+use Rattle.master_run.specs.Legal.{legal_are, legal_held}
 use Rattle.master_run.specs.State.{routes_of}
 use Rattle.node_solver.specs.Meeting.{IsMet}
 use Rattle.node_solver.specs.Meeting.IsMet.{Idle, Earned}
-
--- a column that is a route in the node is among the legal ones
-pub legal_held : (n : Limits) (cs rs : List Route) (r : Route) → AreLegalOf n cs rs → Contains cs r → IsRouteIn n r → Contains rs r
-legal_held n cs rs r None (k, below, at) is = absurd (omega arith)
-legal_held n cs rs r (Kept q legal rest) (zero, below, at) is = (0, omega arith, at)
-legal_held n cs rs r (Kept q legal rest) (suc k, below, at) is =
-    let (m, less, e) = legal_held n _ _ r rest (k, omega arith, at) is in (suc m, omega arith, e)
-legal_held n cs rs r (Left q illegal rest) (zero, below, at) is = absurd (illegal (subst (IsRouteIn n) (sym at) is))
-legal_held n cs rs r (Left q illegal rest) (suc k, below, at) is = legal_held n _ _ r rest (k, omega arith, at) is
-
--- the legal ones are routes in the node
-pub legal_are : (n : Limits) (cs rs : List Route) → AreLegalOf n cs rs → All (IsRouteIn n) rs
-legal_are n cs rs None = All-nil (IsRouteIn n)
-legal_are n cs rs (Kept r legal rest) = All-cons (IsRouteIn n) r _ legal (legal_are n _ _ rest)
-legal_are n cs rs (Left r illegal rest) = legal_are n _ _ rest
-
--- the tasks of a route are known
-later_known : (n : Limits) (k : ℕ) (v : Visit) (vs : List Visit) → GoesOn n k v vs → All (λ (v : Visit). v.task < tasks_in n) vs
-later_known n k v [] h = All-nil (λ (v : Visit). v.task < tasks_in n)
-later_known n k v (w ∷ ws) h = All-cons (λ (v : Visit). v.task < tasks_in n) w ws (h.1).known (later_known n k w ws h.2)
-
-pub tasks_known : (n : Limits) (k : ℕ) (vs : List Visit) → IsRoute n k vs → All (λ (v : Visit). v.task < tasks_in n) vs
-tasks_known n k [] h = All-nil (λ (v : Visit). v.task < tasks_in n)
-tasks_known n k (v ∷ vs) h = All-cons (λ (v : Visit). v.task < tasks_in n) v vs (h.0).known (later_known n k v vs h.1)
 
 -- a column that entered is a route in the node
 pub entered_is : (n : Limits) (cs : List Route) (ids : List ℕ) (i : ℕ) → AreLegalOf n cs (routes_of cs ids) → i < length ids

@@ -1,3 +1,4 @@
 pub mod Bound
 pub mod Classes
 pub mod Found
+pub mod Visits

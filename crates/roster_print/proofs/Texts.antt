@@ -1,8 +1,7 @@
 -- texts of lists of lines
-use Rattle.std.proofs.Common.{◌≡◌, ◌<◌, ◌++◌, ◌∷◌, [], ℕ, List, Bool, true, false, length, map, get_or, ap, sym, refl, ◌∙◌, append_assoc, append-nil, arith}
-use Rattle.std.specs.List.{filter, flat_map, range_with_len}
+use Rattle.std.proofs.Common.{◌≡◌, ◌++◌, ◌∷◌, [], ℕ, List, length, map, ap, sym, refl, ◌∙◌, append_assoc}
+use Rattle.std.specs.List.{flat_map, range_with_len}
 use Rattle.std.proofs.lemmas.List.Concat.{flat_map-append}
-use Rattle.std.proofs.lemmas.List.FromFn.{get_or-range_with_len}
 use Rattle.crew_terms.specs.Words.{Words, line_text}
 use Rattle.crew_terms.specs.Instance.{Instance}
 use Rattle.crew_terms.specs.Plan.{Plan}
@@ -16,18 +15,6 @@ text lines = flat_map line_text lines
 pub of_lists : {A : Type 0} (lines : A → List Words) (xs : List A) → flat_map (λ x. text (lines x)) xs ≡ text (flat_map lines xs)
 of_lists lines [] = refl
 of_lists lines (x ∷ xs) = ap (λ r. text (lines x) ++ r) (of_lists lines xs) ∙ sym (flat_map-append line_text (lines x) (flat_map lines xs))
-
-one_of_those : (p : ℕ → Bool) (line : ℕ → Words) (x : ℕ) (xs : List ℕ) (b : Bool) → p x ≡ b → text (map line (filter p (x ∷ []))) ++ text (map line (filter p xs)) ≡ text (map line (filter p (x ∷ xs)))
-one_of_those p line x xs true is = rw is (ap (λ h. h ++ text (map line (filter p xs))) (append-nil (line_text (line x))))
-one_of_those p line x xs false is = rw is refl
-
--- the lines of those that pass
-pub of_those : (p : ℕ → Bool) (line : ℕ → Words) (xs : List ℕ) → flat_map (λ x. text (map line (filter p (x ∷ [])))) xs ≡ text (map line (filter p xs))
-of_those p line [] = refl
-of_those p line (x ∷ xs) = ap (λ r. text (map line (filter p (x ∷ []))) ++ r) (of_those p line xs) ∙ one_of_those p line x xs (p x) refl
-
-pub numbered : (n k : ℕ) → k < n → get_or (range_with_len 0 n) k 0 ≡ k
-numbered n k below = get_or-range_with_len 0 n k 0 below ∙ (omega arith)
 
 -- ---- the parts of the roster
 

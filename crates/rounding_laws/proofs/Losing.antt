@@ -26,6 +26,7 @@ use Rattle.search_terms.specs.Rows.{Rows, number, value_row}
 use Rattle.search_terms.specs.Shares.{IsRouteIn}
 use Rattle.rounding_laws.specs.Loss.{rounding_loss}
 use Rattle.ring_laws.specs.Ring.{scale_diff, scale_sum}
+use Rattle.master_laws.specs.Rewards.{best_low}
 use Rattle.rounding_laws.proofs.Rounding.{IsNear, near, term_near, times_low}
 
 -- ---- the row of a place that opens one
@@ -133,17 +134,6 @@ rewards_low n w p d k (v ∷ vs) a in_k i =
     let s = scale_sum w (pi_of p v.task) (rho_of p k v.task) in
     let u = scale_sum w (reward p k v.task) (rewards p k vs) in
     omega (arith, ints)
-
-best_low : (p : Prices) (rs : List Route) (k : ℕ) → pos 0 ≤ℤ best_reward p rs k
-best_low p [] k = omega (arith, ints)
-best_low p (r ∷ rs) k = by_test (eqb k r.team) (best_low p rs k)
-  where
-    max_low : (a b : ℤ) → pos 0 ≤ℤ b → pos 0 ≤ℤ int_max a b
-    max_low a b h = omega (arith, ints, clamps)
-
-    by_test : (b : Bool) → pos 0 ≤ℤ best_reward p rs k → pos 0 ≤ℤ cond b (int_max (rewards p k r.visits) (best_reward p rs k)) (best_reward p rs k)
-    by_test true h = max_low (rewards p k r.visits) (best_reward p rs k) h
-    by_test false h = h
 
 best_near : (n : Limits) (w : ℤ) (p d : Prices) (k : ℕ) (rs : List Route) → AreNear n w p d → k < teams_in n → All (IsRouteIn n) rs
     → (w *ℤ best_reward p rs k) ≤ℤ (pos D *ℤ best_reward d rs k)

@@ -4,9 +4,7 @@ use Rattle.crew_terms.specs.Leaf.{IsOnRequired, Prices}
 use Rattle.crew_terms.specs.Limits.{Limits, Route}
 use Rattle.crew_terms.specs.Tree.{child}
 use Rattle.crew_terms.specs.declared.Choice.{Choice}
-use Rattle.crew_terms.specs.declared.Choice.TheVariants as choices
-use Rattle.crew_terms.specs.declared.Side.{Side}
-use Rattle.crew_terms.specs.declared.Side.TheVariants.{First, Second}
+use Rattle.crew_terms.specs.Nodes.{child_instance}
 use Rattle.node_limits.specs.Trail.{Trail, changed}
 use Rattle.node_solver.specs.Causes.{cause_of}
 use Rattle.node_solver.specs.Steps.{KeepsProved}
@@ -33,12 +31,6 @@ walked_past t (turn ∷ turns) = let e = walked_past (changed t (child t.limits 
 pub walked_spare : (t : Trail) (turns : List Turn) → t.spare ≤ (walked t turns).spare + length turns
 walked_spare t [] = omega arith
 walked_spare t (turn ∷ turns) = let e = walked_spare (changed t (child t.limits turn.choice turn.side)) turns in omega arith
-
-child_instance : (n : Limits) (choice : Choice) (side : Side) → (child n choice side).instance ≡ n.instance
-child_instance n (choices.Window j cut) First = refl
-child_instance n (choices.Window j cut) Second = refl
-child_instance n (choices.Pair k j) First = refl
-child_instance n (choices.Pair k j) Second = refl
 
 -- a node's limits are of the same instance
 pub after_instance : (n : Limits) (turns : List Turn) → (limits_after n turns).instance ≡ n.instance

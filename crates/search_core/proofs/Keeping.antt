@@ -1,11 +1,9 @@
 -- what always holds of a search, where limits were walked and taken back
-use Rattle.std.proofs.Common.{◌≡◌, ◌≤◌, ◌∙◌, ℕ, List, length, ap, sym, subst, arith}
-use Rattle.std.specs.Prelude.{is_none}
-use Rattle.std.proofs.lemmas.List.Sums.{count_by-le-length}
+use Rattle.std.proofs.Common.{◌≡◌, ◌∙◌, ℕ, List, ap, sym, subst}
 use Rattle.crew_terms.specs.Instance.{Instance}
 use Rattle.crew_terms.specs.Leaf.{Prices}
 use Rattle.crew_terms.specs.Limits.{Limits, root_limits}
-use Rattle.crew_terms.specs.Plan.{Plan, unassigned_count}
+use Rattle.crew_terms.specs.Plan.{Plan}
 use Rattle.keyed_tree.specs.Keyed.{Keyed}
 use Rattle.label_pricing.specs.Pricing.{HasRoom}
 use Rattle.node_walk.specs.Walks.{IsBack}
@@ -13,7 +11,6 @@ use Rattle.search_core.specs.Kept.{IsKept, IsKeptSearch, searching}
 use Rattle.search_core.specs.Searching.{Searching}
 use Rattle.search_core.specs.declared.causes.Cause.{Cause}
 use Rattle.search_core.specs.declared.searches.Search.TheInside.{Inside}
-use Rattle.search_terms.specs.Search.{IsKeepable}
 
 abbrev pub search_of : Instance → ℕ → Plan → ℕ → Keyed → List Prices → List Cause → Searching
 search_of i budget plan left keyed prices causes = record {
@@ -46,10 +43,3 @@ kept_with a b kept back places search = record {
   unchanged = back.past ∙ kept.unchanged;
   pricer = subst (λ (i : Instance). HasRoom i b.pricer) (ap (λ (n : Limits). n.instance) (sym back.limits)) (kept.pricer ∙ sym places);
 }
-
--- a legal plan leaves at most all tasks unassigned
-pub few_unassigned : (i : Instance) (p : Plan) → IsKeepable i p → unassigned_count p ≤ length i.tasks
-few_unassigned i p keepable =
-    let e = keepable.legal.feasible.whole in
-    let f = count_by-le-length is_none p in
-    omega arith

@@ -29,6 +29,7 @@ use Rattle.node_solver.specs.Plans.{IsBetterPlan}
 use Rattle.node_solver.specs.declared.step.NodeEnd.TheVariants as ends
 use Rattle.node_solver.specs.declared.step.Why.{Why}
 use Rattle.node_solver.specs.declared.step.Why.TheVariants.{Loose, Overflow, Spent}
+use Rattle.search_core.specs.Counts.{causes_count}
 use Rattle.search_core.specs.Ordered.{cause_with}
 use Rattle.search_core.specs.Searching.{Searching, cause_at, price_at, state_of}
 use Rattle.search_core.specs.Settled.{IsPutClosed, IsPutSplit, number_of}
@@ -261,14 +262,6 @@ outlined_splits (SplitNode split first second) =
     let a = outlined_splits first in
     let b = outlined_splits second in
     omega (arith, a, b)
-
-causes_count : (t : SearchTree) → length (causes t) ≡ splits t
-causes_count (LeafNode leaf) = refl
-causes_count (SplitNode split first second) =
-    let a = causes_count first in
-    let b = causes_count second in
-    let e = length-append (causes first) (causes second) in
-    omega (arith, a, b, e)
 
 module _ (P : Limits → SplitCause → Type 0) (Q : Limits → Cause → Type 0) (f : SplitCause → Cause) (holds : (m : Limits) (k : SplitCause) → P m k → Q m (f k)) where
   -- from the tree with its causes to the tree and the list of the causes; others may stand behind them

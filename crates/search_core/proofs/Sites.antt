@@ -10,6 +10,7 @@ use Rattle.keyed_steps.specs.States.{DecidesProved, HasLeaf, limits_of}
 use Rattle.keyed_tree.specs.Keyed.{IsWaiting}
 use Rattle.keyed_tree.specs.Numbers.{HasNumber}
 use Rattle.potentials.specs.Prices.{ArePricesOf}
+use Rattle.search_core.specs.Counts.{few_unassigned}
 use Rattle.search_core.specs.Kept.{IsKept}
 use Rattle.search_core.specs.Searching.{cause_at, price_at}
 use Rattle.search_core.specs.declared.searches.Search.TheInside.{Inside}
@@ -22,7 +23,6 @@ use Rattle.search_terms.specs.Ways.{prices_at}
 use Rattle.search_tree.specs.Numbered.{node_of, tree_of, way_of}
 use Rattle.search_tree.specs.Ways.{CanTurns, limits_after, turns_of}
 use Rattle.search_core.proofs.Exploring.{after_instance}
-use Rattle.search_core.proofs.Keeping.{few_unassigned}
 use Rattle.search_core.proofs.StepLemmas.{same_shape}
 
 -- what is known at the limits to which the turns lead

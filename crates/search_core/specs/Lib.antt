@@ -6,3 +6,4 @@ pub mod Settled
 pub mod Solved
 pub mod Steps
 pub mod Kept
+pub mod Counts

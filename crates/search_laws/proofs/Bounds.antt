@@ -15,8 +15,9 @@ use Rattle.search_terms.specs.Proven.{PricesProve}
 use Rattle.search_terms.specs.SearchTree.{EachOpen, IfOpen}
 use Rattle.search_terms.specs.Ways.{limits_at, prices_at}
 use Rattle.search_terms.specs.Search.{SearchState, best, IsSearchStep, IsRun, Start, Then, IsStart, Improves, Stays, Betters, IsProved, IsBound}
+use Rattle.search_terms.specs.WayLimits.{tasks_at}
 use Rattle.search_laws.proofs.Inside.{shape_of}
-use Rattle.search_laws.proofs.Ways.{each_replaced, ways_from_each, shape_at, tasks_at}
+use Rattle.search_laws.proofs.Ways.{each_replaced, ways_from_each, shape_at}
 use Rattle.search_laws.proofs.Steps.{Stands, run_stands, state_sound, new_open}
 
 abbrev pub TreeProves : Type 0

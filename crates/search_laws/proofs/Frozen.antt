@@ -1,8 +1,8 @@
 -- a node inside the root has the frozen jobs among its required pairs
-use Rattle.std.proofs.Common.{◌≡◌, ◌≤◌, ◌<◌, ℕ, zero, suc, true, false, cond, List, [], ◌∷◌, length, get_or, refl, ap, sym, ◌∙◌, arith, eqb, ◌⊎◌, inl, inr, None, Some}
+use Rattle.std.proofs.Common.{◌≡◌, ◌≤◌, ◌<◌, ℕ, true, false, cond, List, [], ◌∷◌, length, get_or, refl, ap, sym, ◌∙◌, arith, eqb, ◌⊎◌, inl, inr, None, Some}
 use Rattle.std.specs.Prelude.{Contains}
 use Rattle.std.specs.List.{list_any}
-use Rattle.std.proofs.lemmas.Bool.{both_ways, cases_Bool, cases_lt, eqb-true, eq-eqb, or_cases, or_left, or_right}
+use Rattle.std.proofs.lemmas.Bool.{cases_Bool, cases_lt}
 use Rattle.std.proofs.lemmas.List.{get_or_past}
 use Rattle.crew_terms.specs.Instance.{task_of, no_task}
 use Rattle.crew_terms.specs.Rules.{IsInstance}
@@ -15,22 +15,10 @@ use Rattle.crew_terms.specs.Nodes.{window_at_root, pair_at_root}
 use Rattle.crew_terms.specs.Below.{any_below-some}
 use Rattle.search_terms.specs.Inside.{IsInside}
 use Rattle.search_terms.specs.Closing.{minute_of, required_job}
+use Rattle.crew_laws.specs.Listed.{contains_any, any_contains}
 use Rattle.search_laws.proofs.Required.{IsRequiredPlan, RequiredAreListed, one_rising}
 
 -- ---- a test of the teams of a job
-
-contains_any : (ks : List ℕ) (k : ℕ) → list_any (λ h. eqb h k) ks ≡ true → Contains ks k
-contains_any [] k h = absurd (both_ways false refl h)
-contains_any (x ∷ xs) k h = by (or_cases (eqb x k) (list_any (λ y. eqb y k) xs) h) (contains_any xs k)
-  where
-    by : (eqb x k ≡ true) ⊎ (list_any (λ y. eqb y k) xs ≡ true) → (list_any (λ y. eqb y k) xs ≡ true → Contains xs k) → Contains (x ∷ xs) k
-    by (inl e) rest = (0, omega arith, eqb-true x k e)
-    by (inr e) rest = let c = rest e in (suc c.0, omega arith, c.2)
-
-any_contains : (ks : List ℕ) (k : ℕ) → Contains ks k → list_any (λ h. eqb h k) ks ≡ true
-any_contains [] k (i, below, e) = absurd (omega arith)
-any_contains (x ∷ xs) k (zero, below, e) = or_left (eqb x k) (list_any (λ y. eqb y k) xs) (eq-eqb x k e)
-any_contains (x ∷ xs) k (suc i, below, e) = or_right (eqb x k) (list_any (λ y. eqb y k) xs) (any_contains xs k (i, omega arith, e))
 
 first_in : (xs : List ℕ) → 1 ≤ length xs → Contains xs (get_or xs 0 0)
 first_in [] h = absurd (omega arith)

@@ -1,5 +1,5 @@
 -- the required tasks of a team in order of start are the only route that holds them all
-use Rattle.std.proofs.Common.{◌≡◌, ◌≤◌, ◌<◌, ℕ, zero, suc, List, [], ◌∷◌, refl, ap, sym, subst, arith, ◌∙◌, ◌⊎◌, inl, inr}
+use Rattle.std.proofs.Common.{◌≡◌, ◌≤◌, ◌<◌, ℕ, suc, List, [], ◌∷◌, refl, ap, sym, subst, arith, ◌∙◌, ◌⊎◌, inl, inr}
 use Rattle.std.specs.Prelude.{Contains, AllPairs}
 use Rattle.std.proofs.lemmas.Bool.{cases_eq}
 use Rattle.crew_terms.specs.Rules.{IsInstance}
@@ -7,6 +7,7 @@ use Rattle.crew_terms.specs.Limits.{Limits, IsRoute, GoesOn, IsPermittedVisit, t
 use Rattle.crew_terms.specs.declared.Pair.TheVariants.{Required}
 use Rattle.crew_terms.specs.declared.Visit.{Visit}
 use Rattle.crew_laws.specs.Visits.{visit}
+use Rattle.crew_laws.specs.Listed.{of_either}
 use Rattle.crew_terms.specs.Decided.{IsDecided}
 use Rattle.search_terms.specs.Shares.{visits_to}
 use Rattle.search_terms.specs.Closing.{AreRequiredVisits}
@@ -16,10 +17,6 @@ use Rattle.search_laws.proofs.Decided.{of_required, rises, visits-other}
 abbrev Up : List Visit → Type 0
 Up [] = Unit {0}
 Up (v ∷ vs) = ((w : Visit) → Contains vs w → v.start < w.start) × Up vs
-
-of_head : (v w : Visit) (vs : List Visit) → Contains (v ∷ vs) w → (v ≡ w) ⊎ Contains vs w
-of_head v w vs (zero, l, e) = inl e
-of_head v w vs (suc i, l, e) = inr (i, omega arith, e)
 
 head_of : (v : Visit) (vs : List Visit) → Contains (v ∷ vs) v
 head_of v vs = (0, omega arith, refl)
@@ -35,10 +32,10 @@ one_up [] [] a b f g = refl
 one_up [] (y ∷ ys) a b f g = absurd (none_in y (g y (head_of y ys)))
 one_up (x ∷ xs) [] a b f g = absurd (none_in x (f x (head_of x xs)))
 one_up (x ∷ xs) (y ∷ ys) a b f g =
-    let heads = same (of_head y x ys (f x (head_of x xs))) (of_head x y xs (g y (head_of y ys))) in
+    let heads = same (of_either y x ys (f x (head_of x xs))) (of_either x y xs (g y (head_of y ys))) in
     let tails = one_up xs ys a.1 b.1
-    (λ v c. there v (a.0 v c) heads (of_head y v ys (f v (tail_of x v xs c))))
-    (λ v c. back v (b.0 v c) heads (of_head x v xs (g v (tail_of y v ys c)))) in
+    (λ v c. there v (a.0 v c) heads (of_either y v ys (f v (tail_of x v xs c))))
+    (λ v c. back v (b.0 v c) heads (of_either x v xs (g v (tail_of y v ys c)))) in
     cc
   where
     same : (y ≡ x) ⊎ Contains ys x → (x ≡ y) ⊎ Contains xs y → x ≡ y
@@ -61,7 +58,7 @@ up_from_pairs (v ∷ vs) h = ((λ w (i, l, e). (let less = h 0 (suc i) w (omega 
 module _ (n : Limits) (is : IsInstance n.instance) (decided : IsDecided n) (k : ℕ) (below : k < teams_in n) where
   later : (v : Visit) (vs : List Visit) → IsPermittedVisit n k v.task v.start → GoesOn n k v vs → (w : Visit) → Contains vs w → (v.start < w.start) × IsPermittedVisit n k w.task w.start
   later v [] a on w c = absurd (none_in w c)
-  later v (u ∷ us) a on w c = by (of_head u w us c) (later u us on.1 on.2 w)
+  later v (u ∷ us) a on w c = by (of_either u w us c) (later u us on.1 on.2 w)
     where
       by : (u ≡ w) ⊎ Contains us w → (Contains us w → (u.start < w.start) × IsPermittedVisit n k w.task w.start) → (v.start < w.start) × IsPermittedVisit n k w.task w.start
       by (inl e) rest = let r = rises n is decided k below v u a on.0 in (subst (λ (x : Visit). v.start < x.start) e r, subst (λ (x : Visit). IsPermittedVisit n k x.task x.start) e on.1)
@@ -77,7 +74,7 @@ module _ (n : Limits) (is : IsInstance n.instance) (decided : IsDecided n) (k : 
 
   permitted : (vs : List Visit) → IsRoute n k vs → (w : Visit) → Contains vs w → IsPermittedVisit n k w.task w.start
   permitted [] h w c = absurd (none_in w c)
-  permitted (v ∷ vs) h w c = by (of_head v w vs c)
+  permitted (v ∷ vs) h w c = by (of_either v w vs c)
     where
       by : (v ≡ w) ⊎ Contains vs w → IsPermittedVisit n k w.task w.start
       by (inl e) = subst (λ (x : Visit). IsPermittedVisit n k x.task x.start) e h.0

@@ -11,6 +11,7 @@ use Rattle.crew_terms.specs.Skills.{bits_had, has_bits}
 use Rattle.crew_terms.specs.declared.Pair.{Pair}
 use Rattle.crew_terms.specs.declared.Pair.TheVariants.{Free, Forbidden, Required}
 use Rattle.crew_terms.specs.declared.Visit.{Visit}
+use Rattle.crew_terms.specs.Greater.{max_left, max_right}
 use Rattle.crew_laws.specs.Visits.{visit}
 
 -- ---- the greatest of some numbers and 0
@@ -18,12 +19,6 @@ use Rattle.crew_laws.specs.Visits.{visit}
 abbrev pub greatest : ℕ → (ℕ → ℤ) → ℤ
 greatest zero f = pos 0
 greatest (suc n) f = int_max (greatest n f) (f n)
-
-max_left : (a b : ℤ) → a ≤ℤ int_max a b
-max_left a b = omega (arith, ints, clamps)
-
-max_right : (a b : ℤ) → b ≤ℤ int_max a b
-max_right a b = omega (arith, ints, clamps)
 
 max_reached : (a b : ℤ) → (int_max a b ≡ a) ⊎ (int_max a b ≡ b)
 max_reached a b = grind (arith, ints)

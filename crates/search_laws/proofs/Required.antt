@@ -9,6 +9,7 @@ use Rattle.crew_terms.specs.Minutes.{IsListOf, required_teams}
 use Rattle.crew_terms.specs.declared.Pair.TheVariants.{Required}
 use Rattle.crew_terms.specs.Rising.{rises_tail, above_head}
 use Rattle.search_terms.specs.Closing.{required_job, required_plan}
+use Rattle.crew_laws.specs.Listed.{of_either}
 
 -- the plan has the required jobs
 pub record IsRequiredPlan (n : Limits) (q : Plan) : Type 0 where
@@ -35,10 +36,6 @@ above x xs r k (i, l, e) = let a = above_head x xs r i l in let b : get_or xs i 
     get_same (y ∷ ys) zero c d l = refl
     get_same (y ∷ ys) (suc i) c d l = get_same ys i c d (omega arith)
 
-of_head : (x k : ℕ) (xs : List ℕ) → Contains (x ∷ xs) k → (x ≡ k) ⊎ Contains xs k
-of_head x k xs (zero, l, e) = inl e
-of_head x k xs (suc i, l, e) = inr (i, omega arith, e)
-
 head_of : (x : ℕ) (xs : List ℕ) → Contains (x ∷ xs) x
 head_of x xs = (0, omega arith, refl)
 
@@ -53,10 +50,10 @@ one_rising [] [] a b f g = refl
 one_rising [] (y ∷ ys) a b f g = absurd (none_in y (g y (head_of y ys)))
 one_rising (x ∷ xs) [] a b f g = absurd (none_in x (f x (head_of x xs)))
 one_rising (x ∷ xs) (y ∷ ys) a b f g =
-    let heads = same (of_head y x ys (f x (head_of x xs))) (of_head x y xs (g y (head_of y ys))) in
+    let heads = same (of_either y x ys (f x (head_of x xs))) (of_either x y xs (g y (head_of y ys))) in
     let tails = one_rising xs ys (rises_tail x xs a) (rises_tail y ys b)
-    (λ k c. there k (above x xs a k c) heads (of_head y k ys (f k (tail_of x k xs c))))
-    (λ k c. back k (above y ys b k c) heads (of_head x k xs (g k (tail_of y k ys c)))) in
+    (λ k c. there k (above x xs a k c) heads (of_either y k ys (f k (tail_of x k xs c))))
+    (λ k c. back k (above y ys b k c) heads (of_either x k xs (g k (tail_of y k ys c)))) in
     cc
   where
     same : (y ≡ x) ⊎ Contains ys x → (x ≡ y) ⊎ Contains xs y → x ≡ y

@@ -15,8 +15,9 @@ use Rattle.search_terms.specs.SearchTree.{SearchTree, OpenLeaf, ClosedLeaf, Spli
 use Rattle.search_terms.specs.Ways.{limits_at, prices_at, IsOpenAt, replaced}
 use Rattle.search_terms.specs.Search.{Becomes, Closes, Splits, IsHandedOn, Found, Own}
 use Rattle.search_terms.specs.Caused.{NearlyProves, IsLooseShown, AreLooseShown, ProveNearly, LooseProves}
+use Rattle.search_terms.specs.WayLimits.{tasks_at}
 use Rattle.search_laws.proofs.Inside.{HasShape, child_shape, child_proves, less_proved}
-use Rattle.search_laws.proofs.Ways.{each_replaced, ways_from_each, shape_at, tasks_at}
+use Rattle.search_laws.proofs.Ways.{each_replaced, ways_from_each, shape_at}
 use Rattle.search_laws.proofs.Steps.{handed_proves}
 
 -- ---- a new split

@@ -1,6 +1,6 @@
 -- ways to open leaves, and what becomes of a tree at the end of one
-use Rattle.std.proofs.Common.{◌≡◌, ◌≤◌, ◌+◌, ◌++◌, ℕ, List, [], ◌∷◌, refl, ap, arith}
-use Rattle.crew_terms.specs.Limits.{Limits, tasks_in}
+use Rattle.std.proofs.Common.{◌≡◌, ◌+◌, ◌++◌, List, [], ◌∷◌, refl, ap, arith}
+use Rattle.crew_terms.specs.Limits.{Limits}
 use Rattle.crew_terms.specs.Leaf.{Prices}
 use Rattle.crew_terms.specs.Branches.{LeafNode, SplitNode, splits}
 use Rattle.crew_terms.specs.Tree.{child}
@@ -10,7 +10,7 @@ use Rattle.search_terms.specs.Choice.{IsValidChoice}
 use Rattle.search_terms.specs.Inside.{IsNode}
 use Rattle.search_terms.specs.SearchTree.{SearchTree, SearchLeaf, OpenLeaf, ClosedLeaf, Split, EachLeaf, EachOpen, closed_leaves}
 use Rattle.search_terms.specs.Ways.{limits_at, prices_at, IsOpenAt, replaced, StaysOpen, CameFrom, Before, Below}
-use Rattle.search_laws.proofs.Inside.{HasShape, child_shape, child_tasks, ChildrenAreLimits, child_node}
+use Rattle.search_laws.proofs.Inside.{HasShape, child_shape, ChildrenAreLimits, child_node}
 
 -- ---- what holds of each leaf, and at the end of each way to an open one
 
@@ -67,12 +67,6 @@ shape_at n (LeafNode leaf) way s = s
 shape_at n (SplitNode split first second) [] s = s
 shape_at n (SplitNode split first second) (First ∷ way) s = shape_at (child n split.choice First) first way (child_shape n split.choice First s)
 shape_at n (SplitNode split first second) (Second ∷ way) s = shape_at (child n split.choice Second) second way (child_shape n split.choice Second s)
-
-pub tasks_at : (n : Limits) (t : SearchTree) (way : List Side) (l : ℕ) → l ≤ tasks_in n → l ≤ tasks_in (limits_at n t way)
-tasks_at n (LeafNode leaf) way l h = h
-tasks_at n (SplitNode split first second) [] l h = h
-tasks_at n (SplitNode split first second) (First ∷ way) l h = tasks_at (child n split.choice First) first way l (let e = child_tasks n split.choice First in omega arith)
-tasks_at n (SplitNode split first second) (Second ∷ way) l h = tasks_at (child n split.choice Second) second way l (let e = child_tasks n split.choice Second in omega arith)
 
 pub node_at : ChildrenAreLimits → (n : Limits) (t : SearchTree) (way : List Side) → IsNode n → AreValid n t → IsNode (limits_at n t way)
 node_at law n (LeafNode leaf) way is h = is

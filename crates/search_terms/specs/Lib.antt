@@ -15,3 +15,4 @@ pub mod SearchTree
 pub mod Ways
 pub mod Search
 pub mod Caused
+pub mod WayLimits

@@ -1,20 +1,16 @@
 -- routes of a node are routes of the root, and so a pool that steps leave is one of the instance
-use Rattle.std.proofs.Common.{◌≡◌, ◌≤◌, ◌∙◌, ◌++◌, ◌∷◌, [], ℕ, List, refl, ap, sym, subst, arith}
+use Rattle.std.proofs.Common.{◌≡◌, ◌≤◌, ◌++◌, ◌∷◌, [], ℕ, List, ap, sym, subst, arith}
 use Rattle.std.specs.Prelude.{All}
 use Rattle.std.proofs.lemmas.List.Elements.{All-append, All-weaker}
-use Rattle.crew_terms.specs.Branches.{LeafNode, SplitNode}
 use Rattle.crew_terms.specs.Instance.{Instance}
 use Rattle.crew_terms.specs.Limits.{GoesOn, IsPermittedVisit, IsRoute, Limits, Route, root_limits}
-use Rattle.crew_terms.specs.Tree.{child}
 use Rattle.crew_terms.specs.declared.Side.{Side}
-use Rattle.crew_terms.specs.declared.Side.TheVariants.{First, Second}
 use Rattle.crew_terms.specs.declared.Visit.{Visit}
 use Rattle.dossier_terms.specs.Dossier.{IsPooled}
 use Rattle.search_terms.specs.Inside.{IsNode}
 use Rattle.search_terms.specs.Search.{Extends, Goes, IsColumn, IsRun, IsSearchRun, SearchState, Starts}
-use Rattle.search_terms.specs.SearchTree.{SearchTree}
+use Rattle.search_terms.specs.WayLimits.{at_instance}
 use Rattle.search_terms.specs.Ways.{limits_at}
-use Rattle.solved_laws.proofs.Trees.{child_instance}
 
 root_visit : (n : Limits) (k j t : ℕ) → IsNode n → IsPermittedVisit n k j t → IsPermittedVisit (root_limits n.instance) k j t
 root_visit n k j t node v =
@@ -47,12 +43,6 @@ pooled n r node column = record {
   route = root_route n r.team r.visits node column.legal.route;
 }
 
-way_instance : (n : Limits) (t : SearchTree) (way : List Side) → (limits_at n t way).instance ≡ n.instance
-way_instance n (LeafNode leaf) way = refl
-way_instance n (SplitNode split first second) [] = refl
-way_instance n (SplitNode split first second) (First ∷ way) = way_instance (child n split.choice First) first way ∙ child_instance n split.choice First
-way_instance n (SplitNode split first second) (Second ∷ way) = way_instance (child n split.choice Second) second way ∙ child_instance n split.choice Second
-
 -- a pool that steps leave
 pub pool_of : (i : Instance) (budget : ℕ) (kept pool : List Route) (s : SearchState)
     → ((t : SearchState) (way : List Side) → IsRun i budget t → IsNode (limits_at (root_limits i) t.tree way))
@@ -62,7 +52,7 @@ pool_of i budget kept pool s node is_run (Starts s' start) all = all
 pool_of i budget kept pool s node is_run (Goes columns pool' r s' way run step) all =
     let n : Limits = limits_at (root_limits i) r.tree way in
     let more = step.extends in
-    let same : n.instance ≡ i = way_instance (root_limits i) r.tree way in
+    let same : n.instance ≡ i = at_instance (root_limits i) r.tree way in
     let is : IsNode n = node r way (is_run columns r run) in
     subst (λ (xs : List Route). All (IsPooled i) xs) (sym more.all)
     (All-append (IsPooled i) columns more.added (pool_of i budget kept columns r node is_run run all)

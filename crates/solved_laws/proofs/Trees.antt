@@ -1,9 +1,7 @@
 -- trees that a search hands out are proved
-use Rattle.std.proofs.Common.{◌≡◌, ◌≤◌, ◌∙◌, ◌+◌, ◌++◌, ◌∷◌, [], ℕ, List, length, refl, ap, sym, subst, arith}
-use Rattle.std.specs.Prelude.{All, Bool, true, false, is_none, ◌==◌, zero, suc}
-use Rattle.std.proofs.lemmas.List.{length-append}
+use Rattle.std.proofs.Common.{◌≡◌, ◌∙◌, ◌+◌, ◌++◌, ◌∷◌, [], ℕ, List, length, refl, ap, sym, subst, arith}
+use Rattle.std.specs.Prelude.{All, Bool, true, false, ◌==◌, zero, suc}
 use Rattle.std.proofs.lemmas.List.Elements.{All-cons, All-head, All-nil, All-tail}
-use Rattle.std.proofs.lemmas.List.Sums.{count_by-le-length}
 use Rattle.branch_tree.specs.Trees.{BranchTree, closed, preorder}
 use Rattle.branch_tree.specs.declared.tree.LeafState.TheVariants as states
 use Rattle.branch_tree.specs.declared.tree.Node.{Node}
@@ -13,16 +11,13 @@ use Rattle.crew_terms.specs.Branches.{LeafNode, SplitNode, Bare, Open, Closed, s
 use Rattle.crew_terms.specs.Instance.{Instance}
 use Rattle.crew_terms.specs.Leaf.{IsOnRequired, Prices}
 use Rattle.crew_terms.specs.Limits.{Limits}
-use Rattle.crew_terms.specs.Plan.{Plan, unassigned_count}
 use Rattle.crew_terms.specs.Tree.{IsSound, Priced, ProvesIn, Tree, child}
 use Rattle.crew_terms.specs.declared.Choice.{Choice}
-use Rattle.crew_terms.specs.declared.Choice.TheVariants as choices
-use Rattle.crew_terms.specs.declared.Side.{Side}
 use Rattle.crew_terms.specs.declared.Side.TheVariants.{First, Second}
+use Rattle.crew_terms.specs.Nodes.{child_instance}
 use Rattle.potentials.specs.Prices.{ArePricesOf}
 use Rattle.search_terms.specs.Proven.{PricesProve}
-use Rattle.search_terms.specs.Search.{IsKeepable}
-use Rattle.search_terms.specs.SearchTree.{ClosedLeaf, IsTreeOf, OpenLeaf, SearchTree, SplitCause, causes, closed_leaves}
+use Rattle.search_terms.specs.SearchTree.{ClosedLeaf, IsTreeOf, OpenLeaf, SearchTree, SplitCause, closed_leaves}
 use Rattle.tree_outlines.specs.Outline.{outline, outline_with}
 use Rattle.tree_outlines.specs.Visited.{HasPricesOf}
 use Rattle.written_laws.specs.Proved.{IsProvedTree}
@@ -56,29 +51,7 @@ outline_closed s b = with_closed s b
     with_closed (LeafNode (ClosedLeaf p)) b = refl
     with_closed (SplitNode split first second) b = whole (SplitNode split first second)
 
--- a cause for each split
-pub causes_count : (s : SearchTree) → length (causes s) ≡ splits s
-causes_count (LeafNode leaf) = refl
-causes_count (SplitNode split first second) =
-    let a = causes_count first in
-    let b = causes_count second in
-    let e = length-append (causes first) (causes second) in
-    omega arith
-
--- a legal plan leaves at most all tasks unassigned
-pub few_unassigned : (i : Instance) (p : Plan) → IsKeepable i p → unassigned_count p ≤ length i.tasks
-few_unassigned i p keepable =
-    let e = keepable.legal.feasible.whole in
-    let f = count_by-le-length is_none p in
-    omega arith
-
 -- ---- what leaves prove
-
-pub child_instance : (n : Limits) (choice : Choice) (side : Side) → (child n choice side).instance ≡ n.instance
-child_instance n (choices.Window j cut) First = refl
-child_instance n (choices.Window j cut) Second = refl
-child_instance n (choices.Pair k j) First = refl
-child_instance n (choices.Pair k j) Second = refl
 
 all_front : (P : Node → Type 0) (xs ys : List Node) → All P (xs ++ ys) → All P xs
 all_front P [] ys h = All-nil P

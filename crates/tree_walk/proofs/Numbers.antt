@@ -1,9 +1,10 @@
 -- the numbers of a walk while it goes up from a node whose tree is whole
-use Rattle.std.proofs.Common.{◌≡◌, ◌+◌, ℕ, suc, Bool, List, [], ◌∷◌, length, arith, ap, refl}
+use Rattle.std.proofs.Common.{◌≡◌, ◌+◌, ℕ, suc, Bool, List, [], ◌∷◌, length, arith, ap}
 use Rattle.std.proofs.lemmas.Bool.Decides.{nat_tests}
 use Rattle.std.specs.Prelude.{max}
 use Rattle.crew_terms.specs.Branches.{LeafNode, SplitNode, Claim, Bare, Open, Closed, InFirst, InSecond, splits, closed, left_open, depth, frame_sum, deepest}
 use Rattle.crew_terms.specs.declared.TreeCounts.{TreeCounts}
+use Rattle.crew_terms.specs.Counts.{same_counts}
 use Rattle.dossier_terms.specs.Dossier.{Written, Split, Leaf}
 use Rattle.dossier_terms.specs.Lines.{counts_of}
 use Rattle.dossier_terms.specs.Reading.{Above}
@@ -17,12 +18,6 @@ counts_past fs t = record {
   left_open = frame_sum left_open 0 fs + left_open t;
   depth = max (deepest fs) (length fs + depth t);
 }
-
-abbrev counts : ℕ → ℕ → ℕ → ℕ → TreeCounts
-counts a b c d = record { splits = a; closed = b; left_open = c; depth = d }
-
-same_counts : (a b c d e f g h : ℕ) → a ≡ e → b ≡ f → c ≡ g → d ≡ h → counts a b c d ≡ counts e f g h
-same_counts a b c d e f g h p q r s = rw (p, q, r, s) refl
 
 deeper : (d n a b : ℕ) → max (max d (n + 1 + a)) (suc n + b) ≡ max d (n + (max a b + 1))
 deeper d n a b = grind (arith, nat_tests)

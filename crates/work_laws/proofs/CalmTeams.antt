@@ -7,19 +7,8 @@ use Rattle.crew_terms.specs.Plan.{Plan}
 use Rattle.crew_terms.specs.Verdict.{IsBefore, HasNoClash, IsFirstClash}
 use Rattle.crew_terms.specs.Nodes.{task_known}
 use Rattle.day_terms.specs.Faulty.{is_first_clash}
+use Rattle.crew_laws.specs.Starts.{starts}
 use Rattle.work_laws.proofs.Clashes.{begun, Clashes, Earlier, clash_from, is_first, ready}
-
--- of two starts of tasks one comes first, or they are one
-pub starts : (t j u h : ℕ) → IsBefore t j u h ⊎ (IsBefore u h t j ⊎ ((t ≡ u) × (j ≡ h)))
-starts t j u h = elim (cases_order t u) [
-  | inr (inl l) ↦ inl (inl l)
-  | inr (inr l) ↦ inr (inl (inl l))
-  | inl e ↦ elim (cases_order j h) [
-    | inr (inl l) ↦ inl (inr (e, l))
-    | inr (inr l) ↦ inr (inl (inr (sym e, l)))
-    | inl f ↦ inr (inr (e, f))
-  ]
-]
 
 module _ (i : Instance) (p : Plan) (k : ℕ) (passes : (j : ℕ) → (is_first_clash i p k j ≡ true) ↔ ((h : ℕ) × IsFirstClash i p k j h)) where
   -- none of a team of which each task can follow

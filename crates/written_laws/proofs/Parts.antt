@@ -10,26 +10,12 @@ use Rattle.crew_terms.specs.declared.Side.TheVariants.{First, Second}
 use Rattle.crew_terms.specs.declared.TreeCounts.{TreeCounts}
 use Rattle.branch_tree.specs.Trees.{BranchTree, closed as given_closed}
 use Rattle.dossier_terms.specs.Causes.{Cause}
-use Rattle.dossier_terms.specs.Dossier.{AreCaused, AreWritten, Dossier, IsGood, Written, tree_of}
+use Rattle.dossier_terms.specs.Dossier.{AreCaused, AreWritten, IsGood, Written, tree_of}
 use Rattle.dossier_terms.specs.declared.DossierForm.TheVariants.{Two}
 use Rattle.cert_write.specs.Counted.{same_counts, same_splits}
 use Rattle.cert_write.specs.Given.{Given}
-use Rattle.cert_write.specs.Dossiers.{IsDossierOf, IsPricedTree, IsTreeOfGiven, causes_of}
+use Rattle.cert_write.specs.Dossiers.{IsPricedTree, IsTreeOfGiven, causes_of, dossier_with}
 use Rattle.written_laws.specs.Proved.{AreCauses, IsProvedGiven}
-
--- the dossier of these parts with this tree
-abbrev pub dossier_with : Given → Written → Dossier
-dossier_with g tree = record { form = Two; instance = g.instance; budget = g.nodes; kept = g.kept; pool = g.columns; plan = g.plan; bound = g.bound; tree = tree }
-
-pub dossier_is : (g : Given) (d : Dossier) → IsDossierOf g d → d ≡ dossier_with g d.tree
-dossier_is g d is =
-    ap (λ x. record d { form = x }) is.form
-    ∙ ap (λ x. record d { form = Two; instance = x }) is.instance
-    ∙ ap (λ x. record d { form = Two; instance = g.instance; budget = x }) is.budget
-    ∙ ap (λ x. record d { form = Two; instance = g.instance; budget = g.nodes; kept = x }) is.kept
-    ∙ ap (λ x. record d { form = Two; instance = g.instance; budget = g.nodes; kept = g.kept; pool = x }) is.pool
-    ∙ ap (λ x. record d { form = Two; instance = g.instance; budget = g.nodes; kept = g.kept; pool = g.columns; plan = x }) is.plan
-    ∙ ap (λ x. record d { form = Two; instance = g.instance; budget = g.nodes; kept = g.kept; pool = g.columns; plan = g.plan; bound = x }) is.bound
 
 -- ---- numbers of the tree
 

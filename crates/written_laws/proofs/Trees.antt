@@ -1,5 +1,5 @@
 -- a tree as it is written is sound where its prices prove what they claim
-use Rattle.std.proofs.Common.{[], ◌≡◌, ◌<◌, ◌+◌, ◌↔◌, ℕ, List, length, get_or, sym, refl, subst}
+use Rattle.std.proofs.Common.{[], ◌≡◌, ◌<◌, ◌+◌, ◌↔◌, ℕ, List, length, get_or, sym, subst}
 use Rattle.std.specs.Prelude.{ℤ, pos, FitsSigned, ◌≤ℤ◌, slice_index}
 use Rattle.std.specs.Int.{w64}
 use Rattle.crew_terms.specs.Branches.{LeafNode, SplitNode, Claim, Bare, Open, Closed}
@@ -8,11 +8,9 @@ use Rattle.crew_terms.specs.Limits.{Limits, IsPermittedVisit, pair_of, tasks_in,
 use Rattle.crew_terms.specs.Minutes.{IsListOf, IsMinuteOf, first_minute, open_tasks, priced, required_teams}
 use Rattle.crew_terms.specs.Rules.{IsInstance}
 use Rattle.crew_terms.specs.Tree.{CanSplit, IsSound, IsSoundLeaf, ProvesIn, child}
-use Rattle.crew_terms.specs.declared.Choice.{Choice}
-use Rattle.crew_terms.specs.declared.Choice.TheVariants as choices
 use Rattle.crew_terms.specs.declared.Pair.TheVariants.{Required}
-use Rattle.crew_terms.specs.declared.Side.{Side}
 use Rattle.crew_terms.specs.declared.Side.TheVariants.{First, Second}
+use Rattle.crew_terms.specs.Children.{child_is}
 use Rattle.dossier_terms.specs.Dossier.{AreWritten, IsWritten, IsWrittenClaim, Leaf, Written, claim_of, no_potentials, phi_of, priced_of, prices_of, tree_of, worths_of}
 use Rattle.branch_tree.specs.Trees.{BranchTree, ClaimedLeaf}
 use Rattle.label_pricing.specs.Best.{IsBest}
@@ -22,16 +20,6 @@ use Rattle.cert_write.specs.Given.{IsPriced}
 use Rattle.cert_write.specs.Dossiers.{IsPricedClaim, IsPricedLeaf, IsPricedTree}
 use Rattle.written_laws.specs.Proved.{IsProvedLeaf, IsProvedTree}
 use Rattle.written_laws.proofs.Leaves.{are_worths, best_at, prices_same, written}
-
--- the limits of a child are of the same instance
-child_instance : (n : Limits) (choice : Choice) (side : Side) → (child n choice side).instance ≡ n.instance
-child_instance n (choices.Window j cut) First = refl
-child_instance n (choices.Window j cut) Second = refl
-child_instance n (choices.Pair k j) First = refl
-child_instance n (choices.Pair k j) Second = refl
-
-child_is : (n : Limits) (choice : Choice) (side : Side) → IsInstance n.instance → IsInstance (child n choice side).instance
-child_is n choice side = subst IsInstance (sym (child_instance n choice side))
 
 module _ (least : (n : Limits) (k : ℕ) (p : Prices) (v : ℤ) → IsWorth n k p v → pos 0 ≤ℤ v)
     (worths : (n : Limits) (k : ℕ) (p : Prices) (v : ℤ) → IsInstance n.instance → AreInRange p → k < teams_in n → IsWorth n k p v → FitsSigned w64 v)

@@ -1,9 +1,11 @@
 use Rattle.std.proofs.Common.{◌≤◌, ◌<◌, ◌∷◌, [], List, ℕ, length, map, ap, sym, subst, arith}
 use Rattle.std.specs.List.{filter, range_with_len}
 use Rattle.std.proofs.lemmas.List.FromFn.{length-range_with_len}
+use Rattle.crew_terms.specs.Ranges.{numbered}
 use Rattle.crew_io.specs.Chains.{puts_nothing, puts_same, puts_more, puts_more_front, puts_all}
+use Rattle.line_out.specs.Lines.{of_those}
 use Rattle.roster_print.specs.Roster.{is_unassigned, open_line}
-use Rattle.roster_print.proofs.Texts.{text, numbered, of_those}
+use Rattle.roster_print.proofs.Texts.{text}
 use Rattle.roster_print.proofs.put_open.Goals as goal
 
 below : (j n : ℕ) → j < n → j < length (range_with_len 0 n)

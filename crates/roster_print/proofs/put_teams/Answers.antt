@@ -1,9 +1,10 @@
 use Rattle.std.proofs.Common.{◌≤◌, ◌<◌, List, ℕ, length, ap, sym, subst, arith}
 use Rattle.std.specs.List.{range_with_len}
 use Rattle.std.proofs.lemmas.List.FromFn.{length-range_with_len}
+use Rattle.crew_terms.specs.Ranges.{numbered}
 use Rattle.crew_io.specs.Chains.{puts_nothing, puts_same, puts_more, puts_more_front, puts_all}
 use Rattle.roster_print.specs.Roster.{team_lines}
-use Rattle.roster_print.proofs.Texts.{text, numbered, of_lists}
+use Rattle.roster_print.proofs.Texts.{text, of_lists}
 use Rattle.roster_print.proofs.put_teams.Goals as goal
 
 below : (j n : ℕ) → j < n → j < length (range_with_len 0 n)

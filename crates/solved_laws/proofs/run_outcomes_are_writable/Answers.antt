@@ -4,12 +4,13 @@ use Rattle.std.proofs.lemmas.Bool.{eqb-true}
 use Rattle.std.proofs.lemmas.List.{length-map}
 use Rattle.branch_tree.specs.declared.tree.Node.{Node}
 use Rattle.crew_terms.specs.Limits.{root_limits}
+use Rattle.search_core.specs.Counts.{causes_count}
 use Rattle.search_core.specs.Searching.{split_cause}
 use Rattle.search_terms.specs.Search.{best}
 use Rattle.tree_outlines.specs.Outline.{handed_out}
 use Rattle.tree_outlines.specs.Visited.{HasPricesOf}
 use Rattle.written_laws.specs.Proved.{proved_is_writable}
-use Rattle.solved_laws.proofs.Trees.{causes_count, outline_splits, proved_with}
+use Rattle.solved_laws.proofs.Trees.{outline_splits, proved_with}
 use Rattle.solved_laws.proofs.run_outcomes_are_writable.Goals as goal
 
 pub returns-clause-tree : goal.returns-clause-tree

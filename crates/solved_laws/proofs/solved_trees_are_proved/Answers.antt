@@ -7,6 +7,7 @@ use Rattle.branch_tree.specs.declared.tree.Node.{Node}
 use Rattle.crew_terms.specs.Branches.{splits}
 use Rattle.crew_terms.specs.Limits.{root_limits}
 use Rattle.crew_terms.specs.Plan.{Plan, unassigned_count}
+use Rattle.search_core.specs.Counts.{causes_count, few_unassigned}
 use Rattle.search_core.specs.Searching.{split_cause}
 use Rattle.search_core.specs.Steps.{IsDone}
 use Rattle.search_terms.specs.Search.{IsBound, IsKeepable, SearchState, best}
@@ -14,7 +15,7 @@ use Rattle.search_terms.specs.SearchTree.{closed_leaves}
 use Rattle.tree_outlines.specs.Outline.{handed_out}
 use Rattle.tree_outlines.specs.Visited.{HasPricesOf}
 use Rattle.written_laws.specs.Proved.{IsProvedTree}
-use Rattle.solved_laws.proofs.Trees.{causes_count, few_unassigned, outline_closed, outline_splits, proved_with}
+use Rattle.solved_laws.proofs.Trees.{outline_closed, outline_splits, proved_with}
 use Rattle.solved_laws.proofs.solved_trees_are_proved.Goals as goal
 
 pub returns : goal.returns

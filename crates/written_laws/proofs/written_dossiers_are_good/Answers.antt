@@ -2,9 +2,10 @@ use Rattle.std.proofs.Common.{sym, subst, ◌∙◌}
 use Rattle.crew_terms.specs.Limits.{root_limits}
 use Rattle.crew_terms.specs.Plan.{unassigned_count}
 use Rattle.dossier_terms.specs.Dossier.{IsGood}
+use Rattle.cert_write.specs.Dossiers.{dossier_is}
 use Rattle.written_laws.specs.Proved.{IsProvedTree}
 use Rattle.written_laws.proofs.Trees.{tree_good}
-use Rattle.written_laws.proofs.Parts.{dossier_is, good_parts}
+use Rattle.written_laws.proofs.Parts.{good_parts}
 use Rattle.written_laws.proofs.written_dossiers_are_good.Goals as goal
 
 pub returns : goal.returns

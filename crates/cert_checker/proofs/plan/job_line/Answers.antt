@@ -11,10 +11,11 @@ use Rattle.dossier_terms.specs.Table.{Says}
 use Rattle.dossier_terms.specs.BodyTable.{after_job, job_row}
 use Rattle.cert_format.specs.Lines.{IsJobLine}
 use Rattle.head_check.specs.Numbers.{AreBelow, naturals}
+use Rattle.head_check.specs.NumbersBack.{naturals-pos}
 use Rattle.cert_checker.specs.Due.{IsBegun, Tells, draft_of}
 use Rattle.cert_checker.specs.declared.due.BegunDossier.{BegunDossier}
 use Rattle.cert_checker.proofs.Steps.{tells_row}
-use Rattle.cert_checker.proofs.PlanRows.{below_from, naturals-pos, job_says, plan_of_more}
+use Rattle.cert_checker.proofs.PlanRows.{below_from, job_says, plan_of_more}
 use Rattle.cert_checker.proofs.plan.job_line.Goals as goal
 
 pub returns-then-task-from : goal.returns-then-task-from

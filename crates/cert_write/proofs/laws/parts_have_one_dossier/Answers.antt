@@ -1,7 +1,7 @@
 use Rattle.std.proofs.Common.{ap, sym, ◌∙◌}
+use Rattle.cert_write.specs.Dossiers.{dossier_is, dossier_with}
 use Rattle.cert_write.proofs.Existing.{some_dossier}
 use Rattle.cert_write.proofs.OneDossier.{one_written}
-use Rattle.cert_write.proofs.Whole.{dossier_is, dossier_with}
 use Rattle.cert_write.proofs.laws.parts_have_one_dossier.Goals as goal
 
 pub returns : goal.returns

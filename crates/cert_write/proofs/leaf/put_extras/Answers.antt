@@ -4,8 +4,10 @@ use Rattle.std.proofs.lemmas.List.FromFn.{length-range_with_len}
 use Rattle.crew_io.specs.Chains.{puts_nothing, puts_same, puts_more, puts_more_front, puts_all}
 use Rattle.crew_terms.specs.Limits.{Limits, has_required, tasks_in}
 use Rattle.crew_terms.specs.Leaf.{Prices}
+use Rattle.crew_terms.specs.Ranges.{numbered}
+use Rattle.line_out.specs.Lines.{of_those}
 use Rattle.cert_write.specs.Leaves.{extra_words}
-use Rattle.cert_write.proofs.Texts.{below_range, numbered, of_those, text}
+use Rattle.cert_write.proofs.Texts.{below_range, text}
 use Rattle.cert_write.proofs.leaf.put_extras.Goals as goal
 
 -- the line of task j, if it has a required pair

@@ -3,9 +3,11 @@ use Rattle.std.specs.List.{filter, range_with_len}
 use Rattle.std.proofs.lemmas.List.FromFn.{length-range_with_len}
 use Rattle.crew_io.specs.Chains.{puts_nothing, puts_same, puts_more, puts_more_front, puts_all}
 use Rattle.crew_terms.specs.Limits.{Limits, tasks_in}
+use Rattle.crew_terms.specs.Ranges.{numbered}
 use Rattle.potentials.specs.Table.{PotentialRow}
+use Rattle.line_out.specs.Lines.{of_those}
 use Rattle.cert_write.specs.Tables.{may_begin, row_line}
-use Rattle.cert_write.proofs.Texts.{below_range, numbered, of_those, text}
+use Rattle.cert_write.proofs.Texts.{below_range, text}
 use Rattle.cert_write.proofs.tables.put_rows.Goals as goal
 
 -- the line of task j, if the team may begin it

@@ -4,8 +4,9 @@ use Rattle.day_terms.specs.Ranges.{IsInRange}
 use Rattle.day_commands.specs.Says.{SaysAt, is_of_text}
 use Rattle.crew_io.specs.Chains.{writes_none, writes_then}
 use Rattle.crew_io.specs.Puts.{TellsWrites}
+use Rattle.crew_io.specs.Results.{err_is_not_ok, on_err}
 use Rattle.day_commands.specs.Taken.{IsTakenSo, IsDay, Wrote, output_of, planning_of}
-use Rattle.day_commands.proofs.Said.{PlansToCome, at_refused, at_front, at_memory, at_taken, at_end, at_stop, nothing_yet, refused_is_no_want, refused_of_text, whole_of_text, whole_is_no_fault, refused_entry_is_no_fault, same_ok, on_err, err_is_not_ok, whole_no_fault}
+use Rattle.day_commands.proofs.Said.{PlansToCome, at_refused, at_front, at_memory, at_taken, at_end, at_stop, nothing_yet, refused_is_no_want, refused_of_text, whole_of_text, whole_is_no_fault, refused_entry_is_no_fault, same_ok, whole_no_fault}
 use Rattle.day_commands.proofs.rounds.over_entries.Goals as goal
 
 pub loop-n-init : goal.loop-n-init

@@ -2,8 +2,10 @@ use Rattle.std.proofs.Common.{None, subst}
 use Rattle.std.specs.Prelude.{IsTrue}
 use Rattle.day_commands.specs.Says.{SaysAt, SaysFirstOf, is_of_text}
 use Rattle.day_commands.specs.Taken.{IsDay, Wrote}
-use Rattle.day_commands.proofs.Said.{on_err, same_ok, refused_not_fine}
+use Rattle.crew_io.specs.Results.{on_err}
+use Rattle.day_commands.proofs.Said.{same_ok}
 use Rattle.day_commands.proofs.rounds.over_text.Goals as goal
+use Rattle.day_commands.specs.Fine.{refused_not_fine}
 
 pub returns-in_err-ended-clause-memory : goal.returns-in_err-ended-clause-memory
 returns-in_err-ended-clause-memory g c =

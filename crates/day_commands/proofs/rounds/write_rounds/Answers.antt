@@ -6,12 +6,13 @@ use Rattle.crew_io.specs.declared.text.Text.{Text}
 use Rattle.crew_io.specs.declared.text.Text.TheVariants as text_is
 use Rattle.crew_io.specs.Chains.{writes_none, writes_then}
 use Rattle.crew_io.specs.Draws.{reads_none, reads_then}
+use Rattle.crew_io.specs.Results.{err_is_not_ok, on_err}
 use Rattle.day_commands.specs.Outputs.{TextsOf}
 use Rattle.day_commands.specs.Rounds.{IsFineDay, SaysFirstRounds, change_stop}
 use Rattle.day_commands.specs.Outputs.{MayHave}
 use Rattle.day_commands.specs.Says.{SaysAt}
 use Rattle.day_commands.specs.Taken.{Wrote}
-use Rattle.day_commands.proofs.Said.{on_err, err_is_not_ok, same_ok, refused_not_whole, refused_no_fault, refused_can_end, of_text_no_fault, of_text_can_end, whole_ended, whole_says, whole_memory, whole_not_fine, none_memory, long_says, long_not_fine, fault_says}
+use Rattle.day_commands.proofs.Said.{same_ok, refused_not_whole, refused_no_fault, refused_can_end, of_text_no_fault, of_text_can_end, whole_ended, whole_says, whole_memory, whole_not_fine, none_memory, long_says, long_not_fine, fault_says}
 use Rattle.day_commands.proofs.rounds.write_rounds.Goals as goal
 
 not_fault : {E : Type 0} (x y : Text) → x ≡ y → (y ≡ text_is.ReadFault → ⊥) → ◌≡◌ {A = Result Text E} (Ok x) (Ok text_is.ReadFault) → ⊥

@@ -1,18 +1,15 @@
 use Rattle.std.proofs.Common.{◌≡◌, Result, Ok, subst, ap}
-use Rattle.std.specs.Prelude.{IsErr}
 use Rattle.crew_terms.specs.Words.{words_of}
 use Rattle.crew_io.specs.Lines.{Advances}
 use Rattle.cert_checker.specs.Checked.{IsJudged}
 use Rattle.crew_io.specs.Draws.{reads_none, reads_then}
+use Rattle.crew_io.specs.Results.{err_is_not_ok}
 use Rattle.dossier_commands.specs.declared.input.Outcome.{Outcome}
 use Rattle.dossier_commands.proofs.LineByLine.{end_has_ended, ends_whole, fault_stops, goes_on, is_due, line_is_no_fault, opens_next, refuses, starts, stays_refused, stop_is_fault, stop_opens, stops}
 use Rattle.dossier_commands.proofs.input.next_dossier.Goals as goal
 
 same_ok : {E : Type 0} {a b : Outcome} → ◌≡◌ {A = Result Outcome E} (Ok a) (Ok b) → a ≡ b
 same_ok e = cc
-
-pub err_is_not_ok : {T E : Type 0} (r : Result T E) (x : T) → IsErr r → r ≡ Ok x → ⊥
-err_is_not_ok r x is e = absurd (let f = subst (λ q. IsErr q) e is in cc)
 
 pub lines-init : goal.lines-init
 lines-init g c = record {

@@ -2,11 +2,12 @@ use Rattle.std.proofs.Common.{◌≡◌, Result, Ok, subst, ap, refl, ◌∙◌}
 use Rattle.std.proofs.lemmas.Result.{IfOk-from_err}
 use Rattle.crew_io.specs.Chains.{writes_none, writes_then, puts_tell}
 use Rattle.crew_io.specs.Draws.{reads_none, reads_then}
+use Rattle.crew_io.specs.Results.{err_is_not_ok, on_err}
 use Rattle.dossier_commands.specs.Input.{IsOutcome, OpensNext}
 use Rattle.dossier_commands.specs.Outputs.{output_of}
 use Rattle.dossier_commands.specs.declared.input.Outcome.{Outcome}
 use Rattle.dossier_commands.specs.declared.input.Outcome.TheVariants as outcome
-use Rattle.dossier_commands.proofs.Said.{opens, begins, says_one_more, says_yes, says_no, says_texts, says_read_fault, front_so_far, front_good, front_no, whole_no, on_err, err_is_not_ok}
+use Rattle.dossier_commands.proofs.Said.{opens, begins, says_one_more, says_yes, says_no, says_texts, says_read_fault, front_so_far, front_good, front_no, whole_no}
 use Rattle.dossier_commands.proofs.read.read_all.Goals as goal
 
 not_fault : {E : Type 0} (x y : Outcome) → x ≡ y → (y ≡ outcome.ReadFault → ⊥) → ◌≡◌ {A = Result Outcome E} (Ok x) (Ok outcome.ReadFault) → ⊥

@@ -2,8 +2,9 @@ use Rattle.std.proofs.Common.{refl}
 use Rattle.std.proofs.lemmas.Result.{IfOk-from_err}
 use Rattle.crew_io.specs.Chains.{writes_none, writes_then}
 use Rattle.crew_io.specs.Draws.{reads_none, reads_then}
+use Rattle.crew_io.specs.Results.{err_is_not_ok, on_err}
 use Rattle.dossier_commands.specs.Outputs.{output_of}
-use Rattle.dossier_commands.proofs.Said.{front_none, texts_none, on_err, err_is_not_ok}
+use Rattle.dossier_commands.proofs.Said.{front_none, texts_none}
 use Rattle.dossier_commands.proofs.read.read_dossiers.Goals as goal
 
 pub returns-in_err-reader : goal.returns-in_err-reader

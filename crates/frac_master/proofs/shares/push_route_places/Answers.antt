@@ -1,6 +1,7 @@
 use Rattle.std.proofs.Common.{◌++◌, ◌+◌, ◌∙◌, ap, sym}
 use Rattle.std.specs.List.{range_with_len}
-use Rattle.frac_master.proofs.Ranges.{grown, range_from}
+use Rattle.crew_terms.specs.Ranges.{range_from}
+use Rattle.frac_master.proofs.Ranges.{grown}
 use Rattle.frac_master.proofs.shares.push_route_places.Goals as goal
 
 pub loop-i-preserved : goal.loop-i-preserved

@@ -4,11 +4,12 @@ use Rattle.std.specs.Prelude.{FitsSigned}
 use Rattle.std.proofs.lemmas.Int.{to_z-of_z}
 use Rattle.crew_terms.specs.Instance.{Instance}
 use Rattle.crew_terms.specs.Limits.{Limits}
+use Rattle.crew_terms.specs.Nodes.{child_instance}
 use Rattle.crew_terms.specs.Tree.{child}
 use Rattle.keyed_steps.specs.States.{DecidesProved}
 use Rattle.label_pricing.specs.Pricing.{HasRoom}
 use Rattle.node_limits.specs.Trail.{Trail}
-use Rattle.handed_prices.proofs.Turning.{child_instance, child_prices, proved_required, taken_back}
+use Rattle.handed_prices.proofs.Turning.{child_prices, proved_required, taken_back}
 use Rattle.handed_prices.proofs.handing.side_bound.Goals as goal
 
 pub proved-proved-requires-clause-prices : goal.proved-proved-requires-clause-prices

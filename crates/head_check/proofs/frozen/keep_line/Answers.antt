@@ -15,9 +15,10 @@ use Rattle.head_check.specs.declared.due.HeadDue.TheVariants.{Keep}
 use Rattle.head_check.specs.declared.due.HeadStep.TheVariants.{No}
 use Rattle.head_check.specs.Head.{reading_of, IsHeadStep, HeadTells, opening_of, read_of}
 use Rattle.head_check.proofs.Steps.{says_step, tells_step}
-use Rattle.head_check.proofs.Listed.{below_from, below_more, naturals-pos}
+use Rattle.head_check.proofs.Listed.{below_from, below_more}
 use Rattle.head_check.proofs.HeadSteps.{if_ok}
 use Rattle.head_check.proofs.frozen.keep_line.Goals as goal
+use Rattle.head_check.specs.NumbersBack.{naturals-pos}
 
 pub returns-in-Err : goal.returns-in-Err
 returns-in-Err c =

@@ -12,10 +12,10 @@ use Rattle.head_check.specs.declared.due.HeadStep.TheVariants.{More}
 use Rattle.head_check.specs.Numbers.{AreBelow, naturals}
 use Rattle.head_check.specs.Head.{IsHead, HeadTells, instance_so_far, rows_read, opening_of}
 use Rattle.head_check.proofs.Steps.{plainly}
-use Rattle.head_check.proofs.Listed.{naturals-pos}
 use Rattle.head_check.proofs.HeadRows.{travel_parts}
 use Rattle.head_check.proofs.HeadSteps.{head_more, minutes_below}
 use Rattle.head_check.proofs.head.add_travel.Goals as goal
+use Rattle.head_check.specs.NumbersBack.{naturals-pos}
 
 -- what is read of the head where so many more rows are to come after the next, and the row that is next
 abbrev IsRead : ℕ → Head → Type 0

@@ -7,9 +7,9 @@ use Rattle.crew_terms.specs.declared.Side.{Side}
 use Rattle.crew_terms.specs.declared.TheConstants.{D}
 use Rattle.node_queue.specs.Waits.{Waits, found}
 use Rattle.search_terms.specs.Proven.{PricesProve}
+use Rattle.search_terms.specs.WayLimits.{tasks_at}
 use Rattle.search_terms.specs.Ways.{limits_at, prices_at}
 use Rattle.search_tree.specs.Numbered.{tree_of, way_of}
-use Rattle.keyed_steps.proofs.Sound.{few_at}
 use Rattle.keyed_steps.proofs.laws.least_bounds.Goals as goal
 
 -- a greater bound proves as much
@@ -44,7 +44,7 @@ returns-clause-some x = λ i left key n b bound p c plan k keyed bounds least w 
             let known = is.known in
             let fits : b ≤ length i.tasks = omega arith in
             let here : PricesProve (limits_at root t (way_of k.nodes r.0)) (prices_at t (way_of k.nodes r.0)) b =
-            (bounds v.0 r.0 v.1 v.2 b (few_at root t (way_of k.nodes r.0) b fits)).1 (more_proves b bound v.1 (least n bound w v.0 r.0 v.1 v.2) is.proves) in
+            (bounds v.0 r.0 v.1 v.2 b (tasks_at root t (way_of k.nodes r.0) b fits)).1 (more_proves b bound v.1 (least n bound w v.0 r.0 v.1 v.2) is.proves) in
             subst (λ (y : List Side). PricesProve (limits_at root t y) (prices_at t y) b) r.2 here);
       };
       greatest = λ l h.
@@ -53,5 +53,5 @@ returns-clause-some x = λ i left key n b bound p c plan k keyed bounds least w 
           let few = h.plan in
           let known = is.known in
           let fits : l ≤ length i.tasks = omega arith in
-          is.greatest l few ((bounds key n bound w l (few_at root t (way_of k.nodes n) l fits)).0 ((x.ways_are_leaves.ensures.each root t l).0 h.leaves (way_of k.nodes n) leads));
+          is.greatest l few ((bounds key n bound w l (tasks_at root t (way_of k.nodes n) l fits)).0 ((x.ways_are_leaves.ensures.each root t l).0 h.leaves (way_of k.nodes n) leads));
     }

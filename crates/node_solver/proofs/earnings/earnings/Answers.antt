@@ -6,8 +6,8 @@ use Rattle.std.proofs.lemmas.List.{get_or_default}
 use Rattle.std.proofs.lemmas.Int.{to_z-of_z}
 use Rattle.crew_terms.specs.Leaf.{reward}
 use Rattle.crew_terms.specs.declared.TheConstants.{MOST_PRICE}
-use Rattle.potentials.specs.Sums.{IsBoundedBy}
-use Rattle.node_solver.proofs.Earning.{bounded_more, earned_more}
+use Rattle.potentials.specs.Sums.{IsBoundedBy, up_to_more}
+use Rattle.node_solver.proofs.Earning.{earned_more}
 use Rattle.node_solver.proofs.earnings.earnings.Goals as goal
 
 pub loop-visit-preserved : goal.loop-visit-preserved
@@ -23,5 +23,5 @@ loop-visit-preserved c =
     let sum : FitsSigned w128 (to_z w128 c.loop-visit.sum-bits +ℤ c.from-sum.result) = search rules in
     simp to_z-of_z record {
       sum = earned_more p c.args.k c.args.visits.now c.loop-visit.visit-index v _ _ _ c.loop-visit-test.true (get_or_default c.args.visits.now c.loop-visit.visit-index v d c.loop-visit-test.true) is c.loop-visit.invariant.sum;
-      range = bounded_more (2 * MOST_PRICE) c.loop-visit.visit-index _ _ c.loop-visit.invariant.range range;
+      range = up_to_more (2 * MOST_PRICE) c.loop-visit.visit-index _ _ c.loop-visit.invariant.range range;
     }

@@ -3,7 +3,7 @@ use Rattle.std.proofs.lemmas.List.Elements.{All-weaker}
 use Rattle.crew_terms.specs.Limits.{tasks_in}
 use Rattle.crew_terms.specs.declared.Visit.{Visit}
 use Rattle.column_arena.specs.Columns.{column_of}
-use Rattle.node_solver.proofs.MeetingLemmas.{tasks_known}
+use Rattle.master_run.specs.Legal.{tasks_known}
 use Rattle.node_solver.proofs.earnings.earns.Goals as goal
 
 pub earnings-requires-clause-tasks : goal.earnings-requires-clause-tasks

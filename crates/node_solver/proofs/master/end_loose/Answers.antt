@@ -5,13 +5,14 @@ use Rattle.std.proofs.lemmas.Int.{to_z-of_z}
 use Rattle.crew_terms.specs.Leaf.{Proves, bound_of, worth_of}
 use Rattle.crew_terms.specs.declared.TheConstants.{D}
 use Rattle.frac_master.specs.Shares.{parts_at}
+use Rattle.master_run.specs.Legal.{legal_are}
 use Rattle.master_run.specs.Shares.{fractional_of}
 use Rattle.master_run.specs.State.{routes_of}
 use Rattle.rounding_laws.specs.declared.TheConstants.{MOST_LOSS}
 use Rattle.search_terms.specs.Earned.{AreWorths as EarnedWorths, BeatsRoutes}
 use Rattle.search_terms.specs.Shares.{IsLoose, choice_value}
 use Rattle.node_solver.specs.Loose.{AreHeld, IsShownLoose}
-use Rattle.node_solver.proofs.MeetingLemmas.{legal_are, met_unbeaten}
+use Rattle.node_solver.proofs.MeetingLemmas.{met_unbeaten}
 use Rattle.branch_choice.specs.Uses.{IsPermittedUse}
 use Rattle.column_arena.specs.Legal.{IsLegalColumn}
 use Rattle.crew_terms.specs.Limits.{tasks_in, teams_in}

@@ -1,7 +1,7 @@
 use Rattle.std.specs.List.{All}
 use Rattle.std.proofs.lemmas.List.Elements.{All-push}
 use Rattle.branch_choice.specs.Uses.{IsPermittedUse}
-use Rattle.node_solver.proofs.Permitted.{IsVisitOf, route_by_visits}
+use Rattle.price_ascent.specs.Visits.{IsVisitOf, route_by_visits}
 use Rattle.node_solver.proofs.uses.add_visits.Goals as goal
 
 pub loop-visit-preserved : goal.loop-visit-preserved

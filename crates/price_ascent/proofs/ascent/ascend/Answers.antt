@@ -4,10 +4,11 @@ use Rattle.std.specs.Prelude.{FitsSigned}
 use Rattle.std.specs.List.{All}
 use Rattle.std.proofs.lemmas.Int.{ints, to_z-of_z}
 use Rattle.crew_terms.specs.Leaf.{AreInRange, IsOnRequired}
+use Rattle.crew_terms.specs.ZeroPrices.{zero_on_required}
 use Rattle.price_ascent.specs.Bound.{ArePricedAt, IsBoundAt}
 use Rattle.price_ascent.specs.Classes.{AreFirsts}
 use Rattle.price_ascent.specs.Found.{IsFound}
-use Rattle.price_ascent.proofs.Bounds.{in_bits, zero_on_required}
+use Rattle.price_ascent.proofs.Bounds.{in_bits}
 use Rattle.price_ascent.proofs.ascent.ascend.Goals as goal
 
 pub loop-round-init : goal.loop-round-init

@@ -2,7 +2,7 @@ use Rattle.std.proofs.Common.{ℕ}
 use Rattle.std.specs.List.{All}
 use Rattle.std.proofs.lemmas.List.Elements.{All-push}
 use Rattle.branch_choice.specs.Uses.{IsPermittedUse}
-use Rattle.price_ascent.proofs.Uses.{IsVisitOf, route_by_visits}
+use Rattle.price_ascent.specs.Visits.{IsVisitOf, route_by_visits}
 use Rattle.price_ascent.proofs.averages.add_visits.Goals as goal
 
 pub loop-visit-preserved : goal.loop-visit-preserved

@@ -13,6 +13,7 @@ use Rattle.keyed_steps.specs.States.{DecidesProved, limits_of, state_in}
 use Rattle.keyed_tree.specs.Keyed.{Before, IsFirst, IsSecond}
 use Rattle.keyed_tree.specs.Numbers.{HasNumber, HaveNumbers}
 use Rattle.node_solver.specs.Plans.{now_after}
+use Rattle.search_core.specs.Counts.{few_unassigned}
 use Rattle.search_core.specs.Searching.{Searching, cause_at, price_at, split_cause, state_of, way_to}
 use Rattle.search_core.specs.Settled.{number_of}
 use Rattle.search_core.specs.Shown.{IsShownCause, numbered}
@@ -31,7 +32,6 @@ use Rattle.search_tree.specs.Numbered.{leaf_below, tree_of, way_of, with_childre
 use Rattle.search_tree.specs.Ways.{turns_of}
 use Rattle.search_core.proofs.Exploring.{after_instance}
 use Rattle.search_core.proofs.StepLemmas.{cause_last, cause_stays, earned_any, handed_known, handed_more, handed_price, handed_shapes, improves, now_is, price_stays, same_shape, way_is}
-use Rattle.search_core.proofs.Keeping.{few_unassigned}
 use Rattle.search_core.proofs.Pricing.{proves_grown}
 use Rattle.search_core.proofs.Showing.{plan_less, same_limits, shown_split}
 use Rattle.search_core.proofs.stepping.splits_are_steps.Goals as goal

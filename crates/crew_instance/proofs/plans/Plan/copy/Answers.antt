@@ -1,6 +1,7 @@
 use Rattle.std.proofs.Common.{◌≡◌, ◌<◌, length, set, Some, Option, ap, arith, sym, ◌∙◌}
 use Rattle.crew_terms.specs.Plan.{Job, job_of}
-use Rattle.crew_instance.proofs.Copies.{copied_none, copied_job, job_again, none_again}
+use Rattle.crew_instance.specs.Begun.{none_begun}
+use Rattle.crew_instance.proofs.Copies.{copied_none, copied_job, job_again}
 use Rattle.crew_instance.proofs.plans.Plan.copy.Goals as goal
 use Rattle.crew_instance.proofs.plans.Plan.copy.Goals.{in-Some+in_ok-assign, in_default}
 
@@ -13,5 +14,5 @@ loop-i-preserved c =
           let is : job_of c.args.self.now c.loop-i.i ≡ job = job_again (job_of c.args.self.now c.loop-i.i) w.in-Some.start w.teams.result.now (sym c.start.ensures ∙ w.in-Some.is) w.teams.ensures in
           w.copy-is ∙ w.in_ok-assign.ensures.ok ∙ ap (λ p. set p c.loop-i.i job) c.loop-i.invariant ∙ copied_job c.args.self.now c.loop-i.i l job is
       | in_default w ↦
-          w.copy-is ∙ c.loop-i.invariant ∙ copied_none c.args.self.now c.loop-i.i l (none_again (job_of c.args.self.now c.loop-i.i) (sym c.start.ensures ∙ w.in_default.is))
+          w.copy-is ∙ c.loop-i.invariant ∙ copied_none c.args.self.now c.loop-i.i l (none_begun (job_of c.args.self.now c.loop-i.i) (sym c.start.ensures ∙ w.in_default.is))
     ]

@@ -9,6 +9,7 @@ use Rattle.dossier_terms.specs.Runs.{AreRuns, values_of}
 use Rattle.dossier_terms.specs.declared.DossierForm.TheVariants.{Two}
 use Rattle.dossier_terms.specs.declared.Reason.TheVariants.{Steps}
 use Rattle.dossier_terms.specs.LeafTable.{after_phi, table_row}
+use Rattle.dossier_terms.specs.RunLengths.{values_length}
 use Rattle.potentials.specs.Table.{phi}
 use Rattle.leaf_check.specs.Keys.{AreCounted, IsNextKey, has_minutes}
 use Rattle.leaf_check.specs.Reader.{HasReadLeaf, HasPotentials, LeafTells, TellsNo, below_next, row_in}
@@ -16,7 +17,6 @@ use Rattle.leaf_check.specs.declared.reader.LeafReader.{LeafReader}
 use Rattle.leaf_check.proofs.Listed.{left_after}
 use Rattle.leaf_check.proofs.Lines.{steps_read, steps_broken, with_row}
 use Rattle.leaf_check.proofs.Minutes.{one_more}
-use Rattle.leaf_check.proofs.RunNumbers.{values_length}
 use Rattle.leaf_check.proofs.Told.{tells_rest}
 use Rattle.leaf_check.proofs.reader.LeafReader.steps_line.Goals as goal
 

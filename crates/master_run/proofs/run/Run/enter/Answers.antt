@@ -4,7 +4,7 @@ use Rattle.crew_terms.specs.Limits.{tasks_in}
 use Rattle.crew_terms.specs.declared.TheConstants.{MOST_TASKS}
 use Rattle.crew_terms.specs.declared.Visit.{Visit}
 use Rattle.route_terms.specs.Routes.{route_of}
-use Rattle.master_run.proofs.Growing.{tasks_known}
+use Rattle.master_run.specs.Legal.{tasks_known}
 use Rattle.master_run.proofs.Over.{at_more, over_more, halts_more, team_stands}
 use Rattle.master_run.proofs.run.Run.enter.Goals as goal
 

@@ -14,7 +14,7 @@ use Rattle.master_run.specs.State.{RunState, routes_of}
 use Rattle.master_run.specs.Along.{IsOver}
 use Rattle.master_run.specs.Kept.{kept}
 use Rattle.master_run.specs.Shares.{fractional_of}
-use Rattle.master_run.proofs.Growing.{legal_are}
+use Rattle.master_run.specs.Legal.{legal_are}
 use Rattle.master_run.proofs.Rounded.{overflow_here}
 use Rattle.master_run.proofs.Solved.{gives_shares, shares_legal, solution_is, solution_positive, solution_rises}
 use Rattle.master_run.proofs.run.Run.solution.Goals as goal

@@ -4,10 +4,10 @@ use Rattle.std.specs.Prelude.{FitsSigned}
 use Rattle.std.proofs.lemmas.Int.{ints, to_z-of_z}
 use Rattle.crew_terms.specs.Leaf.{Proves}
 use Rattle.keyed_steps.specs.States.{IsLeastCount}
+use Rattle.search_core.specs.Counts.{few_unassigned}
 use Rattle.search_core.specs.Kept.{searching}
 use Rattle.search_core.specs.Searching.{Searching, cause_at, price_at, state_of}
 use Rattle.search_terms.specs.Search.{IsBound}
-use Rattle.search_core.proofs.Keeping.{few_unassigned}
 use Rattle.search_core.proofs.searches.Search.bound.Goals as goal
 
 -- less is proved too
