@@ -1,18 +1,14 @@
 -- the lines of a cause: what is kept of it, and the rows of the table for them
-use Rattle.std.proofs.Common.{◌≡◌, ◌≤◌, ◌<◌, ◌+◌, ◌-◌, ◌^◌, ℕ, zero, suc, List, [], ◌∷◌, ◌++◌, length, map, All, ap, subst, sym, refl, ◌∙◌, arith}
+use Rattle.std.proofs.Common.{◌≡◌, ◌≤◌, ◌<◌, ◌^◌, ℕ, List, [], ◌∷◌, ◌++◌, length, map, All, ap, subst, sym, refl, ◌∙◌, arith}
 use Rattle.std.specs.Prelude.{ℤ, pos, Result, Ok, Err, IsErr, slice_index_or}
 use Rattle.std.specs.Fmt.{decimal}
-use Rattle.std.specs.Global.{Box}
 use Rattle.std.specs.Box.{with_value}
 use Rattle.std.proofs.lemmas.List.{map-append, length-map, get_or_default}
 use Rattle.std.proofs.lemmas.List.Elements.{All-nil, All-cons, All-append}
 use Rattle.crew_num.specs.declared.Overflow.{Overflow}
 use Rattle.crew_num.specs.Exact.{IsExact, IsOverflow}
 use Rattle.crew_terms.specs.Words.{Words}
-use Rattle.crew_terms.specs.Limits.{Limits, Route, root_limits, tasks_in, teams_in}
-use Rattle.crew_terms.specs.Plan.{unassigned_count}
-use Rattle.crew_terms.specs.Tree.{CanSplit}
-use Rattle.crew_terms.specs.declared.Choice.{Choice}
+use Rattle.crew_terms.specs.Limits.{Limits, Route, root_limits}
 use Rattle.search_terms.specs.Shares.{Share as ShareOf, IsRouteIn}
 use Rattle.dossier_terms.specs.declared.Reason.TheVariants as reasons
 use Rattle.dossier_terms.specs.Causes.{NoCause, Shares, Part, IsPartOf, IsLooseAt, share_of, column_of, choice_of}
@@ -20,15 +16,14 @@ use Rattle.dossier_terms.specs.CauseTable.{why_row, share_row, spare_row, tasks_
 use Rattle.dossier_terms.specs.Counted.{instance_below}
 use Rattle.dossier_terms.specs.Lines.{why_none_line, loose_line, share_line, spare_line, overflow_line, spent_line}
 use Rattle.dossier_terms.specs.Ranges.{IsNowWord, IsLooseLine, IsSpareLine, IsOverflowLine}
-use Rattle.dossier_terms.specs.Reading.{Reading, Answer, More as Goes, No as Refuses, Above, SplitSite, Parts, limits_below, limits_before, cause_done, parts_due}
+use Rattle.dossier_terms.specs.Reading.{Answer, More as Goes, No as Refuses, Above, SplitSite, limits_below, cause_done, parts_due}
 use Rattle.dossier_terms.specs.Rules.{Holds, Fails, Then, Else, Spelled, On}
 use Rattle.dossier_terms.specs.Apart.{other_why}
 use Rattle.node_limits.specs.Rest.{Rest, IsRestOver, trail_over}
 use Rattle.node_limits.specs.Trail.{Trail}
-use Rattle.share_check.specs.Summed.{HasRoom, IsSumsOf, IsSharesOf, IsLooseChoice}
+use Rattle.share_check.specs.Summed.{HasRoom, IsSharesOf, IsLooseChoice}
 use Rattle.share_check.specs.declared.sums.ShareSums.{ShareSums}
-use Rattle.leaf_check.specs.declared.reader.LeafReader.{LeafReader}
-use Rattle.cert_checker.specs.Due.{Awaits, IsAtNode, IsInLoose, IsReaderFor, MaySplit, draft_of, shares_in, split_site}
+use Rattle.cert_checker.specs.Due.{IsAtNode, IsInLoose, MaySplit, shares_in}
 use Rattle.cert_checker.specs.Rules.{after_fault, after_loose, after_share, after_spare, after_spent}
 use Rattle.cert_checker.specs.declared.due.BegunDossier.{BegunDossier as Held}
 use Rattle.cert_checker.specs.declared.due.LooseDraft.{LooseDraft}

@@ -1,7 +1,9 @@
 -- where a checker stands after it judged a line
 use Rattle.std.proofs.Common.{◌≡◌, ◌+◌, ℕ, refl}
+use Rattle.std.specs.Prelude.{Result, Ok, Err}
 use Rattle.crew_terms.specs.Words.{Words}
 use Rattle.dossier_terms.specs.Dossier.{Dossier}
+use Rattle.dossier_terms.specs.declared.Reason.{Reason}
 use Rattle.dossier_terms.specs.Reading.{Reading, Form, Answer, More as Goes, Whole as Ends, No as Refuses}
 use Rattle.dossier_terms.specs.Table.{Says}
 use Rattle.cert_checker.specs.Due.{Tells}
@@ -12,33 +14,33 @@ use Rattle.cert_checker.specs.declared.checker.Said.{Said}
 use Rattle.cert_checker.specs.declared.checker.State.{State}
 use Rattle.cert_checker.specs.declared.checker.State.TheVariants as states
 use Rattle.cert_checker.specs.declared.due.Step.{Step}
-use Rattle.cert_checker.specs.declared.due.Step.TheVariants.{More, Whole, No}
+use Rattle.cert_checker.specs.declared.due.Step.TheVariants.{More, Whole}
 
 -- the answer of the table, with what it leads to
-pub record IsAnswered (reading : Reading) (words : Words) (number : ℕ) (step : Step) (said : Said) : Type 0 where
+pub record IsAnswered (reading : Reading) (words : Words) (number : ℕ) (step : Result Step Reason) (said : Said) : Type 0 where
   pub answer : Answer
   pub is : Says reading words answer
   pub says : said ≡ said_of number answer
   pub stands : StandsAfter number answer (kept_state number step)
 
 -- what is told of a step is the answer of the table
-pub answered : (reading : Reading) (words : Words) (number : ℕ) (step : Step) (said : Said) → Tells (Says reading words) step → IsSaidOf number step said
+pub answered : (reading : Reading) (words : Words) (number : ℕ) (step : Result Step Reason) (said : Said) → Tells (Says reading words) step → IsSaidOf number step said
     → IsAnswered reading words number step said
-answered reading words number (More next) said tells says = record { answer = Goes tells.0; is = tells.1; says = says; stands = tells.2 }
-answered reading words number (Whole ended) said tells says = record { answer = Ends tells.0; is = tells.1; says = says tells.0 tells.2; stands = tells.2 }
-answered reading words number (No reason) said tells says = record { answer = Refuses reason; is = tells; says = says; stands = refl }
+answered reading words number (Ok (More next)) said tells says = record { answer = Goes tells.0; is = tells.1; says = says; stands = tells.2 }
+answered reading words number (Ok (Whole ended)) said tells says = record { answer = Ends tells.0; is = tells.1; says = says tells.0 tells.2; stands = tells.2 }
+answered reading words number (Err reason) said tells says = record { answer = Refuses reason; is = tells; says = says; stands = refl }
 
 -- what is kept after a step holds
-pub settles : (reading : Reading) (words : Words) (number : ℕ) (step : Step) → IsReached reading → Tells (Says reading words) step
+pub settles : (reading : Reading) (words : Words) (number : ℕ) (step : Result Step Reason) → IsReached reading → Tells (Says reading words) step
     → ((d n : Reading) (ws : Words) → IsReached d → Says d ws (Goes n) → IsReached n)
     → ((d : Reading) (ws : Words) (w : Dossier) → IsReached d → Says d ws (Ends w) → IsTrueYes w)
     → IsSettled (kept_state number step)
-settles reading words number (More next) reached tells goes ends = (tells.0, goes reading tells.0 words reached tells.1, tells.2)
-settles reading words number (Whole ended) reached tells goes ends = (tells.0, tells.2, ends reading words tells.0 reached tells.1)
-settles reading words number (No reason) reached tells goes ends = tt
+settles reading words number (Ok (More next)) reached tells goes ends = (tells.0, goes reading tells.0 words reached tells.1, tells.2)
+settles reading words number (Ok (Whole ended)) reached tells goes ends = (tells.0, tells.2, ends reading words tells.0 reached tells.1)
+settles reading words number (Err reason) reached tells goes ends = tt
 
 -- a step is what the table says
-pub judged : (lines : ℕ) (reading : Reading) (words : Words) (step : Step) (said : Said) → IsReached reading → Tells (Says reading words) step
+pub judged : (lines : ℕ) (reading : Reading) (words : Words) (step : Result Step Reason) (said : Said) → IsReached reading → Tells (Says reading words) step
     → ((d : Reading) (ws : Words) (a b : Answer) → IsReached d → Says d ws a → Says d ws b → b ≡ a)
     → IsSaidOf (lines + 1) step said
     → IsJudged lines reading words said (record { lines = lines + 1; at = kept_state (lines + 1) step })

@@ -1,6 +1,6 @@
 -- the lines of a leaf's numbers and the line `end`: what is kept behind them
 use Rattle.std.proofs.Common.{◌≡◌, List, Bool, true, false, ap, subst, sym, refl, ◌∙◌, eqb, ◌&&◌}
-use Rattle.std.specs.Prelude.{if◌then◌else◌}
+use Rattle.std.specs.Prelude.{if◌then◌else◌, Ok, Err}
 use Rattle.std.specs.Global.{Box}
 use Rattle.std.specs.Box.{with_value}
 use Rattle.std.proofs.lemmas.Bool.{and_parts, and_from, eqb-true, eq-eqb, both_ways}
@@ -17,9 +17,6 @@ use Rattle.crew_terms.specs.declared.TreeCounts.{TreeCounts}
 use Rattle.crew_terms.specs.Counts.{same_counts}
 use Rattle.dossier_terms.specs.Rules.{Holds, Fails}
 use Rattle.dossier_terms.specs.Table.{Finish, Says, end_row}
-use Rattle.cert_format.specs.Lines.{IsEndLine}
-use Rattle.cert_format.specs.declared.kinds.LineKind.{LineKind}
-use Rattle.cert_format.specs.declared.kinds.LineKind.TheVariants as kinds
 use Rattle.node_limits.specs.Trail.{Trail}
 use Rattle.node_limits.specs.Rest.{Rest, IsRestOver, trail_over}
 use Rattle.leaf_check.specs.Reader.{IsGoalAt, IsReady, StandsFor, LeafTells, TellsMore, TellsDone, TellsNo}
@@ -31,23 +28,23 @@ use Rattle.cert_checker.specs.Due.{HasLeafRoom, IsInLeaf, IsAtNode, IsStep, draf
 use Rattle.cert_checker.specs.declared.due.BegunDossier.{BegunDossier as Held}
 use Rattle.cert_checker.specs.declared.due.TreeDraft.{TreeDraft}
 use Rattle.cert_checker.specs.declared.due.Due.TheVariants.{End as EndLine}
-use Rattle.cert_checker.specs.declared.due.Step.TheVariants.{Whole, No}
+use Rattle.cert_checker.specs.declared.due.Step.TheVariants.{Whole}
 use Rattle.cert_checker.proofs.NodeRows.{at_node, limits_at, moved, written_back}
 
 -- ---- what the reader of a leaf tells
 
 module _ (a : LeafSite) (Rules : Answer → Type 0) (new : LeafReader) where
-  pub told_more : LeafTells a Rules steps.More new → (next : Reading) × Rules (Goes next) × StandsFor a new next
+  pub told_more : LeafTells a Rules (Ok steps.More) new → (next : Reading) × Rules (Goes next) × StandsFor a new next
   told_more (TellsMore next says stands is) = (next, says, stands)
   told_more (TellsDone leaf says is) = absurd (cc)
   told_more (TellsNo reason says is) = absurd (cc)
 
-  pub told_done : LeafTells a Rules steps.Done new → (leaf : Leaf) × Rules (Goes (leaf_done a leaf))
+  pub told_done : LeafTells a Rules (Ok steps.Done) new → (leaf : Leaf) × Rules (Goes (leaf_done a leaf))
   told_done (TellsMore next says stands is) = absurd (cc)
   told_done (TellsDone leaf says is) = (leaf, says)
   told_done (TellsNo reason says is) = absurd (cc)
 
-  pub told_no : (reason : Reason) → LeafTells a Rules (steps.No reason) new → Rules (Refuses reason)
+  pub told_no : (reason : Reason) → LeafTells a Rules (Err reason) new → Rules (Refuses reason)
   told_no reason (TellsMore next says stands is) = absurd (cc)
   told_no reason (TellsDone leaf says is) = absurd (cc)
   told_no reason (TellsNo other says is) = let same : reason ≡ other = cc in subst (λ r. Rules (Refuses r)) (sym same) says
@@ -68,17 +65,18 @@ pub rested_back : (tree held : TreeDraft) (draft : Held) (rest : Rest) → held 
     → ◌≡◌ {A = TreeDraft} (record { draft = with_value held.draft (record draft { limits = rest }); claimed = held.claimed; walk = held.walk; unshown = held.unshown; sums = held.sums }) (rested tree rest)
 rested_back tree held draft rest e f = written_back tree held draft rest held.walk held.unshown e f ∙ ap (λ (t : TreeDraft). moved tree rest t.walk t.unshown) e
 
+-- the goal is that of the place
+pub goal_at : (tree : TreeDraft) (t : Trail) → t ≡ trail_over tree.draft.value.base.instance tree.draft.value.limits
+    → (is_closed : Bool) (goal : Goal) (fs : List Above) → IsAtNode tree fs → goal.form ≡ tree.draft.value.base.form → goal.bound ≡ tree.draft.value.bound
+    → goal.unassigned ≡ unassigned_count tree.draft.value.plan → goal.is_closed ≡ is_closed → IsGoalAt (site_of tree fs is_closed) t.limits goal
+goal_at tree t woke is_closed goal fs node form bound count kind = record { limits = sym (limits_at tree t fs woke node); form = form; bound = bound; unassigned = count; is_closed = kind }
+
 module _ (tree : TreeDraft) (t : Trail) (rest : Rest) (woke : t ≡ trail_over tree.draft.value.base.instance tree.draft.value.limits)
     (back : trail_over t.limits.instance rest ≡ t) (over : IsRestOver t.limits.instance rest) where
   -- the walk stands where it stood
   pub stays : (fs : List Above) → IsAtNode tree fs → IsAtNode (rested tree rest) fs
   stays fs node = at_node tree t t tree.walk rest woke refl back over refl refl tree.unshown fs fs node
       (subst (λ x. IsAt (root_limits tree.draft.value.base.instance) x tree.walk fs) (sym woke) node.at) node.unshown
-
-  -- the goal is that of the place
-  pub goal_at : (is_closed : Bool) (goal : Goal) (fs : List Above) → IsAtNode tree fs → goal.form ≡ tree.draft.value.base.form → goal.bound ≡ tree.draft.value.bound → goal.unassigned ≡ unassigned_count tree.draft.value.plan → goal.is_closed ≡ is_closed
-      → IsGoalAt (site_of tree fs is_closed) t.limits goal
-  goal_at is_closed goal fs node form bound count kind = record { limits = sym (limits_at tree t fs woke node); form = form; bound = bound; unassigned = count; is_closed = kind }
 
   -- one more line of the leaf is due
   pub in_leaf : (new : TreeDraft) → new ≡ rested tree rest → (is_closed : Bool) (reader : LeafReader) (fs : List Above) (next : Reading) → IsAtNode tree fs → HasLeafRoom tree is_closed
@@ -91,10 +89,6 @@ module _ (tree : TreeDraft) (t : Trail) (rest : Rest) (woke : t ≡ trail_over t
   })
 
 -- ---- the line `end`
-
-pub end_is : (ws : Words) (kind : LineKind) → IsEndLine ws kind → ws ≡ end_line
-end_is ws kinds.End h = h
-end_is ws _ h = absurd h
 
 -- the test that two trees have the same numbers
 abbrev same_numbers : TreeCounts → TreeCounts → Bool
@@ -125,7 +119,7 @@ compared seen held tree same answer read test is = ap (λ (t : TreeDraft). same_
 
 -- the line is read, and the numbers are those that were claimed
 pub ends_whole : (tree : Box TreeDraft) (seen : TreeCounts) (ws : Words) → ws ≡ end_line → same_numbers seen tree.value.claimed ≡ true
-    → (held : TreeDraft) → held ≡ tree.value → IsStep (EndLine tree seen) ws (Whole (record { draft = held.draft; counts = seen; unshown = held.unshown }))
+    → (held : TreeDraft) → held ≡ tree.value → IsStep (EndLine tree seen) ws (Ok (Whole (record { draft = held.draft; counts = seen; unshown = held.unshown })))
 ends_whole tree seen ws is same held read = λ reading awaited.
     let b = draft_of tree.value.draft.value in
     let claimed = tree.value.claimed in
@@ -135,7 +129,7 @@ ends_whole tree seen ws is same held read = λ reading awaited.
     (d, subst (λ r. Says r ws (Ends d)) (sym awaited.3) row, record { tree = t; is = ap (λ (x : TreeDraft). whole (draft_of x.draft.value) t) (sym read); counts = awaited.1; unshown = ap (λ (x : TreeDraft). x.unshown) read ∙ awaited.2 })
 
 pub ends_miscounted : (tree : Box TreeDraft) (seen : TreeCounts) (ws : Words) → ws ≡ end_line → same_numbers seen tree.value.claimed ≡ false
-    → IsStep (EndLine tree seen) ws (No reasons.Count)
+    → IsStep (EndLine tree seen) ws (Err reasons.Count)
 ends_miscounted tree seen ws is differ = λ reading awaited.
     let claimed = tree.value.claimed in
     let t = awaited.0 in

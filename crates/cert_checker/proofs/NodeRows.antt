@@ -1,11 +1,12 @@
 -- where a walk stands behind a line of a node, and the rows of the table for these lines
 use Rattle.std.proofs.Common.{◌≡◌, ◌≤◌, ◌<◌, ◌+◌, ℕ, List, [], ◌∷◌, length, Bool, true, false, ap, subst, sym, refl, ◌∙◌, arith}
-use Rattle.std.specs.Prelude.{if◌then◌else◌, codes}
+use Rattle.std.specs.Prelude.{if◌then◌else◌, codes, Result}
 use Rattle.std.specs.Global.{Box}
 use Rattle.std.specs.Box.{with_value}
 use Rattle.std.proofs.lemmas.List.{length-map}
 use Rattle.crew_terms.specs.Words.{Words}
 use Rattle.crew_terms.specs.Limits.{Limits, root_limits}
+use Rattle.dossier_terms.specs.declared.Reason.{Reason}
 use Rattle.dossier_terms.specs.declared.Reason.TheVariants as reasons
 use Rattle.dossier_terms.specs.Causes.{Cause, unshown_in}
 use Rattle.dossier_terms.specs.Counted.{unshown_fits, unshown_le}
@@ -19,17 +20,12 @@ use Rattle.crew_terms.specs.declared.Choice.{Choice}
 use Rattle.crew_terms.specs.declared.Choice.TheVariants as choices
 use Rattle.crew_terms.specs.declared.TheConstants.{LAST_MINUTE}
 use Rattle.dossier_terms.specs.Rules.{Holds, Fails, Spelled, Then, Else, On, Begins}
-use Rattle.dossier_terms.specs.Ranges.{IsCounts}
 use Rattle.dossier_terms.specs.Table.{Says}
 use Rattle.dossier_terms.specs.NodeTable.{node_row, after_bare, after_leaf, HasSplitRoom, after_split, split_fault}
 use Rattle.dossier_terms.specs.Apart.{not_both, pair_not_window}
 use Rattle.node_limits.specs.Trail.{Trail}
 use Rattle.node_limits.specs.Rest.{Rest, IsRestOver, trail_over}
 use Rattle.tree_walk.specs.Way.{Walked, IsAt, IsLeaf, LeavesLeaf, Enters, branch_of}
-use Rattle.cert_format.specs.Expected.{expect_of}
-use Rattle.cert_format.specs.Lines.{IsFaultOf}
-use Rattle.cert_format.specs.declared.kinds.Expect.TheVariants as expected
-use Rattle.cert_format.specs.declared.kinds.LineFault.{LineFault}
 use Rattle.leaf_check.specs.declared.reader.LeafReader.{LeafReader}
 use Rattle.cert_checker.specs.Due.{Awaits, HasLeafRoom, HasSplitLeft, IsAtNode, IsReaderFor, IsStep, Tells, draft_of, unshown_above}
 use Rattle.cert_checker.specs.declared.due.BegunDossier.{BegunDossier as Held}
@@ -254,18 +250,12 @@ closed_says b c fs ws said is rest = leaf_says b c fs ws said _ is (λ w p. Else
 -- ---- the step of a line of a node
 
 -- a node is due, and the step is what its row says
-pub node_step : (tree : Box TreeDraft) (reader : Box LeafReader) (ws : Words) (step : Step)
+pub node_step : (tree : Box TreeDraft) (reader : Box LeafReader) (ws : Words) (step : Result Step Reason)
     → ((fs : List Above) → IsAtNode tree.value fs → Tells (node_row (draft_of tree.value.draft.value) tree.value.claimed fs ws) step) → IsStep (NodeDue tree reader) ws step
 node_step tree reader ws step f = λ reading awaited. subst (λ r. Tells (Says r ws) step) (sym awaited.3) (f awaited.0 awaited.1)
 
 -- what some rules tell behind the words of a line, its row tells
-pub node_rest : (tree : Box TreeDraft) (reader : Box LeafReader) (ws : Words) (step : Step) (Rules : List Above → Answer → Type 0)
+pub node_rest : (tree : Box TreeDraft) (reader : Box LeafReader) (ws : Words) (step : Result Step Reason) (Rules : List Above → Answer → Type 0)
     → ((fs : List Above) (said : Answer) → Rules fs said → node_row (draft_of tree.value.draft.value) tree.value.claimed fs ws said)
     → ((fs : List Above) → IsAtNode tree.value fs → Tells (Rules fs) step) → IsStep (NodeDue tree reader) ws step
 node_rest tree reader ws step Rules row told = node_step tree reader ws step (λ fs node. tells_row (Rules fs) (node_row (draft_of tree.value.draft.value) tree.value.claimed fs ws) step (row fs) (told fs node))
-
--- a fault of a line of these counts is one where the node is due
-pub node_fault : (b : Begun) (c : TreeCounts) (fs : List Above) (teams tasks : ℕ) (ws : Words) (fault : LineFault) → teams ≡ length b.instance.teams → tasks ≡ length b.instance.tasks
-    → IsFaultOf (expected.Node teams tasks) ws fault → IsFaultOf (expect_of (Nodes b c fs)) ws fault
-node_fault b c fs teams tasks ws fault m n h =
-    subst (λ k. IsFaultOf (expected.Node k (length b.instance.tasks)) ws fault) m (subst (λ k. IsFaultOf (expected.Node teams k) ws fault) n h)

@@ -1,6 +1,6 @@
 -- the rows of the table for the lines of a plan
 use Rattle.std.proofs.Common.{◌≡◌, ◌≢◌, ◌≤◌, ◌<◌, ◌-◌, ℕ, zero, suc, List, [], ◌∷◌, length, map, subst, sym, refl, ◌∙◌, arith, ◌⊎◌, inl, inr, None, Some, get_or-set_same, get_or-set_other}
-use Rattle.std.specs.Prelude.{pos, Contains, slice_set}
+use Rattle.std.specs.Prelude.{pos, Contains, slice_set, Ok, Err}
 use Rattle.std.specs.Global.{Box}
 use Rattle.std.specs.List.{AllByRecursion}
 use Rattle.std.proofs.lemmas.Bool.{cases_eq}
@@ -21,7 +21,7 @@ use Rattle.head_check.specs.Numbers.{AreBelow}
 use Rattle.cert_checker.specs.Due.{IsBegun, Tells, draft_of}
 use Rattle.cert_checker.specs.declared.due.BegunDossier.{BegunDossier as Held}
 use Rattle.cert_checker.specs.declared.due.Due.TheVariants.{Job as JobDue, Tree as TreeDue}
-use Rattle.cert_checker.specs.declared.due.Step.TheVariants.{More, No}
+use Rattle.cert_checker.specs.declared.due.Step.TheVariants.{More}
 
 -- ---- the line `plan`
 
@@ -68,16 +68,16 @@ pub job_says : (b : Begun) (k from : ℕ) (ws : Words) (p : ℕ × Job) (said : 
     → Must (from ≤ p.0) reasons.Shape (after_job (record b { plan = slice_set b.plan p.0 (Some p.1) }) k (suc p.0)) said → job_row b k from ws said
 job_says b k from ws p said fits is rest = Holds (_, is, omega arith) (Spelled p fits is rest)
 
-pub job_goes_on : (b : Box Held) (more from : ℕ) → 0 < more → IsBegun b.value → Tells (after_job (draft_of b.value) more from) (More (JobDue b (more - 1) from))
+pub job_goes_on : (b : Box Held) (more from : ℕ) → 0 < more → IsBegun b.value → Tells (after_job (draft_of b.value) more from) (Ok (More (JobDue b (more - 1) from)))
 job_goes_on b zero from l h = absurd (omega arith)
 job_goes_on b (suc more) from l h = let e : suc more - 1 ≡ more = omega arith in
-    subst (λ n. Tells (after_job (draft_of b.value) (suc more) from) (More (JobDue b n from))) (sym e) (Jobs (draft_of b.value) more from, On refl, (h, refl))
+    subst (λ n. Tells (after_job (draft_of b.value) (suc more) from) (Ok (More (JobDue b n from)))) (sym e) (Jobs (draft_of b.value) more from, On refl, (h, refl))
 
-pub jobs_judged : (b : Box Held) (more from : ℕ) → more ≡ 0 → IsBegun b.value → IsLegal b.value.base.instance b.value.plan → Tells (after_job (draft_of b.value) more from) (More (TreeDue b))
-jobs_judged b more from none begun legal = subst (λ n. Tells (after_job (draft_of b.value) n from) (More (TreeDue b))) (sym none)
+pub jobs_judged : (b : Box Held) (more from : ℕ) → more ≡ 0 → IsBegun b.value → IsLegal b.value.base.instance b.value.plan → Tells (after_job (draft_of b.value) more from) (Ok (More (TreeDue b)))
+jobs_judged b more from none begun legal = subst (λ n. Tells (after_job (draft_of b.value) n from) (Ok (More (TreeDue b)))) (sym none)
     (Trees (draft_of b.value), HoldsBy legal (On refl), (begun.root, refl))
 
 pub jobs_faulty : (b : Box Held) (more from : ℕ) (v : PlanVerdict) → more ≡ 0 → IsVerdict b.value.base.instance b.value.plan v → (IsLegal b.value.base.instance b.value.plan → ⊥)
-    → Tells (after_job (draft_of b.value) more from) (No (reasons.Plan v))
-jobs_faulty b more from v none is broken = subst (λ n. Tells (after_job (draft_of b.value) n from) (No (reasons.Plan v))) (sym none)
+    → Tells (after_job (draft_of b.value) more from) (Err (reasons.Plan v))
+jobs_faulty b more from v none is broken = subst (λ n. Tells (after_job (draft_of b.value) n from) (Err (reasons.Plan v))) (sym none)
     (FailsBy (reasons.Plan v) (v, is, refl) broken refl)

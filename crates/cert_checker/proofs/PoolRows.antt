@@ -1,6 +1,6 @@
 -- the rows of the table for the lines of a pool
 use Rattle.std.proofs.Common.{◌≡◌, ◌≢◌, ◌≤◌, ◌<◌, ◌++◌, ◌^◌, ℕ, List, [], ◌∷◌, length, map, ap, subst, sym, refl, ◌∙◌, arith, w64, to_z, of_z, None, Some}
-use Rattle.std.specs.Prelude.{ℤ, pos, codes, All}
+use Rattle.std.specs.Prelude.{ℤ, pos, codes, All, Result, Ok, Err}
 use Rattle.std.specs.List.{AllByRecursion, flat_map}
 use Rattle.std.proofs.lemmas.List.{length-replicate}
 use Rattle.std.proofs.lemmas.List.Elements.{All-contains}
@@ -14,6 +14,7 @@ use Rattle.crew_terms.specs.declared.TheConstants.{LAST_MINUTE, MOST_TASKS}
 use Rattle.crew_terms.specs.declared.Visit.{Visit}
 use Rattle.crew_terms.specs.EmptyPlan.{job_none}
 use Rattle.dossier_terms.specs.declared.DossierForm.{DossierForm}
+use Rattle.dossier_terms.specs.declared.Reason.{Reason}
 use Rattle.dossier_terms.specs.declared.Reason.TheVariants as reasons
 use Rattle.dossier_terms.specs.Lines.{pool_line, route_line}
 use Rattle.dossier_terms.specs.Reading.{More as Goes, No as Refuses, routes_due, Begun}
@@ -32,7 +33,7 @@ use Rattle.cert_checker.specs.Due.{IsRoot, Tells, draft_of}
 use Rattle.cert_checker.specs.Rules.{TellsRoute}
 use Rattle.cert_checker.specs.declared.due.BegunDossier.{BegunDossier as Held}
 use Rattle.cert_checker.specs.declared.due.Step.{Step}
-use Rattle.cert_checker.specs.declared.due.Step.TheVariants.{More, Whole, No}
+use Rattle.cert_checker.specs.declared.due.Step.TheVariants.{More, Whole}
 
 -- ---- the limits of the root
 
@@ -99,7 +100,7 @@ pub route_numbers : (m n : ℕ) (r : Route) → n ≤ MOST_TASKS → IsRouteLine
 route_numbers m n r few h = record { spelled = refl; tasks = small_tasks n r.visits few h.tasks; starts = small_starts r.visits h.starts }
 
 -- the row of a route is what the pool says of it
-pub route_judged : (b : Begun) (more : ℕ) (ws : Words) (r : Route) (new : List Route) (verdict : PoolVerdict) (after : Held) (step : Step)
+pub route_judged : (b : Begun) (more : ℕ) (ws : Words) (r : Route) (new : List Route) (verdict : PoolVerdict) (after : Held) (step : Result Step Reason)
     → IsRouteLine (length b.instance.teams) (length b.instance.tasks) r → ws ≡ route_line r → IsPoolVerdict (root_limits b.instance) b.pool r verdict → pool_after b.pool r new verdict
     → draft_of after ≡ record b { pool = new } → TellsRoute after more verdict step → Tells (route_row b more ws) step
 route_judged b more ws r new verdict after step fits is says pool e told = at verdict says pool step told
@@ -107,16 +108,16 @@ route_judged b more ws r new verdict after step fits is says pool e told = at ve
     shape : Begins (codes "route") ws × IsPairs ws
     shape = ((_, is), subst IsPairs (sym is) (route_pairs r fits.some))
 
-    at : (v : PoolVerdict) → IsPoolVerdict (root_limits b.instance) b.pool r v → pool_after b.pool r new v → (s : Step) → TellsRoute after more v s → Tells (route_row b more ws) s
-    at Added h p (More due) t =
+    at : (v : PoolVerdict) → IsPoolVerdict (root_limits b.instance) b.pool r v → pool_after b.pool r new v → (s : Result Step Reason) → TellsRoute after more v s → Tells (route_row b more ws) s
+    at Added h p (Ok (More due)) t =
         let next : routes_due (draft_of after) more ≡ routes_due (record b { pool = b.pool ++ r ∷ [] }) more =
         ap (λ d. routes_due d more) (e ∙ ap (λ (x : List Route). record b { pool = x }) p) in
         (routes_due (draft_of after) more, Holds shape (Spelled r fits is (Holds h.0 (Holds h.1 (On (ap Goes next))))), t)
-    at Added h p (Whole ended) t = absurd t
-    at Added h p (No reason) t = absurd t
-    at NotRoute h p (No reason) t = Holds shape (Spelled r fits is (Fails h (ap Refuses t)))
-    at NotRoute h p (More due) t = absurd t
-    at NotRoute h p (Whole ended) t = absurd t
-    at Repeated h p (No reason) t = Holds shape (Spelled r fits is (Holds h.0 (Fails (λ (new_one : All (λ (o : Route). o ≢ r) b.pool). All-contains (λ (o : Route). o ≢ r) b.pool r new_one h.1 refl) (ap Refuses t))))
-    at Repeated h p (More due) t = absurd t
-    at Repeated h p (Whole ended) t = absurd t
+    at Added h p (Ok (Whole ended)) t = absurd t
+    at Added h p (Err reason) t = absurd t
+    at NotRoute h p (Err reason) t = Holds shape (Spelled r fits is (Fails h (ap Refuses t)))
+    at NotRoute h p (Ok (More due)) t = absurd t
+    at NotRoute h p (Ok (Whole ended)) t = absurd t
+    at Repeated h p (Err reason) t = Holds shape (Spelled r fits is (Holds h.0 (Fails (λ (new_one : All (λ (o : Route). o ≢ r) b.pool). All-contains (λ (o : Route). o ≢ r) b.pool r new_one h.1 refl) (ap Refuses t))))
+    at Repeated h p (Ok (More due)) t = absurd t
+    at Repeated h p (Ok (Whole ended)) t = absurd t

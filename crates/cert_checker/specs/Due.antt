@@ -1,5 +1,5 @@
 -- what the checker keeps stands for what has been read of a dossier
-use Rattle.std.specs.Prelude.{◌≡◌, ◌≤◌, ◌<◌, ◌+◌, ◌^◌, ℕ, List, [], ◌∷◌, Bool, length, map, All}
+use Rattle.std.specs.Prelude.{◌≡◌, ◌≤◌, ◌<◌, ◌+◌, ◌^◌, ℕ, List, [], ◌∷◌, Bool, length, map, All, Result, Ok, Err}
 use Rattle.crew_terms.specs.Words.{Words}
 use Rattle.crew_terms.specs.Instance.{Instance}
 use Rattle.crew_terms.specs.Limits.{Limits as NodeLimits, Route as TeamRoute, root_limits}
@@ -28,7 +28,10 @@ use Rattle.cert_checker.specs.declared.due.LooseDraft.{LooseDraft}
 use Rattle.cert_checker.specs.declared.due.Due.{Due}
 use Rattle.cert_checker.specs.declared.due.Due.TheVariants.{Head, Pool, Route, Plan, Job, Tree, Node, Why, Share, Spare, Leaf, End}
 use Rattle.cert_checker.specs.declared.due.Step.{Step}
-use Rattle.cert_checker.specs.declared.due.Step.TheVariants.{More, Whole, No}
+use Rattle.cert_checker.specs.declared.due.Step.TheVariants.{More, Whole}
+use Rattle.cert_format.specs.declared.refusals.Refusal.{Refusal}
+use Rattle.cert_format.specs.declared.refusals.Refusal.TheVariants.{No, OutOfMemory}
+use Rattle.dossier_terms.specs.declared.Reason.{Reason}
 
 abbrev pub draft_of : BegunDossier → Read
 draft_of b = record { form = b.base.form; instance = b.base.instance; budget = b.base.nodes; kept = b.kept; pool = b.pool; plan = b.plan; bound = b.bound }
@@ -162,12 +165,22 @@ pub record IsEndOf (ended : EndedDossier) (d : Dossier) : Type 0 where
   pub counts : ended.counts ≡ counts_of tree
   pub unshown : ended.unshown ≡ unshown tree
 
--- the step is what these rules say, and what is kept stands for what they lead to
-abbrev pub Tells : (Answer → Type 0) → Step → Type 0
-Tells Rules (More due) = (next : Reading) × Rules (Goes next) × Awaits due next
-Tells Rules (Whole ended) = (d : Dossier) × Rules (Ends d) × IsEndOf ended d
-Tells Rules (No reason) = Rules (Refuses reason)
+-- the step, or the reason, is what these rules say, and what is kept stands for what they lead to
+abbrev pub Tells : (Answer → Type 0) → Result Step Reason → Type 0
+Tells Rules (Ok (More due)) = (next : Reading) × Rules (Goes next) × Awaits due next
+Tells Rules (Ok (Whole ended)) = (d : Dossier) × Rules (Ends d) × IsEndOf ended d
+Tells Rules (Err reason) = Rules (Refuses reason)
 
--- the step is what the table says of the line, in each of its states that what is kept stands for
-abbrev pub IsStep : Due → Words → Step → Type 0
+-- the same where memory may be wanting, for want of which nothing is said
+abbrev pub TellsWithRoom : (Answer → Type 0) → Result Step Refusal → Type 0
+TellsWithRoom Rules (Ok step) = Tells Rules (Ok step)
+TellsWithRoom Rules (Err (No reason)) = Rules (Refuses reason)
+TellsWithRoom Rules (Err OutOfMemory) = Unit {0}
+
+-- it is what the table says of the line, in each of its states that what is kept stands for
+abbrev pub IsStep : Due → Words → Result Step Reason → Type 0
 IsStep due words step = (reading : Reading) → Awaits due reading → Tells (Says reading words) step
+
+-- the same where memory may be wanting
+abbrev pub IsStepWithRoom : Due → Words → Result Step Refusal → Type 0
+IsStepWithRoom due words step = (reading : Reading) → Awaits due reading → TellsWithRoom (Says reading words) step

@@ -1,5 +1,5 @@
 -- what a step and a test of a line tell
-use Rattle.std.specs.Prelude.{◌≡◌, ◌≤◌, ◌++◌, ℕ, suc, List, [], ◌∷◌, Option, None, Some}
+use Rattle.std.specs.Prelude.{◌≡◌, ◌≤◌, ◌++◌, ℕ, suc, List, [], ◌∷◌, Result, Ok, Err}
 use Rattle.crew_num.specs.declared.Overflow.{Overflow}
 use Rattle.crew_num.specs.Exact.{IsOverflow}
 use Rattle.search_terms.specs.Shares.{IsRouteIn}
@@ -16,19 +16,19 @@ use Rattle.route_pool.specs.declared.pool.PoolVerdict.TheVariants.{Added, NotRou
 use Rattle.cert_checker.specs.Due.{Awaits, draft_of}
 use Rattle.cert_checker.specs.declared.due.BegunDossier.{BegunDossier as Held}
 use Rattle.cert_checker.specs.declared.due.Step.{Step}
-use Rattle.cert_checker.specs.declared.due.Step.TheVariants.{More, No}
+use Rattle.cert_checker.specs.declared.due.Step.TheVariants.{More}
 
 -- the step behind a route, of which the pool says this
-abbrev pub TellsRoute : Held → ℕ → PoolVerdict → Step → Type 0
-TellsRoute b more Added (More due) = Awaits due (routes_due (draft_of b) more)
-TellsRoute b more NotRoute (No reason) = reason ≡ Pool
-TellsRoute b more Repeated (No reason) = reason ≡ Pool
+abbrev pub TellsRoute : Held → ℕ → PoolVerdict → Result Step Reason → Type 0
+TellsRoute b more Added (Ok (More due)) = Awaits due (routes_due (draft_of b) more)
+TellsRoute b more NotRoute (Err reason) = reason ≡ Pool
+TellsRoute b more Repeated (Err reason) = reason ≡ Pool
 TellsRoute b more _ _ = ⊥
 
--- the first rule that the numbers of a tree break; none where they break none
-abbrev pub IsTreeFault : Begun → TreeCounts → Option Reason → Type 0
-IsTreeFault b c (Some reason) = after_counts b c (Refuses reason)
-IsTreeFault b c None = (s : Answer) → Goes (Nodes b c []) s → after_counts b c s
+-- the numbers of a tree break no rule, or the first that they break is told
+abbrev pub TellsCounts : Begun → TreeCounts → Result (Unit {0}) Reason → Type 0
+TellsCounts b c (Ok fit) = (s : Answer) → Goes (Nodes b c []) s → after_counts b c s
+TellsCounts b c (Err reason) = after_counts b c (Refuses reason)
 
 -- the rules behind the numbers of each line of a cause
 

@@ -12,7 +12,9 @@ ghost use Rattle.cert_checker.specs.Rules.{after_fault, after_loose, after_share
 
 use crate::due::{Due, LooseDraft, Step, TreeDraft};
 use crate::node::first_child;
-use cert_format::{Expect, LineKind, WideNumbers, fault_is_refused, read_line};
+use cert_format::{
+    ShareLine, WhyLine, WideNumbers, fault_is_refused, read_share, read_spare, read_why,
+};
 use crew_instance::unassigned;
 use crew_num::{Op, Overflow, add, mul, sub};
 use crew_terms::Choice;
@@ -68,7 +70,8 @@ fn due_shares(
 ) -> Due
     requires { IsReaderFor tree.value.draft.value.base.instance reader.value }
     ensures { (fs : List Above) (read : Shares) → IsInLoose tree.value loose read fs
-        → Awaits result (parts_due (split_site tree.value fs loose.choice) loose.now read more from) }
+        → Awaits result
+        (parts_due (split_site tree.value fs loose.choice) loose.now read more from) }
 {
     if more > 0 {
         Due::Share {
@@ -93,19 +96,21 @@ fn begin_loose(
     reader: Box<LeafReader>,
     loose: LooseDraft,
     count: u64,
-) -> Step
+) -> Result<Step, Reason>
     requires reader { IsReaderFor tree.value.draft.value.base.instance reader.value }
     requires now { IsNowWord (length tree.value.draft.value.base.instance.tasks) loose.now }
     requires some { 1 ≤ loose.whole }
     requires few { loose.whole < 2 ^ 127 }
-    ensures { (fs : List Above) → MaySplit tree.value loose.choice fs → Tells (after_loose (split_site tree.value fs loose.choice) loose.now loose.whole count) result }
+    ensures { (fs : List Above) → MaySplit tree.value loose.choice fs
+        → Tells (after_loose (split_site tree.value fs loose.choice) loose.now loose.whole count)
+        result }
 {
     if loose.now < unassigned(&tree.draft.plan) {
-        return Step::No(Reason::Cause);
+        return Err(Reason::Cause);
     }
     let held = &mut *tree;
     held.sums.begin();
-    Step::More(due_shares(tree, reader, loose, count, 0))
+    Ok(Step::More(due_shares(tree, reader, loose, count, 0)))
 }
 
 /// What is said behind the numbers of a line `why overflow`.
@@ -116,18 +121,19 @@ fn fault_step(
     choice: Choice,
     now: u32,
     fault: Overflow,
-) -> Step
+) -> Result<Step, Reason>
     requires split { (fs : List Above) × MaySplit tree.value choice fs }
     requires reader { IsReaderFor tree.value.draft.value.base.instance reader.value }
-    ensures { (fs : List Above) → IsAtNode tree.value fs → Tells (after_fault (split_site tree.value fs choice) now fault) result }
+    ensures { (fs : List Above) → IsAtNode tree.value fs
+        → Tells (after_fault (split_site tree.value fs choice) now fault) result }
 {
     if now < unassigned(&tree.draft.plan) {
-        return Step::No(Reason::Cause);
+        return Err(Reason::Cause);
     }
     if !overflows(fault) {
-        return Step::No(Reason::Cause);
+        return Err(Reason::Cause);
     }
-    Step::More(first_child(alloc, tree, reader, choice, false))
+    Ok(Step::More(first_child(alloc, tree, reader, choice, false)))
 }
 
 /// What is said behind the number of a line `why spent`.
@@ -137,15 +143,16 @@ fn spent_step(
     reader: Box<LeafReader>,
     choice: Choice,
     now: u32,
-) -> Step
+) -> Result<Step, Reason>
     requires split { (fs : List Above) × MaySplit tree.value choice fs }
     requires reader { IsReaderFor tree.value.draft.value.base.instance reader.value }
-    ensures { (fs : List Above) → IsAtNode tree.value fs → Tells (after_spent (split_site tree.value fs choice) now) result }
+    ensures { (fs : List Above) → IsAtNode tree.value fs
+        → Tells (after_spent (split_site tree.value fs choice) now) result }
 {
     if now < unassigned(&tree.draft.plan) {
-        return Step::No(Reason::Cause);
+        return Err(Reason::Cause);
     }
-    Step::More(first_child(alloc, tree, reader, choice, false))
+    Ok(Step::More(first_child(alloc, tree, reader, choice, false)))
 }
 
 /// The line `why` of a node that is split so.
@@ -155,25 +162,20 @@ pub fn why_line(
     reader: Box<LeafReader>,
     choice: Choice,
     words: LineWords<'_>,
-) -> Step
+) -> Result<Step, Reason>
     requires { IsAwaited (Due.Why tree reader choice) }
     ensures { IsStep (Due.Why tree reader choice) words.entry result }
 {
     fault_is_refused();
     let tasks = tree.draft.base.instance.tasks() as u32;
-    let kind = match read_line(Expect::Why { tasks }, words) {
-        Ok(kind) => kind,
-        Err(fault) => return Step::No(fault.reason()),
-    };
-    match kind {
-        LineKind::WhyNone => Step::More(first_child(alloc, tree, reader, choice, false)),
-        LineKind::WhyLoose { now, whole, count } => {
+    match read_why(words, tasks)? {
+        WhyLine::None => Ok(Step::More(first_child(alloc, tree, reader, choice, false))),
+        WhyLine::Loose { now, whole, count } => {
             let loose = LooseDraft { choice, now, whole };
             begin_loose(tree, reader, loose, count)
         }
-        LineKind::WhyOverflow { now, fault } => fault_step(alloc, tree, reader, choice, now, fault),
-        LineKind::WhySpent { now } => spent_step(alloc, tree, reader, choice, now),
-        _ => unreachable!(),
+        WhyLine::Overflow { now, fault } => fault_step(alloc, tree, reader, choice, now, fault),
+        WhyLine::Spent { now } => spent_step(alloc, tree, reader, choice, now),
     }
 }
 
@@ -186,25 +188,26 @@ fn take_share(
     more: u64,
     column: u64,
     parts: u128,
-) -> Step
+) -> Result<Step, Reason>
     requires loose { IsLooseRead tree.value loose }
     requires reader { IsReaderFor tree.value.draft.value.base.instance reader.value }
     requires column { column < length tree.value.draft.value.pool }
     requires next { column + 1 < 2 ^ 64 }
     requires parts { parts ≤ loose.whole }
     ensures { (fs : List Above) (read : Shares) → IsInLoose tree.value loose read fs
-        → Tells (after_share (split_site tree.value fs loose.choice) loose.now read more (record { column = column; parts = parts })) result }
+        → Tells (after_share (split_site tree.value fs loose.choice) loose.now read more
+        (record { column = column; parts = parts })) result }
 {
     let held = &mut *tree;
     let draft = &mut *held.draft;
     let limits = Limits::wake(&draft.base.instance, draft.limits.take(alloc));
     let route = draft.pool.route(column as usize);
     if !is_route_in(&limits, route) {
-        return Step::No(Reason::Cause);
+        return Err(Reason::Cause);
     }
     held.sums.add(route, parts, loose.whole);
     draft.limits = limits.rest();
-    Step::More(due_shares(tree, reader, loose, more, column + 1))
+    Ok(Step::More(due_shares(tree, reader, loose, more, column + 1)))
 }
 
 /// A line `share`.
@@ -216,22 +219,16 @@ pub fn share_line(
     more: u64,
     from: u64,
     words: LineWords<'_>,
-) -> Step
+) -> Result<Step, Reason>
     requires { IsAwaited (Due.Share tree reader loose more from) }
     ensures { IsStep (Due.Share tree reader loose more from) words.entry result }
 {
     fault_is_refused();
     let columns = tree.draft.pool.len() as u64;
     let whole = signed(loose.whole);
-    let kind = match read_line(Expect::Share { columns, whole }, words) {
-        Ok(kind) => kind,
-        Err(fault) => return Step::No(fault.reason()),
-    };
-    let LineKind::Share { column, parts } = kind else {
-        unreachable!()
-    };
+    let ShareLine { column, parts } = read_share(words, columns, whole)?;
     if column < from {
-        return Step::No(Reason::Cause);
+        return Err(Reason::Cause);
     }
     take_share(alloc, tree, reader, loose, more, column, parts)
 }
@@ -243,21 +240,23 @@ fn judge_spare(
     reader: Box<LeafReader>,
     loose: LooseDraft,
     shares: &WideNumbers<'_>,
-) -> Step
+) -> Result<Step, Reason>
     requires loose { IsLooseRead tree.value loose }
     requires reader { IsReaderFor tree.value.draft.value.base.instance reader.value }
-    requires numbers { IsSpareLine (length tree.value.draft.value.base.instance.tasks) loose.whole shares.now }
+    requires numbers { IsSpareLine (length tree.value.draft.value.base.instance.tasks) loose.whole
+        shares.now }
     ensures { (fs : List Above) (read : Shares) → IsInLoose tree.value loose read fs
-        → Tells (after_spare (split_site tree.value fs loose.choice) loose.now read shares.now) result }
+        → Tells (after_spare (split_site tree.value fs loose.choice) loose.now read shares.now)
+        result }
 {
     let held = &mut *tree;
     let draft = &mut *held.draft;
     let limits = Limits::wake(&draft.base.instance, draft.limits.take(alloc));
     if !held.sums.is_loose(&limits, loose.now, shares, loose.whole) {
-        return Step::No(Reason::Cause);
+        return Err(Reason::Cause);
     }
     draft.limits = limits.rest();
-    Step::More(first_child(alloc, tree, reader, loose.choice, true))
+    Ok(Step::More(first_child(alloc, tree, reader, loose.choice, true)))
 }
 
 /// The line `spare`.
@@ -267,19 +266,13 @@ pub fn spare_line(
     reader: Box<LeafReader>,
     loose: LooseDraft,
     words: LineWords<'_>,
-) -> Step
+) -> Result<Step, Reason>
     requires { IsAwaited (Due.Spare tree reader loose) }
     ensures { IsStep (Due.Spare tree reader loose) words.entry result }
 {
     fault_is_refused();
     let tasks = tree.draft.base.instance.tasks() as u32;
     let whole = signed(loose.whole);
-    let kind = match read_line(Expect::Spare { tasks, whole }, words) {
-        Ok(kind) => kind,
-        Err(fault) => return Step::No(fault.reason()),
-    };
-    let LineKind::Spare { shares } = kind else {
-        unreachable!()
-    };
+    let shares = read_spare(words, tasks, whole)?;
     judge_spare(alloc, tree, reader, loose, &shares)
 }

@@ -13,6 +13,7 @@ ghost use Rattle.cert_checker.specs.Said.{IsSaidOf};
 use crate::due::{Due, EndedDossier, Step};
 use crate::judge::judge;
 use crate::laws::{one_answer, reached_goes_on, whole_is_true};
+use cert_format::Refusal;
 use crew_instance::{Instance, Plan, unassigned};
 use dossier_terms::Reason;
 use field_table::Cuts;
@@ -112,22 +113,22 @@ fn put_back(state: &mut State, next: State)
 
 /// Keeps what a step at the line of this number leads to, and gives what is said of that line.
 #[inline(always)]
-fn settle(state: &mut State, step: Step, line: u64) -> Said
+fn settle(state: &mut State, step: Result<Step, Reason>, line: u64) -> Said
     requires taken { state.old ≡ State.Spent }
     ensures said { IsSaidOf line step result }
     ensures kept { state.new ≡ kept_state line step }
 {
     match step {
-        Step::More(due) => {
+        Ok(Step::More(due)) => {
             put_back(state, State::Due(due));
             Said::More
         }
-        Step::Whole(ended) => {
+        Ok(Step::Whole(ended)) => {
             let verdict = whole_verdict(&ended);
             put_back(state, State::Whole(ended));
             Said::Whole(verdict)
         }
-        Step::No(reason) => {
+        Err(reason) => {
             put_back(state, State::Refused { line, reason });
             Said::No { line, reason }
         }
@@ -174,7 +175,8 @@ impl Checker {
         requires kept { IsKeptFrom due }
         requires plain { IsLine line.now }
         requires few { self.old.lines < LONGEST_INPUT }
-        ensures judged { (reading : Reading) → IsReached reading → Awaits due reading → IfOk result (λ said. IsJudged self.old.lines reading (words_of line.now) said self.new) }
+        ensures judged { (reading : Reading) → IsReached reading → Awaits due reading → IfOk result
+            (λ said. IsJudged self.old.lines reading (words_of line.now) said self.new) }
         ensures room { IsOfTree due → IsOk result }
         ensures memory { OnErr result (self.new ≡ record self.old { at = State.Spent }) }
     {
@@ -182,7 +184,11 @@ impl Checker {
         reached_goes_on();
         whole_is_true();
         let words = self.cuts.split(line);
-        let step = judge(self.alloc, due, words)?;
+        let step = match judge(self.alloc, due, words) {
+            Ok(step) => Ok(step),
+            Err(Refusal::No(reason)) => Err(reason),
+            Err(Refusal::OutOfMemory) => return Err(AllocError),
+        };
         self.lines += 1;
         Ok(settle(&mut self.state, step, self.lines))
     }

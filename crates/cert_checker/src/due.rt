@@ -2,7 +2,6 @@
 
 use crew_instance::Plan;
 use crew_terms::{Choice, TreeCounts};
-use dossier_terms::Reason;
 use head_check::{Base, HeadDue};
 use leaf_check::LeafReader;
 use node_limits::Held;
@@ -135,13 +134,11 @@ pub enum Due {
     },
 }
 
-/// What is said of a line.
+/// What is said of a line that breaks no rule.
 #[derive(Drop)]
 pub enum Step {
-    /// It breaks no rule, and this is due next.
+    /// This is due next.
     More(Due),
     /// It ends a good dossier.
     Whole(EndedDossier),
-    /// It breaks a rule.
-    No(Reason),
 }

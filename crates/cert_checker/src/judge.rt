@@ -1,8 +1,9 @@
 // One line of a dossier, judged by the row of the table that is due. The calls through which each line goes are inlined,
 // so that what is due is moved once, and not from call to call.
-ghost use Rattle.std.specs.Prelude.{IfOk, IsOk};
+ghost use Rattle.std.specs.Prelude.{◌≢◌, Err};
+ghost use Rattle.cert_format.specs.declared.refusals.Refusal.TheVariants.{OutOfMemory};
 ghost use Rattle.head_check.specs.Head.{Holds as HoldsHead, IsLineDue, reading_of};
-ghost use Rattle.cert_checker.specs.Due.{Awaits, IsAwaited, IsOfTree, IsStep};
+ghost use Rattle.cert_checker.specs.Due.{Awaits, IsAwaited, IsOfTree, IsStepWithRoom};
 
 use crate::cause::{share_line, spare_line, why_line};
 use crate::due::{Due, Step};
@@ -11,9 +12,10 @@ use crate::node::node_line;
 use crate::plan::{job_line, plan_line};
 use crate::pool::{pool_line, route_line};
 use crate::tree::tree_line;
+use cert_format::Refusal;
 use field_table::LineWords;
-use head_check::{HeadDue, HeadStep, judge_head};
-use std::alloc::{AllocError, Global};
+use head_check::{HeadDue, judge_head};
+use std::alloc::Global;
 
 /// What is due behind a line of the head.
 #[inline(always)]
@@ -29,55 +31,52 @@ fn due_after(due: HeadDue) -> Due
 
 /// A line of the head.
 #[inline(always)]
-fn head_line(alloc: Global, due: HeadDue, words: LineWords<'_>) -> Result<Step, AllocError>
+fn head_line(alloc: Global, due: HeadDue, words: LineWords<'_>) -> Result<Step, Refusal>
     requires due { IsLineDue due }
     requires holds { HoldsHead due }
-    ensures { IfOk result (IsStep (Due.Head due) words.entry) }
+    ensures { IsStepWithRoom (Due.Head due) words.entry result }
 {
-    let step = judge_head(alloc, due, words)?;
-    match step {
-        HeadStep::More(next) => Ok(Step::More(due_after(next))),
-        HeadStep::No(reason) => Ok(Step::No(reason)),
-    }
+    let next = judge_head(alloc, due, words)?;
+    Ok(Step::More(due_after(next)))
 }
 
-/// Judges the line that is due. Its only error is want of memory.
+/// Judges the line that is due.
 #[inline(always)]
-pub fn judge(alloc: Global, due: Due, words: LineWords<'_>) -> Result<Step, AllocError>
+pub fn judge(alloc: Global, due: Due, words: LineWords<'_>) -> Result<Step, Refusal>
     requires { IsAwaited due }
-    ensures step { IfOk result (IsStep due words.entry) }
-    ensures room { IsOfTree due → IsOk result }
+    ensures step { IsStepWithRoom due words.entry result }
+    ensures room { IsOfTree due → result ≢ Err OutOfMemory }
 {
     match due {
         Due::Head(due) => head_line(alloc, due, words),
         Due::Pool { base } => pool_line(alloc, base, words),
         Due::Route { draft, more } => route_line(alloc, draft, more, words),
-        Due::Plan { draft } => Ok(plan_line(draft, words)),
+        Due::Plan { draft } => Ok(plan_line(draft, words)?),
         Due::Job { draft, more, from } => job_line(alloc, draft, more, from, words),
         Due::Tree { draft } => tree_line(alloc, draft, words),
-        Due::Node { tree, reader } => Ok(node_line(alloc, tree, reader, words)),
+        Due::Node { tree, reader } => Ok(node_line(alloc, tree, reader, words)?),
         Due::Why {
             tree,
             reader,
             choice,
-        } => Ok(why_line(alloc, tree, reader, choice, words)),
+        } => Ok(why_line(alloc, tree, reader, choice, words)?),
         Due::Share {
             tree,
             reader,
             loose,
             more,
             from,
-        } => Ok(share_line(alloc, tree, reader, loose, more, from, words)),
+        } => Ok(share_line(alloc, tree, reader, loose, more, from, words)?),
         Due::Spare {
             tree,
             reader,
             loose,
-        } => Ok(spare_line(alloc, tree, reader, loose, words)),
+        } => Ok(spare_line(alloc, tree, reader, loose, words)?),
         Due::Leaf {
             tree,
             reader,
             is_closed,
-        } => Ok(number_line(alloc, tree, reader, is_closed, words)),
-        Due::End { tree, seen } => Ok(end_line(tree, seen, words)),
+        } => Ok(number_line(alloc, tree, reader, is_closed, words)?),
+        Due::End { tree, seen } => Ok(end_line(tree, seen, words)?),
     }
 }

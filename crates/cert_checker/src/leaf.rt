@@ -3,7 +3,7 @@ ghost use Rattle.cert_checker.specs.Due.{IsAwaited, IsStep};
 
 use crate::due::{Due, EndedDossier, Step, TreeDraft};
 use crate::node::leave;
-use cert_format::{Expect, fault_is_refused, read_line};
+use cert_format::{fault_is_refused, read_end};
 use crew_instance::unassigned;
 use crew_terms::TreeCounts;
 use dossier_terms::Reason;
@@ -19,7 +19,7 @@ pub fn number_line(
     mut reader: Box<LeafReader>,
     is_closed: bool,
     words: LineWords<'_>,
-) -> Step
+) -> Result<Step, Reason>
     requires { IsAwaited (Due.Leaf tree reader is_closed) }
     ensures { IsStep (Due.Leaf tree reader is_closed) words.entry result }
 {
@@ -31,28 +31,29 @@ pub fn number_line(
         is_closed,
     };
     let limits = Limits::wake(&draft.base.instance, draft.limits.take(alloc));
-    let step = reader.line(&limits, goal, words);
+    let step = reader.line(&limits, goal, words)?;
     draft.limits = limits.rest();
     match step {
-        LeafStep::More => Step::More(Due::Leaf {
+        LeafStep::More => Ok(Step::More(Due::Leaf {
             tree,
             reader,
             is_closed,
-        }),
-        LeafStep::Done => Step::More(leave(alloc, tree, reader, is_closed)),
-        LeafStep::No(reason) => Step::No(reason),
+        })),
+        LeafStep::Done => Ok(Step::More(leave(alloc, tree, reader, is_closed))),
     }
 }
 
 /// The line `end`.
-pub fn end_line(tree: Box<TreeDraft>, seen: TreeCounts, words: LineWords<'_>) -> Step
+pub fn end_line(
+    tree: Box<TreeDraft>,
+    seen: TreeCounts,
+    words: LineWords<'_>,
+) -> Result<Step, Reason>
     requires { IsAwaited (Due.End tree seen) }
     ensures { IsStep (Due.End tree seen) words.entry result }
 {
     fault_is_refused();
-    if let Err(fault) = read_line(Expect::End, words) {
-        return Step::No(fault.reason());
-    }
+    read_end(words)?;
     if seen == tree.claimed {
         let TreeDraft {
             draft,
@@ -61,12 +62,12 @@ pub fn end_line(tree: Box<TreeDraft>, seen: TreeCounts, words: LineWords<'_>) ->
             unshown,
             sums: _,
         } = Box::into_inner(tree);
-        Step::Whole(EndedDossier {
+        Ok(Step::Whole(EndedDossier {
             draft,
             counts: seen,
             unshown,
-        })
+        }))
     } else {
-        Step::No(Reason::Count)
+        Err(Reason::Count)
     }
 }

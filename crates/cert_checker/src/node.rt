@@ -11,7 +11,7 @@ ghost use Rattle.cert_checker.specs.Due.{Awaits, HasLeafRoom, HasSplitLeft, IsAw
 ghost use Rattle.dossier_terms.specs.NodeTable.{after_bare, after_leaf, after_split, split_fault};
 
 use crate::due::{Due, Step, TreeDraft};
-use cert_format::{Expect, LineKind, fault_is_refused, read_line};
+use cert_format::{NodeLine, fault_is_refused, read_node};
 use crew_terms::{Choice, Pair};
 use dossier_terms::{DossierForm, Reason};
 use field_table::LineWords;
@@ -48,8 +48,9 @@ pub fn leave(
     requires node { IsInTree tree.value }
     requires reader { IsReaderFor tree.value.draft.value.base.instance reader.value }
     requires room { HasLeafRoom tree.value is_closed }
-    ensures { (fs : List Above) (claim : Claim Leaf) → IsAtNode tree.value fs → IsLeaf is_closed claim
-        → Awaits result (node_done (draft_of tree.value.draft.value) tree.value.claimed fs (LeafNode claim)) }
+    ensures { (fs : List Above) (claim : Claim Leaf) → IsAtNode tree.value fs
+        → IsLeaf is_closed claim → Awaits result
+        (node_done (draft_of tree.value.draft.value) tree.value.claimed fs (LeafNode claim)) }
 {
     let held = &mut *tree;
     let draft = &mut *held.draft;
@@ -113,8 +114,10 @@ pub fn first_child(
 ) -> Due
     requires split { (fs : List Above) × MaySplit tree.value choice fs }
     requires reader { IsReaderFor tree.value.draft.value.base.instance reader.value }
-    ensures { (fs : List Above) (cause : Cause) → IsAtNode tree.value fs → unshown_in cause ≡ (if is_shown then 0 else 1)
-        → Awaits result (split_done (draft_of tree.value.draft.value) tree.value.claimed fs (record { choice = choice; cause = cause })) }
+    ensures { (fs : List Above) (cause : Cause) → IsAtNode tree.value fs
+        → unshown_in cause ≡ (if is_shown then 0 else 1) → Awaits result
+        (split_done (draft_of tree.value.draft.value) tree.value.claimed fs
+        (record { choice = choice; cause = cause })) }
 {
     let held = &mut *tree;
     let draft = &mut *held.draft;
@@ -131,62 +134,69 @@ fn split_line(
     mut tree: Box<TreeDraft>,
     reader: Box<LeafReader>,
     choice: Choice,
-) -> Step
+) -> Result<Step, Reason>
     requires node { IsInTree tree.value }
     requires reader { IsReaderFor tree.value.draft.value.base.instance reader.value }
     requires known { IsKnown tree.value.draft.value.base.instance choice }
-    ensures { (fs : List Above) → IsAtNode tree.value fs → Tells (after_split (draft_of tree.value.draft.value) tree.value.claimed fs choice) result }
+    ensures { (fs : List Above) → IsAtNode tree.value fs → Tells
+        (after_split (draft_of tree.value.draft.value) tree.value.claimed fs choice) result }
 {
     if !has_split_room(&tree) {
-        return Step::No(Reason::Count);
+        return Err(Reason::Count);
     }
     let draft = &mut *tree.draft;
     let form = draft.base.form;
     let limits = Limits::wake(&draft.base.instance, draft.limits.take(alloc));
     if !can_split(&limits, choice) {
-        return Step::No(split_fault(choice));
+        return Err(split_fault(choice));
     }
     draft.limits = limits.rest();
     match form {
-        DossierForm::One => Step::More(first_child(alloc, tree, reader, choice, false)),
-        DossierForm::Two => Step::More(Due::Why {
+        DossierForm::One => Ok(Step::More(first_child(alloc, tree, reader, choice, false))),
+        DossierForm::Two => Ok(Step::More(Due::Why {
             tree,
             reader,
             choice,
-        }),
+        })),
     }
 }
 
 /// The line `leaf bare`.
-fn bare_line(alloc: Global, tree: Box<TreeDraft>, reader: Box<LeafReader>) -> Step
+fn bare_line(alloc: Global, tree: Box<TreeDraft>, reader: Box<LeafReader>) -> Result<Step, Reason>
     requires node { IsInTree tree.value }
     requires reader { IsReaderFor tree.value.draft.value.base.instance reader.value }
-    ensures { (fs : List Above) → IsAtNode tree.value fs → Tells (after_bare (draft_of tree.value.draft.value) tree.value.claimed fs) result }
+    ensures { (fs : List Above) → IsAtNode tree.value fs
+        → Tells (after_bare (draft_of tree.value.draft.value) tree.value.claimed fs) result }
 {
     if !has_leaf_room(&tree, false) {
-        return Step::No(Reason::Count);
+        return Err(Reason::Count);
     }
     if tree.draft.bound > 0 {
-        return Step::No(Reason::Bound);
+        return Err(Reason::Bound);
     }
-    Step::More(leave(alloc, tree, reader, false))
+    Ok(Step::More(leave(alloc, tree, reader, false)))
 }
 
 /// The line `leaf open` or `leaf closed`.
-fn leaf_line(tree: Box<TreeDraft>, mut reader: Box<LeafReader>, is_closed: bool) -> Step
+fn leaf_line(
+    tree: Box<TreeDraft>,
+    mut reader: Box<LeafReader>,
+    is_closed: bool,
+) -> Result<Step, Reason>
     requires node { IsInTree tree.value }
     requires reader { IsReaderFor tree.value.draft.value.base.instance reader.value }
-    ensures { (fs : List Above) → IsAtNode tree.value fs → Tells (after_leaf (draft_of tree.value.draft.value) tree.value.claimed fs is_closed) result }
+    ensures { (fs : List Above) → IsAtNode tree.value fs → Tells
+        (after_leaf (draft_of tree.value.draft.value) tree.value.claimed fs is_closed) result }
 {
     if !has_leaf_room(&tree, is_closed) {
-        return Step::No(Reason::Count);
+        return Err(Reason::Count);
     }
     reader.begin();
-    Step::More(Due::Leaf {
+    Ok(Step::More(Due::Leaf {
         tree,
         reader,
         is_closed,
-    })
+    }))
 }
 
 /// A line of a node.
@@ -195,7 +205,7 @@ pub fn node_line(
     tree: Box<TreeDraft>,
     reader: Box<LeafReader>,
     words: LineWords<'_>,
-) -> Step
+) -> Result<Step, Reason>
     requires { IsAwaited (Due.Node tree reader) }
     ensures { IsStep (Due.Node tree reader) words.entry result }
 {
@@ -203,20 +213,15 @@ pub fn node_line(
     let instance = &tree.draft.base.instance;
     let teams = instance.teams() as u32;
     let tasks = instance.tasks() as u32;
-    let kind = match read_line(Expect::Node { teams, tasks }, words) {
-        Ok(kind) => kind,
-        Err(fault) => return Step::No(fault.reason()),
-    };
-    match kind {
-        LineKind::Window { task, cut } => {
+    match read_node(words, teams, tasks)? {
+        NodeLine::Window { task, cut } => {
             split_line(alloc, tree, reader, Choice::Window { task, cut })
         }
-        LineKind::Pair { team, task } => {
+        NodeLine::Pair { team, task } => {
             split_line(alloc, tree, reader, Choice::Pair { team, task })
         }
-        LineKind::LeafBare => bare_line(alloc, tree, reader),
-        LineKind::LeafOpen => leaf_line(tree, reader, false),
-        LineKind::LeafClosed => leaf_line(tree, reader, true),
-        _ => unreachable!(),
+        NodeLine::Bare => bare_line(alloc, tree, reader),
+        NodeLine::Open => leaf_line(tree, reader, false),
+        NodeLine::Closed => leaf_line(tree, reader, true),
     }
 }

@@ -2,17 +2,17 @@
 ghost use Rattle.std.specs.Prelude.{◌≡◌, ℕ, pos, IfOk};
 ghost use Rattle.dossier_terms.specs.Reading.{routes_due};
 ghost use Rattle.dossier_terms.specs.BodyTable.{begin};
-ghost use Rattle.cert_checker.specs.Due.{Awaits, IsAwaited, IsBegun, IsStep, draft_of};
+ghost use Rattle.cert_checker.specs.Due.{Awaits, IsAwaited, IsBegun, IsStepWithRoom, draft_of};
 ghost use Rattle.cert_checker.specs.Rules.{TellsRoute};
 
 use crate::due::{BegunDossier, Due, Step};
-use cert_format::{Expect, LineKind, fault_is_refused, read_line};
+use cert_format::{PoolLine, Refusal, RouteLine, fault_is_refused, read_pool, read_route};
 use crew_instance::Plan;
 use dossier_terms::Reason;
 use field_table::LineWords;
 use head_check::Base;
 use node_limits::Limits;
-use route_pool::{Pool, PoolVerdict, read_route};
+use route_pool::{Pool, PoolVerdict};
 use std::alloc::{AllocError, Global};
 
 /// A number that is not negative.
@@ -40,7 +40,8 @@ fn due_routes(draft: Box<BegunDossier>, more: u64) -> Due
 
 /// What is due behind the line `pool`, where it has these numbers. No memory is taken by them.
 fn begin_pool(alloc: Global, base: Base, kept: u64, routes: u64) -> Result<Due, AllocError>
-    ensures { IfOk result (λ due. Awaits due (routes_due (begin base.form base.instance base.nodes kept) routes)) }
+    ensures { IfOk result (λ due. Awaits due
+        (routes_due (begin base.form base.instance base.nodes kept) routes)) }
 {
     let limits = Limits::root(alloc, &base.instance)?;
     let limits = limits.rest();
@@ -58,32 +59,26 @@ fn begin_pool(alloc: Global, base: Base, kept: u64, routes: u64) -> Result<Due, 
 }
 
 /// The line `pool`.
-pub fn pool_line(alloc: Global, base: Box<Base>, words: LineWords<'_>) -> Result<Step, AllocError>
-    ensures { IfOk result (IsStep (Due.Pool base) words.entry) }
+pub fn pool_line(alloc: Global, base: Box<Base>, words: LineWords<'_>) -> Result<Step, Refusal>
+    ensures { IsStepWithRoom (Due.Pool base) words.entry result }
 {
     fault_is_refused();
-    let kind = match read_line(Expect::Pool, words) {
-        Ok(kind) => kind,
-        Err(fault) => return Ok(Step::No(fault.reason())),
-    };
-    let LineKind::Pool { kept, routes } = kind else {
-        unreachable!()
-    };
+    let PoolLine { kept, routes } = read_pool(words)?;
     if kept > routes {
-        return Ok(Step::No(Reason::Pool));
+        return Err(Refusal::No(Reason::Pool));
     }
     let due = begin_pool(alloc, Box::into_inner(base), natural(kept), natural(routes))?;
     Ok(Step::More(due))
 }
 
 /// What is said behind a route, of which the pool says this, where so many more are to come.
-fn judge_route(draft: Box<BegunDossier>, more: u64, verdict: PoolVerdict) -> Step
+fn judge_route(draft: Box<BegunDossier>, more: u64, verdict: PoolVerdict) -> Result<Step, Reason>
     requires { IsBegun draft.value }
     ensures { TellsRoute draft.value more verdict result }
 {
     match verdict {
-        PoolVerdict::Added => Step::More(due_routes(draft, more)),
-        PoolVerdict::NotRoute | PoolVerdict::Repeated => Step::No(Reason::Pool),
+        PoolVerdict::Added => Ok(Step::More(due_routes(draft, more))),
+        PoolVerdict::NotRoute | PoolVerdict::Repeated => Err(Reason::Pool),
     }
 }
 
@@ -93,24 +88,18 @@ pub fn route_line(
     mut draft: Box<BegunDossier>,
     more: u64,
     words: LineWords<'_>,
-) -> Result<Step, AllocError>
+) -> Result<Step, Refusal>
     requires { IsAwaited (Due.Route draft more) }
-    ensures { IfOk result (IsStep (Due.Route draft more) words.entry) }
+    ensures { IsStepWithRoom (Due.Route draft more) words.entry result }
 {
     fault_is_refused();
     let held = &mut *draft;
     let teams = held.base.instance.teams() as u32;
     let tasks = held.base.instance.tasks() as u32;
-    let kind = match read_line(Expect::Route { teams, tasks }, words) {
-        Ok(kind) => kind,
-        Err(fault) => return Ok(Step::No(fault.reason())),
-    };
-    let LineKind::Route { team, visits } = kind else {
-        unreachable!()
-    };
-    let route = read_route(alloc, team, &visits)?;
+    let RouteLine { team, visits } = read_route(words, teams, tasks)?;
+    let route = route_pool::read_route(alloc, team, &visits)?;
     let limits = Limits::wake(&held.base.instance, held.limits.take(alloc));
     let verdict = held.pool.add(&limits, route)?;
     held.limits = limits.rest();
-    Ok(judge_route(draft, more, verdict))
+    Ok(judge_route(draft, more, verdict)?)
 }

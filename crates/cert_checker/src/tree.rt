@@ -2,11 +2,11 @@
 ghost use Rattle.std.specs.Prelude.{[], IfOk};
 ghost use Rattle.dossier_terms.specs.Reading.{Nodes};
 ghost use Rattle.dossier_terms.specs.Ranges.{IsCounts};
-ghost use Rattle.cert_checker.specs.Due.{Awaits, IsAwaited, IsRoot, IsStep, draft_of};
-ghost use Rattle.cert_checker.specs.Rules.{IsTreeFault};
+ghost use Rattle.cert_checker.specs.Due.{Awaits, IsAwaited, IsRoot, IsStepWithRoom, draft_of};
+ghost use Rattle.cert_checker.specs.Rules.{TellsCounts};
 
 use crate::due::{BegunDossier, Due, Step, TreeDraft};
-use cert_format::{Expect, LineKind, fault_is_refused, read_line};
+use cert_format::{Refusal, fault_is_refused, read_tree};
 use crew_instance::unassigned;
 use crew_terms::TreeCounts;
 use dossier_terms::Reason;
@@ -17,22 +17,22 @@ use share_check::ShareSums;
 use std::alloc::{AllocError, Global};
 use tree_walk::Walk;
 
-/// The first rule that the numbers of a tree break: they must fit each other, the budget and the bound.
-fn fault_of_tree(draft: &BegunDossier, claimed: TreeCounts) -> Option<Reason>
+/// Judges the numbers of a tree: they must fit each other, the budget and the bound.
+fn judge_counts(draft: &BegunDossier, claimed: TreeCounts) -> Result<(), Reason>
     requires { IsCounts claimed }
-    ensures { IsTreeFault (draft_of draft.now) claimed result }
+    ensures { TellsCounts (draft_of draft.now) claimed result }
 {
     if claimed.closed + claimed.left_open != claimed.splits + 1 {
-        return Some(Reason::Count);
+        return Err(Reason::Count);
     }
     let spent = claimed.splits + claimed.closed;
     if spent > draft.base.nodes {
-        return Some(Reason::Budget);
+        return Err(Reason::Budget);
     }
     if draft.bound < unassigned(&draft.plan) && spent != draft.base.nodes {
-        return Some(Reason::Budget);
+        return Err(Reason::Budget);
     }
-    None
+    Ok(())
 }
 
 /// What is due behind the line `tree`: the root of the tree. All memory is taken that the lines of the tree want: for the
@@ -71,21 +71,13 @@ pub fn tree_line(
     alloc: Global,
     draft: Box<BegunDossier>,
     words: LineWords<'_>,
-) -> Result<Step, AllocError>
+) -> Result<Step, Refusal>
     requires { IsAwaited (Due.Tree draft) }
-    ensures { IfOk result (IsStep (Due.Tree draft) words.entry) }
+    ensures { IsStepWithRoom (Due.Tree draft) words.entry result }
 {
     fault_is_refused();
-    let kind = match read_line(Expect::Tree, words) {
-        Ok(kind) => kind,
-        Err(fault) => return Ok(Step::No(fault.reason())),
-    };
-    let LineKind::Tree { counts: claimed } = kind else {
-        unreachable!()
-    };
-    if let Some(reason) = fault_of_tree(&draft, claimed) {
-        return Ok(Step::No(reason));
-    }
+    let claimed = read_tree(words)?;
+    judge_counts(&draft, claimed)?;
     let due = begin_tree(alloc, draft, claimed)?;
     Ok(Step::More(due))
 }

@@ -157,6 +157,12 @@ spare_is (pos x) past tasks ks ws low is shape s =
     let below : AllByRecursion (λ k. k < x + 1) ks = subst (λ p. AllByRecursion (λ k. k < p) ks) (is x refl) s.below in
     (x, refl, record { count = count; most = at_most x ks below }, shape.1 ∙ ap (λ vs. codes "spare" ∷ vs) rest)
 
+pub no_spare : (whole : ℤ) (past tasks : ℕ) (ws : Words) → ((w : ℕ) → whole ≡ pos w → past ≡ w + 1) → ((ks : List ℕ) → SpellBelow past ks (drop 1 ws) → ⊥)
+    → (kind : LineKind) → IsSpareOf tasks whole ws kind → ⊥
+no_spare whole past tasks ws is none (kinds.Spare ks) (w, e, h, line) =
+    none ks (record { below = subst (λ p. AllByRecursion (λ k. k < p) ks) (sym (is w e)) (below_past w ks h.most); spelled = ap (drop 1) line })
+no_spare whole past tasks ws is none _ h = absurd h
+
 -- ---- kinds of causes
 
 -- whether a line is a cause of a kind

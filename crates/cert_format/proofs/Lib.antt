@@ -13,3 +13,4 @@ pub mod Pairs
 pub mod Runs
 pub mod OneAnswer
 pub mod Faults
+pub mod Readings

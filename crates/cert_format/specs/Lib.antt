@@ -4,3 +4,4 @@ pub mod WideNumbers
 pub mod Lines
 pub mod Counts
 pub mod Expected
+pub mod Typed

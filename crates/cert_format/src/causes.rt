@@ -3,11 +3,12 @@ ghost use Rattle.std.specs.Prelude.{◌≡◌, ◌≢◌, ◌≤◌, ◌<◌, �
 ghost use Rattle.crew_num.specs.declared.Op.{Op};
 ghost use Rattle.dossier_terms.specs.Lines.{op_word};
 ghost use Rattle.dossier_terms.specs.Ranges.{IsWhy};
-ghost use Rattle.cert_format.specs.Lines.{ReadsLine};
+ghost use Rattle.cert_format.specs.Typed.{ReadsAs, why_kind, share_kind};
 
 use crate::kinds::{Expect, LineFault, LineKind};
 use crate::shape::{has_shape, is_same, is_why};
-use crate::wides::{read_natural, read_naturals, read_signed};
+use crate::typed::{ShareLine, WhyLine};
+use crate::wides::{WideNumbers, read_natural, read_naturals, read_signed};
 use crew_num::{Op, Overflow};
 use field_table::{LineWords, Words};
 
@@ -34,14 +35,14 @@ fn op_of(word: &[u8]) -> Option<Op>
 }
 
 /// Reads a line `why loose`.
-fn read_loose<'a>(words: LineWords<'a>, tasks: u32) -> Result<LineKind<'a>, LineFault>
+fn read_loose(words: LineWords<'_>, tasks: u32) -> Result<WhyLine, LineFault>
     requires { IsWhy (codes "loose") 3 words }
-    ensures { ReadsLine (Expect.Why tasks) words.entry result }
+    ensures { ReadsAs (Expect.Why tasks) why_kind words.entry result }
 {
     let now = read_natural(&words, 2, 1, tasks as u128 + 1)?;
     let whole = read_natural(&words, 3, 1, PAST_WHOLE)?;
     let count = read_natural(&words, 4, 0, PAST_COUNT)?;
-    Ok(LineKind::WhyLoose {
+    Ok(WhyLine::Loose {
         now: now as u32,
         whole,
         count: count as u64,
@@ -49,9 +50,9 @@ fn read_loose<'a>(words: LineWords<'a>, tasks: u32) -> Result<LineKind<'a>, Line
 }
 
 /// Reads a line `why overflow`.
-fn read_overflow<'a>(words: LineWords<'a>, tasks: u32) -> Result<LineKind<'a>, LineFault>
+fn read_overflow(words: LineWords<'_>, tasks: u32) -> Result<WhyLine, LineFault>
     requires { IsWhy (codes "overflow") 4 words }
-    ensures { ReadsLine (Expect.Why tasks) words.entry result }
+    ensures { ReadsAs (Expect.Why tasks) why_kind words.entry result }
 {
     let Some(op) = op_of(words.word(3)) else {
         return Err(LineFault::Shape);
@@ -65,27 +66,27 @@ fn read_overflow<'a>(words: LineWords<'a>, tasks: u32) -> Result<LineKind<'a>, L
     let Ok(b) = read_signed(&words, 5) else {
         return Err(LineFault::Number);
     };
-    Ok(LineKind::WhyOverflow {
+    Ok(WhyLine::Overflow {
         now: now as u32,
         fault: Overflow { op, a, b },
     })
 }
 
 /// Reads a line `why spent`.
-fn read_spent<'a>(words: LineWords<'a>, tasks: u32) -> Result<LineKind<'a>, LineFault>
+fn read_spent(words: LineWords<'_>, tasks: u32) -> Result<WhyLine, LineFault>
     requires { IsWhy (codes "spent") 1 words }
-    ensures { ReadsLine (Expect.Why tasks) words.entry result }
+    ensures { ReadsAs (Expect.Why tasks) why_kind words.entry result }
 {
     let now = read_natural(&words, 2, 1, tasks as u128 + 1)?;
-    Ok(LineKind::WhySpent { now: now as u32 })
+    Ok(WhyLine::Spent { now: now as u32 })
 }
 
 /// Reads a line `why` of an instance with so many tasks.
-pub(crate) fn read_why<'a>(words: LineWords<'a>, tasks: u32) -> Result<LineKind<'a>, LineFault>
-    ensures { ReadsLine (Expect.Why tasks) words.entry result }
+pub fn read_why(words: LineWords<'_>, tasks: u32) -> Result<WhyLine, LineFault>
+    ensures { ReadsAs (Expect.Why tasks) why_kind words.entry result }
 {
     if is_why(&words, b"none", 0) {
-        return Ok(LineKind::WhyNone);
+        return Ok(WhyLine::None);
     }
     if is_why(&words, b"loose", 3) {
         return read_loose(words, tasks);
@@ -112,31 +113,27 @@ fn past_parts(whole: i128) -> u128
 }
 
 /// Reads a line `share` of so many columns, with so many parts in a whole.
-pub(crate) fn read_share<'a>(
-    words: LineWords<'a>,
-    columns: u64,
-    whole: i128,
-) -> Result<LineKind<'a>, LineFault>
-    ensures { ReadsLine (Expect.Share columns whole) words.entry result }
+pub fn read_share(words: LineWords<'_>, columns: u64, whole: i128) -> Result<ShareLine, LineFault>
+    ensures { ReadsAs (Expect.Share columns whole) share_kind words.entry result }
 {
     if !has_shape(&words, b"share", 2) {
         return Err(LineFault::Shape);
     }
     let column = read_natural(&words, 1, 0, columns as u128)?;
     let parts = read_natural(&words, 2, 1, past_parts(whole))?;
-    Ok(LineKind::Share {
+    Ok(ShareLine {
         column: column as u64,
         parts,
     })
 }
 
 /// Reads the line `spare` of an instance with so many tasks, with so many parts in a whole.
-pub(crate) fn read_spare<'a>(
+pub fn read_spare<'a>(
     words: LineWords<'a>,
     tasks: u32,
     whole: i128,
-) -> Result<LineKind<'a>, LineFault>
-    ensures { ReadsLine (Expect.Spare tasks whole) words.entry result }
+) -> Result<WideNumbers<'a>, LineFault>
+    ensures { ReadsAs (Expect.Spare tasks whole) LineKind.Spare words.entry result }
 {
     if !has_shape(&words, b"spare", tasks as usize) {
         return Err(LineFault::Shape);
@@ -144,6 +141,5 @@ pub(crate) fn read_spare<'a>(
     if whole < 0 {
         return Err(LineFault::Number);
     }
-    let shares = read_naturals(words, 1, past_parts(whole))?;
-    Ok(LineKind::Spare { shares })
+    read_naturals(words, 1, past_parts(whole))
 }

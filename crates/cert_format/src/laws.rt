@@ -18,5 +18,6 @@ pub fn line_has_one_answer()
 
 /// A law: a line with a fault is refused by the table of lines, and the fault tells the reason.
 pub fn fault_is_refused()
-    ensures { (due : Reading) (words : Words) (fault : LineFault) → IsFaultOf (expect_of due) words fault → Says due words (No (reason_for fault)) }
+    ensures { (due : Reading) (words : Words) (fault : LineFault)
+        → IsFaultOf (expect_of due) words fault → Says due words (No (reason_for fault)) }
 {}

@@ -3,23 +3,36 @@
 
 ghost use Rattle.cert_format.specs.Lines.{ReadsLine};
 
-mod body;
-mod causes;
-mod head;
+pub mod body;
+pub mod causes;
+pub mod head;
 pub mod kinds;
 mod laws;
-mod leaves;
-mod nodes;
+pub mod leaves;
+pub mod nodes;
 pub mod numbers;
 mod ranges;
+pub mod refusals;
 mod shape;
+pub mod typed;
 pub mod wides;
 
+pub use body::{read_end, read_job, read_plan, read_pool, read_route, read_tree};
+pub use causes::{read_share, read_spare, read_why};
 pub use crew_num::{Op, Overflow};
 use field_table::LineWords;
+pub use head::{
+    read_form, read_frozen, read_keep, read_place, read_size, read_task, read_team, read_travel,
+};
 pub use kinds::{Expect, LineFault, LineKind};
 pub use laws::{fault_is_refused, line_has_one_answer};
+pub use leaves::{read_extra, read_phi, read_price, read_steps, read_worth};
+pub use nodes::read_node;
 pub use numbers::LineNumbers;
+pub use refusals::Refusal;
+pub use typed::{
+    JobLine, NodeLine, PlanLine, PoolLine, RouteLine, ShareLine, TaskLine, TeamLine, WhyLine,
+};
 pub use wides::WideNumbers;
 
 /// Reads a line of the expected kind from its words; it takes no memory. The fault is the first that the
@@ -30,28 +43,58 @@ pub fn read_line<'a>(expect: Expect, words: LineWords<'a>) -> Result<LineKind<'a
     ensures { ReadsLine expect words.entry result }
 {
     match expect {
-        Expect::Form => head::read_form(words),
-        Expect::Size => head::read_size(words),
-        Expect::Place => head::read_place(words),
-        Expect::Travel { places } => head::read_travel(words, places),
-        Expect::Team { places } => head::read_team(words, places),
-        Expect::Task { places } => head::read_task(words, places),
-        Expect::Frozen { most } => head::read_frozen(words, most),
-        Expect::Keep { teams, tasks } => head::read_keep(words, teams, tasks),
-        Expect::Pool => body::read_pool(words),
-        Expect::Route { teams, tasks } => body::read_route(words, teams, tasks),
-        Expect::Plan { tasks } => body::read_plan(words, tasks),
-        Expect::Job { teams, tasks } => body::read_job(words, teams, tasks),
-        Expect::Tree => body::read_tree(words),
-        Expect::Node { teams, tasks } => nodes::read_node(words, teams, tasks),
-        Expect::Why { tasks } => causes::read_why(words, tasks),
-        Expect::Share { columns, whole } => causes::read_share(words, columns, whole),
-        Expect::Spare { tasks, whole } => causes::read_spare(words, tasks, whole),
-        Expect::Price { tasks } => leaves::read_price(words, tasks),
-        Expect::Extra { task, count } => leaves::read_extra(words, task, count),
-        Expect::Worth => leaves::read_worth(words),
-        Expect::Phi { task, count } => leaves::read_phi(words, task, count),
-        Expect::Steps { task } => leaves::read_steps(words, task),
-        Expect::End => body::read_end(words),
+        Expect::Form => Ok(LineKind::Form {
+            form: read_form(words)?,
+        }),
+        Expect::Size => Ok(LineKind::Size {
+            size: read_size(words)?,
+        }),
+        Expect::Place => Ok(LineKind::Place {
+            name: read_place(words)?,
+        }),
+        Expect::Travel { places } => Ok(LineKind::Travel {
+            times: read_travel(words, places)?,
+        }),
+        Expect::Team { places } => Ok(read_team(words, places)?.into()),
+        Expect::Task { places } => Ok(read_task(words, places)?.into()),
+        Expect::Frozen { most } => Ok(LineKind::Frozen {
+            count: read_frozen(words, most)?,
+        }),
+        Expect::Keep { teams, tasks } => Ok(read_keep(words, teams, tasks)?.kept()),
+        Expect::Pool => Ok(read_pool(words)?.into()),
+        Expect::Route { teams, tasks } => Ok(read_route(words, teams, tasks)?.into()),
+        Expect::Plan { tasks } => Ok(read_plan(words, tasks)?.into()),
+        Expect::Job { teams, tasks } => Ok(read_job(words, teams, tasks)?.planned()),
+        Expect::Tree => Ok(LineKind::Tree {
+            counts: read_tree(words)?,
+        }),
+        Expect::Node { teams, tasks } => Ok(read_node(words, teams, tasks)?.into()),
+        Expect::Why { tasks } => Ok(read_why(words, tasks)?.into()),
+        Expect::Share { columns, whole } => Ok(read_share(words, columns, whole)?.into()),
+        Expect::Spare { tasks, whole } => Ok(LineKind::Spare {
+            shares: read_spare(words, tasks, whole)?,
+        }),
+        Expect::Price { tasks } => Ok(LineKind::Price {
+            prices: read_price(words, tasks)?,
+        }),
+        Expect::Extra { task, count } => Ok(LineKind::Extra {
+            task,
+            prices: read_extra(words, task, count)?,
+        }),
+        Expect::Worth => Ok(LineKind::Worth {
+            worth: read_worth(words)?,
+        }),
+        Expect::Phi { task, count } => Ok(LineKind::Phi {
+            task,
+            values: read_phi(words, task, count)?,
+        }),
+        Expect::Steps { task } => Ok(LineKind::Steps {
+            task,
+            pairs: read_steps(words, task)?,
+        }),
+        Expect::End => {
+            read_end(words)?;
+            Ok(LineKind::End)
+        }
     }
 }

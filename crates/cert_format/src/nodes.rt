@@ -1,11 +1,12 @@
 // The lines of a node of a tree: each is found by its first word.
 ghost use Rattle.std.specs.Prelude.{ℕ, codes};
 ghost use Rattle.dossier_terms.specs.Rules.{Begins};
-ghost use Rattle.cert_format.specs.Lines.{ReadsLine};
+ghost use Rattle.cert_format.specs.Typed.{ReadsAs, node_kind};
 
-use crate::kinds::{Expect, LineFault, LineKind};
+use crate::kinds::{Expect, LineFault};
 use crate::ranges::MINUTE;
 use crate::shape::has_shape;
+use crate::typed::NodeLine;
 use field_table::{LineWords, Schema, Words, fields};
 
 /// The first words of the lines of a node.
@@ -18,24 +19,24 @@ const LEAVES: Schema = Schema {
     keys: &["bare", "open", "closed"],
 };
 
-fn read_window<'a>(words: LineWords<'a>, tasks: u32) -> Result<LineKind<'a>, LineFault>
+fn read_window(words: LineWords<'_>, tasks: u32) -> Result<NodeLine, LineFault>
     requires { Begins (codes "window") words }
-    ensures { (teams : ℕ) → ReadsLine (Expect.Node teams tasks) words.entry result }
+    ensures { (teams : ℕ) → ReadsAs (Expect.Node teams tasks) node_kind words.entry result }
 {
     if !has_shape(&words, b"window", 2) {
         return Err(LineFault::Shape);
     }
     let last = tasks as i64 - 1;
     fields!(&words, task: Number(0, last), cut: MINUTE; else fault => LineFault::Number);
-    Ok(LineKind::Window {
+    Ok(NodeLine::Window {
         task: task as u32,
         cut: cut as u32,
     })
 }
 
-fn read_pair<'a>(words: LineWords<'a>, teams: u32, tasks: u32) -> Result<LineKind<'a>, LineFault>
+fn read_pair(words: LineWords<'_>, teams: u32, tasks: u32) -> Result<NodeLine, LineFault>
     requires { Begins (codes "pair") words }
-    ensures { ReadsLine (Expect.Node teams tasks) words.entry result }
+    ensures { ReadsAs (Expect.Node teams tasks) node_kind words.entry result }
 {
     if !has_shape(&words, b"pair", 2) {
         return Err(LineFault::Shape);
@@ -46,15 +47,15 @@ fn read_pair<'a>(words: LineWords<'a>, teams: u32, tasks: u32) -> Result<LineKin
         &words, team: Number(0, last_team), task: Number(0, last_task);
         else fault => LineFault::Number
     );
-    Ok(LineKind::Pair {
+    Ok(NodeLine::Pair {
         team: team as u32,
         task: task as u32,
     })
 }
 
-fn read_leaf<'a>(words: LineWords<'a>) -> Result<LineKind<'a>, LineFault>
+fn read_leaf(words: LineWords<'_>) -> Result<NodeLine, LineFault>
     requires { Begins (codes "leaf") words }
-    ensures { (teams tasks : ℕ) → ReadsLine (Expect.Node teams tasks) words.entry result }
+    ensures { (teams tasks : ℕ) → ReadsAs (Expect.Node teams tasks) node_kind words.entry result }
 {
     if !has_shape(&words, b"leaf", 1) {
         return Err(LineFault::Shape);
@@ -63,19 +64,15 @@ fn read_leaf<'a>(words: LineWords<'a>) -> Result<LineKind<'a>, LineFault>
         return Err(LineFault::Shape);
     };
     match leaf {
-        0 => Ok(LineKind::LeafBare),
-        1 => Ok(LineKind::LeafOpen),
-        _ => Ok(LineKind::LeafClosed),
+        0 => Ok(NodeLine::Bare),
+        1 => Ok(NodeLine::Open),
+        _ => Ok(NodeLine::Closed),
     }
 }
 
 /// Reads a line of a node, `window`, `pair` or `leaf`, of an instance with so many teams and tasks.
-pub(crate) fn read_node<'a>(
-    words: LineWords<'a>,
-    teams: u32,
-    tasks: u32,
-) -> Result<LineKind<'a>, LineFault>
-    ensures { ReadsLine (Expect.Node teams tasks) words.entry result }
+pub fn read_node(words: LineWords<'_>, teams: u32, tasks: u32) -> Result<NodeLine, LineFault>
+    ensures { ReadsAs (Expect.Node teams tasks) node_kind words.entry result }
 {
     if words.count() == 0 {
         return Err(LineFault::Shape);

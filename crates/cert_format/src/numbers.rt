@@ -53,7 +53,10 @@ impl<'a> LineNumbers<'a> {
 #[inline(always)]
 pub(crate) fn read_in(words: &LineWords<'_>, n: usize, field: &Field) -> Result<i64, LineFault>
     requires { n < length words.now }
-    ensures { MatchResult result (λ z. IsIn field.now z × (slice_index_or words.now n [] ≡ signed_decimal z)) (λ fault. (fault ≡ LineFault.Number) × ((z : ℤ) → IsIn field.now z → slice_index_or words.now n [] ≢ signed_decimal z)) }
+    ensures { MatchResult result
+        (λ z. IsIn field.now z × (slice_index_or words.now n [] ≡ signed_decimal z))
+        (λ fault. (fault ≡ LineFault.Number)
+        × ((z : ℤ) → IsIn field.now z → slice_index_or words.now n [] ≢ signed_decimal z)) }
 {
     let Some(z) = words.number(n) else {
         return Err(LineFault::Number);
@@ -67,7 +70,9 @@ pub(crate) fn read_in(words: &LineWords<'_>, n: usize, field: &Field) -> Result<
 /// Whether the word at a place is the decimal of a number in a field's range.
 fn is_in(words: &LineWords<'_>, n: usize, field: &Field) -> bool
     requires { n < length words.now }
-    ensures { MatchBool result ((z : ℤ) × IsIn field.now z × (slice_index_or words.now n [] ≡ signed_decimal z)) ((z : ℤ) → IsIn field.now z → slice_index_or words.now n [] ≢ signed_decimal z) }
+    ensures { MatchBool result
+        ((z : ℤ) × IsIn field.now z × (slice_index_or words.now n [] ≡ signed_decimal z))
+        ((z : ℤ) → IsIn field.now z → slice_index_or words.now n [] ≢ signed_decimal z) }
 {
     read_in(words, n, field).is_ok()
 }
@@ -77,7 +82,8 @@ fn is_in(words: &LineWords<'_>, n: usize, field: &Field) -> bool
 #[inline(never)]
 fn are_in(words: &LineWords<'_>, from: usize, field: &Field) -> bool
     requires { from ≤ length words.now }
-    ensures { MatchBool result ((ns : List ℤ) × SpellIn field.now ns (drop from words.now)) ((ns : List ℤ) → SpellIn field.now ns (drop from words.now) → ⊥) }
+    ensures { MatchBool result ((ns : List ℤ) × SpellIn field.now ns (drop from words.now))
+        ((ns : List ℤ) → SpellIn field.now ns (drop from words.now) → ⊥) }
 {
     for n in from..words.count() {
         if !is_in(words, n, field) {
@@ -95,8 +101,10 @@ pub(crate) fn read_rest<'a>(
 ) -> Result<LineNumbers<'a>, LineFault>
     requires numbers { field.kind ≡ Kind.Number }
     requires within { from ≤ length words }
-    ensures { MatchResult result (λ rest. SpellIn field rest (drop from words.entry))
-        (λ fault. (fault ≡ LineFault.Number) × ((ns : List ℤ) → SpellIn field ns (drop from words.entry) → ⊥)) }
+    ensures { MatchResult result
+        (λ rest. SpellIn field rest (drop from words.entry))
+        (λ fault. (fault ≡ LineFault.Number)
+        × ((ns : List ℤ) → SpellIn field ns (drop from words.entry) → ⊥)) }
 {
     if !are_in(&words, from, &field) {
         return Err(LineFault::Number);
@@ -112,8 +120,10 @@ pub(crate) fn read_below<'a>(
     past: u32,
 ) -> Result<LineNumbers<'a>, LineFault>
     requires { from ≤ length words }
-    ensures { MatchResult result (λ rest. (ns : List ℕ) × (rest ≡ map pos ns) × SpellBelow past ns (drop from words.entry))
-        (λ fault. (fault ≡ LineFault.Number) × ((ns : List ℕ) → SpellBelow past ns (drop from words.entry) → ⊥)) }
+    ensures { MatchResult result
+        (λ rest. (ns : List ℕ) × (rest ≡ map pos ns) × SpellBelow past ns (drop from words.entry))
+        (λ fault. (fault ≡ LineFault.Number)
+        × ((ns : List ℕ) → SpellBelow past ns (drop from words.entry) → ⊥)) }
 {
     let last = past as i64 - 1;
     read_rest(words, from, field!(Number(0, last)))
@@ -124,7 +134,8 @@ pub(crate) fn read_below<'a>(
 #[inline(never)]
 fn are_pairs(words: &LineWords<'_>, from: usize, first: &Field, second: &Field) -> bool
     requires pairs { (k : ℕ) × (length words.now ≡ from + 2 * k) }
-    ensures { MatchBool result (ArePairs first.now second.now from words.now) (ArePairs first.now second.now from words.now → ⊥) }
+    ensures { MatchBool result (ArePairs first.now second.now from words.now)
+        (ArePairs first.now second.now from words.now → ⊥) }
 {
     let pairs = (words.count() - from) / 2;
     for n in 0..pairs {
@@ -145,8 +156,11 @@ pub(crate) fn read_visits<'a>(
     tasks: u32,
 ) -> Result<LineNumbers<'a>, LineFault>
     requires pairs { (k : ℕ) × (length words ≡ from + 2 * k) }
-    ensures { MatchResult result (λ rest. (vs : List Visit) × (rest ≡ map pos (flat_map visit_numbers vs)) × SpellVisits tasks vs (drop from words.entry))
-        (λ fault. (fault ≡ LineFault.Number) × ((vs : List Visit) → SpellVisits tasks vs (drop from words.entry) → ⊥)) }
+    ensures { MatchResult result
+        (λ rest. (vs : List Visit) × (rest ≡ map pos (flat_map visit_numbers vs))
+        × SpellVisits tasks vs (drop from words.entry))
+        (λ fault. (fault ≡ LineFault.Number)
+        × ((vs : List Visit) → SpellVisits tasks vs (drop from words.entry) → ⊥)) }
 {
     let last = tasks as i64 - 1;
     if !are_pairs(&words, from, &field!(Number(0, last)), &MINUTE) {
@@ -159,8 +173,11 @@ pub(crate) fn read_visits<'a>(
 /// The runs of the words from a place on, each a minute and a potential.
 pub(crate) fn read_runs<'a>(words: LineWords<'a>, from: usize) -> Result<LineNumbers<'a>, LineFault>
     requires pairs { (k : ℕ) × (length words ≡ from + 2 * k) }
-    ensures { MatchResult result (λ rest. (runs : List Run) × (rest ≡ flat_map run_numbers runs) × SpellRuns runs (drop from words.entry))
-        (λ fault. (fault ≡ LineFault.Number) × ((runs : List Run) → SpellRuns runs (drop from words.entry) → ⊥)) }
+    ensures { MatchResult result
+        (λ rest. (runs : List Run) × (rest ≡ flat_map run_numbers runs)
+        × SpellRuns runs (drop from words.entry))
+        (λ fault. (fault ≡ LineFault.Number)
+        × ((runs : List Run) → SpellRuns runs (drop from words.entry) → ⊥)) }
 {
     if !are_pairs(&words, from, &MINUTE, &POTENTIAL) {
         return Err(LineFault::Number);

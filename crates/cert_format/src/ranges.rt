@@ -30,7 +30,9 @@ pub(crate) const POTENTIAL: Field = Field {
 /// Reads the name that stands after the first word.
 pub(crate) fn read_name(words: &LineWords<'_>) -> Result<Name, LineFault>
     requires { 1 < length words.now }
-    ensures { MatchResult result (λ name. HasName words.now × (slice_index_or words.now 1 [] ≡ name)) (λ fault. (fault ≡ LineFault.Name) × (HasName words.now → ⊥)) }
+    ensures { MatchResult result
+        (λ name. HasName words.now × (slice_index_or words.now 1 [] ≡ name))
+        (λ fault. (fault ≡ LineFault.Name) × (HasName words.now → ⊥)) }
 {
     match Name::read(words.word(1)) {
         Some(name) => Ok(name),

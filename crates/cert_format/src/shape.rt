@@ -25,7 +25,8 @@ pub(crate) fn is_same(word: &[u8], text: &[u8]) -> bool
 /// Whether the word with this number is the text.
 pub(crate) fn is_word(words: &LineWords<'_>, n: usize, text: &[u8]) -> bool
     requires { n < length words.now }
-    ensures { MatchBool result (slice_index_or words.now n [] ≡ text.now) (slice_index_or words.now n [] ≢ text.now) }
+    ensures { MatchBool result (slice_index_or words.now n [] ≡ text.now)
+        (slice_index_or words.now n [] ≢ text.now) }
 {
     is_same(words.word(n), text)
 }
@@ -33,7 +34,8 @@ pub(crate) fn is_word(words: &LineWords<'_>, n: usize, text: &[u8]) -> bool
 /// Whether the word with this number is the decimal of the number.
 fn is_number(words: &LineWords<'_>, n: usize, number: u32) -> bool
     requires { n < length words.now }
-    ensures { MatchBool result (slice_index_or words.now n [] ≡ decimal number) (slice_index_or words.now n [] ≢ decimal number) }
+    ensures { MatchBool result (slice_index_or words.now n [] ≡ decimal number)
+        (slice_index_or words.now n [] ≢ decimal number) }
 {
     let Some(z) = words.number(n) else {
         return false;
@@ -53,7 +55,8 @@ fn begins(words: &LineWords<'_>, first: &[u8]) -> bool
 
 /// Whether the line is the word and so many words after it.
 pub(crate) fn has_shape(words: &LineWords<'_>, first: &[u8], after: usize) -> bool
-    ensures { MatchBool result (IsShape first.now after words.now) (IsShape first.now after words.now → ⊥) }
+    ensures { MatchBool result (IsShape first.now after words.now)
+        (IsShape first.now after words.now → ⊥) }
 {
     if !begins(words, first) {
         return false;
@@ -63,7 +66,8 @@ pub(crate) fn has_shape(words: &LineWords<'_>, first: &[u8], after: usize) -> bo
 
 /// Whether the line is the word and at least so many words after it.
 pub(crate) fn has_shape_from(words: &LineWords<'_>, first: &[u8], least: usize) -> bool
-    ensures { MatchBool result (IsShapeFrom first.now least words.now) (IsShapeFrom first.now least words.now → ⊥) }
+    ensures { MatchBool result (IsShapeFrom first.now least words.now)
+        (IsShapeFrom first.now least words.now → ⊥) }
 {
     if !begins(words, first) {
         return false;
@@ -74,7 +78,8 @@ pub(crate) fn has_shape_from(words: &LineWords<'_>, first: &[u8], least: usize) 
 /// Whether the line is `why`, this kind of cause, and so many words after it.
 pub(crate) fn is_why(words: &LineWords<'_>, kind: &[u8], after: usize) -> bool
     requires { after < 8 }
-    ensures { MatchBool result (IsWhy kind.now after words.now) (IsWhy kind.now after words.now → ⊥) }
+    ensures { MatchBool result (IsWhy kind.now after words.now)
+        (IsWhy kind.now after words.now → ⊥) }
 {
     if !has_shape(words, b"why", after + 1) {
         return false;
@@ -84,7 +89,8 @@ pub(crate) fn is_why(words: &LineWords<'_>, kind: &[u8], after: usize) -> bool
 
 /// Whether the line is the word, one word more, and one or more pairs of words.
 pub(crate) fn has_pairs(words: &LineWords<'_>, first: &[u8]) -> bool
-    ensures { MatchBool result (Begins first.now words.now × IsPairs words.now) (Begins first.now words.now × IsPairs words.now → ⊥) }
+    ensures { MatchBool result (Begins first.now words.now × IsPairs words.now)
+        (Begins first.now words.now × IsPairs words.now → ⊥) }
 {
     if !begins(words, first) {
         return false;
@@ -98,7 +104,8 @@ pub(crate) fn has_pairs(words: &LineWords<'_>, first: &[u8]) -> bool
 
 /// Whether the line is the word, the task's number, and so many words after these.
 pub(crate) fn has_row(words: &LineWords<'_>, first: &[u8], task: u32, after: u32) -> bool
-    ensures { MatchBool result (IsRowOf first.now task after words.now) (IsRowOf first.now task after words.now → ⊥) }
+    ensures { MatchBool result (IsRowOf first.now task after words.now)
+        (IsRowOf first.now task after words.now → ⊥) }
 {
     if !has_shape(words, first, after as usize + 1) {
         return false;
@@ -108,7 +115,8 @@ pub(crate) fn has_row(words: &LineWords<'_>, first: &[u8], task: u32, after: u32
 
 /// Whether the line is the word, the task's number, and one or more pairs of words.
 pub(crate) fn has_pairs_at(words: &LineWords<'_>, first: &[u8], task: u32) -> bool
-    ensures { MatchBool result (BeginsAt first.now task words.now × IsPairs words.now) (BeginsAt first.now task words.now × IsPairs words.now → ⊥) }
+    ensures { MatchBool result (BeginsAt first.now task words.now × IsPairs words.now)
+        (BeginsAt first.now task words.now × IsPairs words.now → ⊥) }
 {
     if !has_pairs(words, first) {
         return false;

@@ -31,7 +31,8 @@ impl<'a> Model for WideNumbers<'a> {
 /// The number from 0 on of 127 bits whose decimal the word at a place is.
 fn natural_at(words: &LineWords<'_>, n: usize) -> Option<u128>
     requires { n < length words.now }
-    ensures { MatchOption result ((k : ℕ) → k < 2 ^ 127 → slice_index_or words.now n [] ≢ decimal k) (λ k. (k < 2 ^ 127) × (slice_index_or words.now n [] ≡ decimal k)) }
+    ensures { MatchOption result ((k : ℕ) → k < 2 ^ 127 → slice_index_or words.now n [] ≢ decimal k)
+        (λ k. (k < 2 ^ 127) × (slice_index_or words.now n [] ≡ decimal k)) }
 {
     let Some(z) = read_wide(words.word(n)) else {
         return None;
@@ -51,8 +52,10 @@ pub(crate) fn read_natural(
 ) -> Result<u128, LineFault>
     requires place { n < length words.now }
     requires past { past ≤ 2 ^ 127 }
-    ensures { MatchResult result (λ k. (low ≤ k) × (k < past) × (slice_index_or words.now n [] ≡ decimal k))
-        (λ fault. (fault ≡ LineFault.Number) × ((k : ℕ) → low ≤ k → k < past → slice_index_or words.now n [] ≢ decimal k)) }
+    ensures { MatchResult result
+        (λ k. (low ≤ k) × (k < past) × (slice_index_or words.now n [] ≡ decimal k))
+        (λ fault. (fault ≡ LineFault.Number)
+        × ((k : ℕ) → low ≤ k → k < past → slice_index_or words.now n [] ≢ decimal k)) }
 {
     let Some(k) = natural_at(words, n) else {
         return Err(LineFault::Number);
@@ -66,8 +69,10 @@ pub(crate) fn read_natural(
 /// Reads the number of 128 bits, with a sign, of the word at a place.
 pub(crate) fn read_signed(words: &LineWords<'_>, n: usize) -> Result<i128, LineFault>
     requires { n < length words.now }
-    ensures { MatchResult result (λ z. FitsSigned w128 z × (slice_index_or words.now n [] ≡ signed_decimal z))
-        (λ fault. (fault ≡ LineFault.Number) × ((z : ℤ) → FitsSigned w128 z → slice_index_or words.now n [] ≢ signed_decimal z)) }
+    ensures { MatchResult result
+        (λ z. FitsSigned w128 z × (slice_index_or words.now n [] ≡ signed_decimal z))
+        (λ fault. (fault ≡ LineFault.Number)
+        × ((z : ℤ) → FitsSigned w128 z → slice_index_or words.now n [] ≢ signed_decimal z)) }
 {
     let Some(z) = read_wide(words.word(n)) else {
         return Err(LineFault::Number);
@@ -79,7 +84,8 @@ pub(crate) fn read_signed(words: &LineWords<'_>, n: usize) -> Result<i128, LineF
 fn is_natural(words: &LineWords<'_>, n: usize, past: u128) -> bool
     requires place { n < length words.now }
     requires past { past ≤ 2 ^ 127 }
-    ensures { MatchBool result ((k : ℕ) × (k < past) × (slice_index_or words.now n [] ≡ decimal k)) ((k : ℕ) → k < past → slice_index_or words.now n [] ≢ decimal k) }
+    ensures { MatchBool result ((k : ℕ) × (k < past) × (slice_index_or words.now n [] ≡ decimal k))
+        ((k : ℕ) → k < past → slice_index_or words.now n [] ≢ decimal k) }
 {
     read_natural(words, n, 0, past).is_ok()
 }
@@ -88,7 +94,8 @@ fn is_natural(words: &LineWords<'_>, n: usize, past: u128) -> bool
 fn are_naturals(words: &LineWords<'_>, from: usize, past: u128) -> bool
     requires place { from ≤ length words.now }
     requires past { past ≤ 2 ^ 127 }
-    ensures { MatchBool result ((ks : List ℕ) × SpellBelow past ks (drop from words.now)) ((ks : List ℕ) → SpellBelow past ks (drop from words.now) → ⊥) }
+    ensures { MatchBool result ((ks : List ℕ) × SpellBelow past ks (drop from words.now))
+        ((ks : List ℕ) → SpellBelow past ks (drop from words.now) → ⊥) }
 {
     for n in from..words.count() {
         if !is_natural(words, n, past) {
@@ -106,8 +113,10 @@ pub(crate) fn read_naturals<'a>(
 ) -> Result<WideNumbers<'a>, LineFault>
     requires place { from ≤ length words }
     requires past { past ≤ 2 ^ 127 }
-    ensures { MatchResult result (λ ks. SpellBelow past ks (drop from words.entry))
-        (λ fault. (fault ≡ LineFault.Number) × ((ks : List ℕ) → SpellBelow past ks (drop from words.entry) → ⊥)) }
+    ensures { MatchResult result
+        (λ ks. SpellBelow past ks (drop from words.entry))
+        (λ fault. (fault ≡ LineFault.Number)
+        × ((ks : List ℕ) → SpellBelow past ks (drop from words.entry) → ⊥)) }
 {
     if !are_naturals(&words, from, past) {
         return Err(LineFault::Number);

@@ -29,21 +29,21 @@ fn read_leaf(
     goal: Goal,
     cuts: &mut Cuts,
     lines: &[&[u8]],
-) -> (usize, LeafStep)
+) -> (usize, Result<LeafStep, Reason>)
     requires { IsReady limits.now.limits reader.old }
     ensures { IsReady limits.now.limits reader.new }
 {
     reader.begin();
     for (n, line) in lines.iter().enumerate() {
         if line.len() > 100 {
-            return (n, LeafStep::More);
+            return (n, Ok(LeafStep::More));
         }
         let step = reader.line(limits, goal, cuts.split(line));
-        if step != LeafStep::More {
+        if step != Ok(LeafStep::More) {
             return (n + 1, step);
         }
     }
-    (lines.len(), LeafStep::More)
+    (lines.len(), Ok(LeafStep::More))
 }
 
 /// Reads a leaf of the root of a day.
@@ -52,7 +52,7 @@ fn read_root(
     day: &Instance,
     goal: Goal,
     lines: &[&[u8]],
-) -> Result<(usize, LeafStep), Fail> {
+) -> Result<(usize, Result<LeafStep, Reason>), Fail> {
     let limits = Limits::root(alloc, day)?;
     let mut reader = LeafReader::open(alloc, &limits)?;
     let mut cuts = Cuts::new(alloc)?;
@@ -86,12 +86,12 @@ fn reads_a_closed_leaf(rt: HostRuntime) -> Result<(), Fail> {
     same(
         &rt,
         &read_root(rt.alloc(), &day, CLOSED, &LEAF)?,
-        &(4, LeafStep::Done),
+        &(4, Ok(LeafStep::Done)),
     );
     same(
         &rt,
         &read_root(rt.alloc(), &day, CLOSED, &LEAF[..3])?,
-        &(3, LeafStep::More),
+        &(3, Ok(LeafStep::More)),
     );
     Ok(())
 }
@@ -101,14 +101,14 @@ fn tests_potentials_at_the_last_line(rt: HostRuntime) -> Result<(), Fail> {
     let day = two_at_once(rt.alloc())?;
     let mut lines = LEAF;
     lines[3] = b"phi 1 839999999";
-    let low = LeafStep::No(Reason::Potential(0, 1));
+    let low = Err(Reason::Potential(0, 1));
     same(
         &rt,
         &read_root(rt.alloc(), &day, CLOSED, &lines)?,
         &(4, low),
     );
     lines[2] = b"phi 0 839999999";
-    let low = LeafStep::No(Reason::Potential(0, 0));
+    let low = Err(Reason::Potential(0, 0));
     same(
         &rt,
         &read_root(rt.alloc(), &day, CLOSED, &lines)?,
@@ -122,7 +122,7 @@ fn tests_the_worth_after_the_potentials(rt: HostRuntime) -> Result<(), Fail> {
     let day = two_at_once(rt.alloc())?;
     let mut lines = LEAF;
     lines[2] = b"phi 0 840000001";
-    let low = LeafStep::No(Reason::Worth(0));
+    let low = Err(Reason::Worth(0));
     same(
         &rt,
         &read_root(rt.alloc(), &day, CLOSED, &lines)?,
@@ -132,7 +132,7 @@ fn tests_the_worth_after_the_potentials(rt: HostRuntime) -> Result<(), Fail> {
     same(
         &rt,
         &read_root(rt.alloc(), &day, CLOSED, &lines)?,
-        &(4, LeafStep::Done),
+        &(4, Ok(LeafStep::Done)),
     );
     Ok(())
 }
@@ -141,7 +141,7 @@ fn tests_the_worth_after_the_potentials(rt: HostRuntime) -> Result<(), Fail> {
 fn tests_the_bound_at_the_end(rt: HostRuntime) -> Result<(), Fail> {
     let day = two_at_once(rt.alloc())?;
     let two = Goal { bound: 2, ..CLOSED };
-    let no = LeafStep::No(Reason::Bound);
+    let no = Err(Reason::Bound);
     same(&rt, &read_root(rt.alloc(), &day, two, &LEAF)?, &(4, no));
     let left = Goal {
         unassigned: 2,
@@ -156,7 +156,7 @@ fn tests_the_bound_at_the_end(rt: HostRuntime) -> Result<(), Fail> {
     same(
         &rt,
         &read_root(rt.alloc(), &day, open, &LEAF)?,
-        &(4, LeafStep::Done),
+        &(4, Ok(LeafStep::Done)),
     );
     Ok(())
 }
@@ -181,7 +181,7 @@ fn tells_faults_of_lines(rt: HostRuntime) -> Result<(), Fail> {
         assert!(rt; n < 4);
         lines[n] = line;
         let told = read_root(rt.alloc(), &day, CLOSED, &lines)?;
-        same_at(&rt, &told, &(n + 1, LeafStep::No(reason)), &Shown(line));
+        same_at(&rt, &told, &(n + 1, Err(reason)), &Shown(line));
     }
     Ok(())
 }
@@ -193,7 +193,7 @@ fn reads_an_open_leaf_of_two_teams(rt: HostRuntime) -> Result<(), Fail> {
     same(
         &rt,
         &read_root(rt.alloc(), &day, OPEN, &lines)?,
-        &(5, LeafStep::Done),
+        &(5, Ok(LeafStep::Done)),
     );
     Ok(())
 }
@@ -210,7 +210,7 @@ fn reads_a_team_with_no_open_task(rt: HostRuntime) -> Result<(), Fail> {
     same(
         &rt,
         &read_root(rt.alloc(), &day, CLOSED, &lines)?,
-        &(4, LeafStep::Done),
+        &(4, Ok(LeafStep::Done)),
     );
     Ok(())
 }
@@ -218,11 +218,11 @@ fn reads_a_team_with_no_open_task(rt: HostRuntime) -> Result<(), Fail> {
 #[test]
 fn ends_a_leaf_of_no_teams_with_its_prices(rt: HostRuntime) -> Result<(), Fail> {
     let day = no_teams(rt.alloc())?;
-    let no = LeafStep::No(Reason::Bound);
+    let no = Err(Reason::Bound);
     same(
         &rt,
         &read_root(rt.alloc(), &day, CLOSED, &[b"price 1"])?,
-        &(1, LeafStep::Done),
+        &(1, Ok(LeafStep::Done)),
     );
     same(
         &rt,
@@ -244,7 +244,7 @@ fn reads_leaves_one_after_another(rt: HostRuntime) -> Result<(), Fail> {
         b"phi 0 1680000000",
         b"phi 1 1680000000",
     ];
-    let no = LeafStep::No(Reason::Bound);
+    let no = Err(Reason::Bound);
     same(
         &rt,
         &read_leaf(&mut reader, &limits, CLOSED, &mut cuts, &dear),
@@ -253,17 +253,17 @@ fn reads_leaves_one_after_another(rt: HostRuntime) -> Result<(), Fail> {
     same(
         &rt,
         &read_leaf(&mut reader, &limits, CLOSED, &mut cuts, &LEAF),
-        &(4, LeafStep::Done),
+        &(4, Ok(LeafStep::Done)),
     );
     same(
         &rt,
         &read_leaf(&mut reader, &limits, CLOSED, &mut cuts, &LEAF[..2]),
-        &(2, LeafStep::More),
+        &(2, Ok(LeafStep::More)),
     );
     same(
         &rt,
         &read_leaf(&mut reader, &limits, CLOSED, &mut cuts, &LEAF),
-        &(4, LeafStep::Done),
+        &(4, Ok(LeafStep::Done)),
     );
     Ok(())
 }

@@ -4,6 +4,8 @@
 #[cfg(test)]
 mod asserts;
 #[cfg(test)]
+mod heads;
+#[cfg(test)]
 mod leaves;
 #[cfg(test)]
 mod lines;

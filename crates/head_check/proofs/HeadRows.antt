@@ -21,7 +21,7 @@ use Rattle.dossier_terms.specs.declared.Size.{Size}
 use Rattle.dossier_terms.specs.Dossier.{mask_of}
 use Rattle.dossier_terms.specs.Lines.{size_line, place_line, travel_line, team_words, task_words}
 use Rattle.dossier_terms.specs.Reading.{Answer, Opening, More as Goes, nothing, places_due, teams_due, tasks_due}
-use Rattle.dossier_terms.specs.Rules.{Holds, Fails, Spelled, On, IsShape}
+use Rattle.dossier_terms.specs.Rules.{Holds, Fails, Spelled, Goes as GoesOn, On, IsShape}
 use Rattle.dossier_terms.specs.Ranges.{IsSize, IsTravel, IsTeamLine, IsTaskLine}
 use Rattle.dossier_terms.specs.HeadTable.{size_row, place_row, travel_row, team_row, task_row, after_place, after_travel, after_team, after_task}
 use Rattle.head_check.specs.Head.{instance_so_far}
@@ -82,8 +82,9 @@ travel_parts d r row below n =
 
 -- ---- one row after another, for the fields that the line spells
 
-pub size_more : (form : DossierForm) (ws : Words) (z : Size) (said : Answer) → IsSize z → ws ≡ size_line z → said ≡ Goes (places_due (record { form = form; size = z }) z.places nothing) → size_row form ws said
-size_more form ws z said fits is e = Holds (_, is, refl) (Spelled z fits is (On e))
+pub size_more : (form : DossierForm) (ws : Words) (z : Size) (said : Answer) → IsSize z → ws ≡ size_line z
+    → GoesOn (places_due (record { form = form; size = z }) z.places nothing) said → size_row form ws said
+size_more form ws z said fits is rest = Holds (_, is, refl) (Spelled z fits is rest)
 
 place_shape : (ws : Words) (name : List ℕ) → ws ≡ place_line name → IsShape (codes "place") 1 ws
 place_shape ws name is = (name ∷ [], is, refl)

@@ -1,6 +1,6 @@
 -- what a builder answers, as steps of the checker
-use Rattle.std.proofs.Common.{◌≡◌, ◌≢◌, ◌≤◌, ◌<◌, ◌+◌, ◌-◌, ◌++◌, ℕ, zero, suc, List, [], ◌∷◌, length, map, get_or, ap, subst, sym, refl, ◌∙◌, arith, ◌⊎◌, inl, inr, Option, None, Some, Result, Ok, Err}
-use Rattle.std.specs.Prelude.{ℤ, pos, All, IsTrue, IfOk, MatchOption, is_some, unwrap_or}
+use Rattle.std.proofs.Common.{◌≡◌, ◌≢◌, ◌≤◌, ◌<◌, ◌+◌, ◌-◌, ◌++◌, ℕ, zero, suc, List, [], ◌∷◌, length, map, get_or, ap, subst, sym, refl, ◌∙◌, arith, ◌⊎◌, inl, inr, Option, None, Some, Result}
+use Rattle.std.specs.Prelude.{ℤ, pos, All, IsTrue, MatchOption, is_some, unwrap_or}
 use Rattle.std.specs.List.Sorted.{IsStrictlyIncreasing}
 use Rattle.std.proofs.lemmas.Bool.{cases_lt, cases_eq}
 use Rattle.crew_terms.specs.declared.Team.{Team}
@@ -12,21 +12,17 @@ use Rattle.crew_terms.specs.declared.TheConstants.{MOST_TEAMS, MOST_TASKS, LAST_
 use Rattle.dossier_terms.specs.declared.DossierForm.{DossierForm}
 use Rattle.dossier_terms.specs.declared.Size.{Size}
 use Rattle.dossier_terms.specs.Dossier.{mask_of}
-use Rattle.dossier_terms.specs.Reading.{Opening, More as Goes, teams_due, tasks_due}
-use Rattle.dossier_terms.specs.Rules.{Holds, On}
+use Rattle.dossier_terms.specs.Reading.{Opening, teams_due, tasks_due}
+use Rattle.dossier_terms.specs.Rules.{Holds, Goes}
 use Rattle.head_check.specs.Numbers.{naturals, AreBelow}
-use Rattle.head_check.specs.Head.{IsHead, IsDue, HeadTells, instance_so_far}
+use Rattle.head_check.specs.Head.{IsHead, HeadTells, instance_so_far}
 use Rattle.dossier_terms.specs.HeadTable.{after_team, after_task}
 use Rattle.head_check.specs.declared.due.HeadDue.{HeadDue}
-use Rattle.head_check.specs.declared.due.HeadStep.TheVariants.{More}
-use Rattle.head_check.proofs.Steps.{plainly}
+use Rattle.cert_format.specs.declared.refusals.Refusal.{Refusal}
+use Rattle.head_check.proofs.Steps.{told_by}
 use Rattle.head_check.proofs.GivenRow.{time_in_row, time_elsewhere}
 use Rattle.head_check.proofs.HeadRows.{none_of}
 use Rattle.head_check.specs.NumbersBack.{naturals-pos}
-
-pub if_ok : {X E : Type 0} (r : Result X E) (P Q : X → Type 0) → IfOk r P → ((x : X) → P x → Q x) → IfOk r Q
-if_ok (Ok x) P Q h f = f x h
-if_ok (Err e) P Q h f = tt
 
 pub at_most : (a b : ℕ) → ((a ≤ b → ⊥) → ⊥) → a ≤ b
 at_most a b h = elim (cases_lt b a) [
@@ -51,26 +47,26 @@ window_held t h = record {
 }
 
 -- a team that is taken
-pub team_more : (o : Opening) (k : ℕ) (d new : Parts) (p : ℕ) (t : Team) (Rises : Type 0) (due : HeadDue) → Rises
+pub team_more : (o : Opening) (k : ℕ) (d new : Parts) (p : ℕ) (t : Team) (Rises : Type 0) (step : Result HeadDue Refusal) → Rises
     → length d.teams < MOST_TEAMS → length d.places ≡ p → t.home < p
     → ((length d.teams < MOST_TEAMS) × HasTeam d t.name → ⊥)
     → (TakesTeam d t.name × (t.home < length d.places) × (IsShift t → ⊥) → ⊥)
-    → new ≡ record d { teams = d.teams ++ t ∷ [] } → IsDue (teams_due o k (instance_so_far new p)) due → HeadTells (after_team o k (instance_so_far d p) t Rises) (More due)
-team_more o k d new p t Rises due rises room places home same shift is next =
+    → new ≡ record d { teams = d.teams ++ t ∷ [] } → HeadTells (Goes (teams_due o k (instance_so_far new p))) step → HeadTells (after_team o k (instance_so_far d p) t Rises) step
+team_more o k d new p t Rises step rises room places home same shift is next =
     let held = shift_held t (λ broken. shift (record { room = room; new = λ has. same (room, has) }, omega arith, broken)) in
-    plainly (Holds (none_of (λ (x : Team). x.name ≡ t.name) d.teams (λ has. same (room, has)))
-    (Holds (held, rises) (On (ap Goes (next.is ∙ ap (λ x. teams_due o k (instance_so_far x p)) is))))) next.holds
+    told_by step next (λ said rest. Holds (none_of (λ (x : Team). x.name ≡ t.name) d.teams (λ has. same (room, has)))
+    (Holds (held, rises) (subst (λ x. Goes (teams_due o k (instance_so_far x p)) said) is rest)))
 
 -- a task that is taken
-pub task_more : (o : Opening) (k : ℕ) (d new : Parts) (p : ℕ) (t : Task) (Rises : Type 0) (due : HeadDue) → Rises
+pub task_more : (o : Opening) (k : ℕ) (d new : Parts) (p : ℕ) (t : Task) (Rises : Type 0) (step : Result HeadDue Refusal) → Rises
     → length d.tasks < MOST_TASKS → length d.places ≡ p → t.place < p
     → ((length d.tasks < MOST_TASKS) × HasTask d t.name → ⊥)
     → (TakesTask d t.name × (t.place < length d.places) × (IsWindow t → ⊥) → ⊥)
-    → new ≡ with_task d t → IsDue (tasks_due o k (instance_so_far new p)) due → HeadTells (after_task o k (instance_so_far d p) t Rises) (More due)
-task_more o k d new p t Rises due rises room places place same window is next =
+    → new ≡ with_task d t → HeadTells (Goes (tasks_due o k (instance_so_far new p))) step → HeadTells (after_task o k (instance_so_far d p) t Rises) step
+task_more o k d new p t Rises step rises room places place same window is next =
     let held = window_held t (λ broken. window (record { room = room; new = λ has. same (room, has) }, omega arith, broken)) in
-    plainly (Holds (none_of (λ (x : Task). x.name ≡ t.name) d.tasks (λ has. same (room, has)))
-    (Holds (held, rises) (On (ap Goes (next.is ∙ ap (λ x. tasks_due o k (instance_so_far x p)) is))))) next.holds
+    told_by step next (λ said rest. Holds (none_of (λ (x : Task). x.name ≡ t.name) d.tasks (λ has. same (room, has)))
+    (Holds (held, rises) (subst (λ x. Goes (tasks_due o k (instance_so_far x p)) said) is rest)))
 
 -- a row of travel times more is given
 pub head_more : (form : DossierForm) (z : Size) (d : Parts) (r p : ℕ) (row : List ℕ) → IsHead (record { form = form; size = z; builder = d }) p r 0 0

@@ -1,7 +1,7 @@
 // How far the head of a dossier has been read: the line that is due, and what the lines before it said.
 
 use crew_instance::{Builder, Instance};
-use dossier_terms::{DossierForm, Reason, Size};
+use dossier_terms::{DossierForm, Size};
 
 /// The form of the dossier, the counts of the line `size`, and the parts of the instance that are read so far.
 #[derive(Drop)]
@@ -56,13 +56,4 @@ pub enum HeadDue {
     Whole {
         base: Box<Base>,
     },
-}
-
-/// What is said of a line of the head.
-#[derive(Drop)]
-pub enum HeadStep {
-    /// It breaks no rule, and this is due next.
-    More(HeadDue),
-    /// It breaks a rule.
-    No(Reason),
 }

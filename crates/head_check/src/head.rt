@@ -1,34 +1,31 @@
 // The lines of an instance: `size`, `place`, `travel`, `team` and `task`, behind the first line of the dossier.
-ghost use Rattle.std.specs.Prelude.{◌≡◌, ◌<◌, ◌≤◌, ◌+◌, ◌-◌, ℕ, List, pos, map, length, IfOk, OnOk, IsTrue};
+ghost use Rattle.std.specs.Prelude.{◌≡◌, ◌<◌, ◌+◌, ℕ, suc, List, pos, map, length, OnOk, IsTrue};
 ghost use Rattle.crew_terms.specs.Rules.{IsTeamCount};
 ghost use Rattle.crew_terms.specs.declared.TheConstants.{LAST_MINUTE};
-ghost use Rattle.dossier_terms.specs.Ranges.{IsTravel};
-ghost use Rattle.dossier_terms.specs.HeadTable.{after_place, after_travel, after_team, after_task};
 ghost use Rattle.crew_instance.specs.Draft.{with_row};
-ghost use Rattle.head_check.specs.Numbers.{AreBelow, naturals};
+ghost use Rattle.dossier_terms.specs.HeadTable.{after_place, after_travel, after_team, after_task};
 ghost use Rattle.dossier_terms.specs.Reading.{places_due, travels_due, teams_due, tasks_due};
-ghost use Rattle.head_check.specs.Head.{Holds, IsHead, IsHeadStep, IsDue, HeadTells, instance_so_far, opening_of, rows_read};
+ghost use Rattle.dossier_terms.specs.Rules.{Goes};
+ghost use Rattle.head_check.specs.Head.{Holds, HasPlacesLeft, HasRowsLeft, HasTeamsLeft, HasTasksLeft, HeadTells, IsHeadStep, IsRowOf, opening_of, places_of, read_of, read_before_rows};
+ghost use Rattle.head_check.specs.Numbers.{AreBelow, naturals};
 
-use crate::due::{Base, Head, HeadDue, HeadStep};
+use crate::due::{Base, Head, HeadDue};
+use crate::faults::refusal_of;
 use crate::numbers::{number_list, skill_set};
-use cert_format::{Expect, LineKind, LineNumbers, fault_is_refused, read_line};
-use crew_instance::{BuildFault, Builder, Name, Task, Team};
+use cert_format::{
+    LineNumbers, Refusal, TaskLine, TeamLine, fault_is_refused, read_form, read_place, read_size,
+    read_task, read_team, read_travel,
+};
+use crew_instance::{Builder, Name, Task, Team};
 use dossier_terms::{DossierForm, Reason};
 use field_table::LineWords;
 use std::alloc::{AllocError, Global};
 
-/// The fault of a builder where memory is all that can be wanting.
-fn out_of_memory(fault: BuildFault) -> AllocError
-    requires { fault ≡ BuildFault.OutOfMemory }
-{
-    let _ = fault;
-    AllocError
-}
-
 /// What is due where so many tasks are to come.
-fn due_tasks(alloc: Global, head: Box<Head>, more: u32) -> Result<HeadDue, AllocError>
-    requires { (p : ℕ) × (p + more ≡ head.value.size.tasks) × IsHead head.value head.value.size.places head.value.size.places head.value.size.teams p }
-    ensures { IfOk result (λ due. IsDue (tasks_due (opening_of head.value) more (instance_so_far head.value.builder head.value.size.places)) due) }
+fn due_tasks(alloc: Global, head: Box<Head>, more: u32) -> Result<HeadDue, Refusal>
+    requires { HasTasksLeft head.value more }
+    ensures { let i = read_of head.value in
+        HeadTells (Goes (tasks_due (opening_of head.value) more i)) result }
 {
     if more > 0 {
         return Ok(HeadDue::Task {
@@ -44,25 +41,21 @@ fn due_tasks(alloc: Global, head: Box<Head>, more: u32) -> Result<HeadDue, Alloc
         size,
         builder,
     } = Box::into_inner(head);
-    match builder.into_instance() {
-        Ok(instance) => {
-            let base = Base {
-                form,
-                instance,
-                nodes: size.nodes,
-            };
-            Ok(HeadDue::Whole {
-                base: Box::new(alloc, base)?,
-            })
-        }
-        Err(fault) => Err(out_of_memory(fault)),
-    }
+    let instance = builder.into_instance().map_err(refusal_of)?;
+    let base = Base {
+        form,
+        instance,
+        nodes: size.nodes,
+    };
+    let base = Box::new(alloc, base)?;
+    Ok(HeadDue::Whole { base })
 }
 
 /// What is due where so many teams are to come.
-fn due_teams(alloc: Global, head: Box<Head>, more: u32) -> Result<HeadDue, AllocError>
-    requires { (p : ℕ) × (p + more ≡ head.value.size.teams) × IsHead head.value head.value.size.places head.value.size.places p 0 }
-    ensures { IfOk result (λ due. IsDue (teams_due (opening_of head.value) more (instance_so_far head.value.builder head.value.size.places)) due) }
+fn due_teams(alloc: Global, head: Box<Head>, more: u32) -> Result<HeadDue, Refusal>
+    requires { HasTeamsLeft head.value more }
+    ensures { let i = read_of head.value in
+        HeadTells (Goes (teams_due (opening_of head.value) more i)) result }
 {
     if more > 0 {
         return Ok(HeadDue::Team {
@@ -75,9 +68,10 @@ fn due_teams(alloc: Global, head: Box<Head>, more: u32) -> Result<HeadDue, Alloc
 }
 
 /// What is due where so many rows of travel times are to come.
-fn due_travels(alloc: Global, head: Box<Head>, more: u32) -> Result<HeadDue, AllocError>
-    requires { (p : ℕ) × (p + more ≡ head.value.size.places) × IsHead head.value head.value.size.places p 0 0 }
-    ensures { IfOk result (λ due. IsDue (travels_due (opening_of head.value) more (instance_so_far head.value.builder (head.value.size.places - more))) due) }
+fn due_travels(alloc: Global, head: Box<Head>, more: u32) -> Result<HeadDue, Refusal>
+    requires { HasRowsLeft head.value more }
+    ensures { let i = read_before_rows head.value more in
+        HeadTells (Goes (travels_due (opening_of head.value) more i)) result }
 {
     if more > 0 {
         return Ok(HeadDue::Travel {
@@ -90,9 +84,10 @@ fn due_travels(alloc: Global, head: Box<Head>, more: u32) -> Result<HeadDue, All
 }
 
 /// What is due where so many places are to come.
-fn due_places(alloc: Global, head: Box<Head>, more: u32) -> Result<HeadDue, AllocError>
-    requires { (p : ℕ) × (p + more ≡ head.value.size.places) × IsHead head.value p 0 0 0 }
-    ensures { IfOk result (λ due. IsDue (places_due (opening_of head.value) more (instance_so_far head.value.builder 0)) due) }
+fn due_places(alloc: Global, head: Box<Head>, more: u32) -> Result<HeadDue, Refusal>
+    requires { HasPlacesLeft head.value more }
+    ensures { let i = places_of head.value in
+        HeadTells (Goes (places_due (opening_of head.value) more i)) result }
 {
     if more > 0 {
         return Ok(HeadDue::Place {
@@ -105,62 +100,38 @@ fn due_places(alloc: Global, head: Box<Head>, more: u32) -> Result<HeadDue, Allo
 }
 
 /// The first line.
-pub fn form_line(words: LineWords<'_>) -> HeadStep
+pub fn form_line(words: LineWords<'_>) -> Result<HeadDue, Refusal>
     ensures { IsHeadStep HeadDue.Form words.entry result }
 {
     fault_is_refused();
-    let kind = match read_line(Expect::Form, words) {
-        Ok(kind) => kind,
-        Err(fault) => return HeadStep::No(fault.reason()),
-    };
-    let LineKind::Form { form } = kind else {
-        unreachable!()
-    };
-    HeadStep::More(HeadDue::Size { form })
+    let form = read_form(words)?;
+    Ok(HeadDue::Size { form })
 }
 
 /// The line `size`.
-pub fn size_line(
-    alloc: Global,
-    form: DossierForm,
-    words: LineWords<'_>,
-) -> Result<HeadStep, AllocError>
-    ensures { IfOk result (IsHeadStep (HeadDue.Size form) words.entry) }
+pub fn size_line(alloc: Global, form: DossierForm, words: LineWords<'_>) -> Result<HeadDue, Refusal>
+    ensures { IsHeadStep (HeadDue.Size form) words.entry result }
 {
     fault_is_refused();
-    let kind = match read_line(Expect::Size, words) {
-        Ok(kind) => kind,
-        Err(fault) => return Ok(HeadStep::No(fault.reason())),
-    };
-    let LineKind::Size { size } = kind else {
-        unreachable!()
-    };
+    let size = read_size(words)?;
     let head = Head {
         form,
         size,
         builder: Builder::new(alloc),
     };
     let head = Box::new(alloc, head)?;
-    Ok(HeadStep::More(due_places(alloc, head, size.places)?))
+    due_places(alloc, head, size.places)
 }
 
 /// Adds a place that a line spells.
-fn add_place(
-    alloc: Global,
-    mut head: Box<Head>,
-    more: u32,
-    name: Name,
-) -> Result<HeadStep, AllocError>
+fn add_place(alloc: Global, mut head: Box<Head>, more: u32, name: Name) -> Result<HeadDue, Refusal>
     requires { Holds (HeadDue.Place head more) }
-    ensures { IfOk result (HeadTells (after_place (opening_of head.value) more (instance_so_far head.value.builder 0) name)) }
+    ensures { let i = places_of head.value in
+        HeadTells (after_place (opening_of head.value) more i name) result }
 {
     let held = &mut *head;
-    match held.builder.place(name) {
-        Ok(()) => Ok(HeadStep::More(due_places(alloc, head, more)?)),
-        Err(BuildFault::SameName) => Ok(HeadStep::No(Reason::Name)),
-        Err(BuildFault::OutOfMemory) => Err(AllocError),
-        Err(_) => unreachable!(),
-    }
+    held.builder.place(name).map_err(refusal_of)?;
+    due_places(alloc, head, more)
 }
 
 /// A line `place`.
@@ -169,18 +140,12 @@ pub fn place_line(
     head: Box<Head>,
     more: u32,
     words: LineWords<'_>,
-) -> Result<HeadStep, AllocError>
+) -> Result<HeadDue, Refusal>
     requires { Holds (HeadDue.Place head more) }
-    ensures { IfOk result (IsHeadStep (HeadDue.Place head more) words.entry) }
+    ensures { IsHeadStep (HeadDue.Place head more) words.entry result }
 {
     fault_is_refused();
-    let kind = match read_line(Expect::Place, words) {
-        Ok(kind) => kind,
-        Err(fault) => return Ok(HeadStep::No(fault.reason())),
-    };
-    let LineKind::Place { name } = kind else {
-        unreachable!()
-    };
+    let name = read_place(words)?;
     add_place(alloc, head, more, name)
 }
 
@@ -209,15 +174,17 @@ fn add_travel(
     mut head: Box<Head>,
     more: u32,
     times: &LineNumbers<'_>,
-) -> Result<HeadStep, AllocError>
+) -> Result<HeadDue, Refusal>
     requires held { Holds (HeadDue.Travel head more) }
-    requires times { (row : List ℕ) × (times.now ≡ map pos row) × IsTravel head.value.size.places row }
-    ensures { IfOk result (λ step. (row : List ℕ) → times.now ≡ map pos row → HeadTells (after_travel (opening_of head.value) more (instance_so_far head.value.builder (rows_read head.value more)) row) step) }
+    requires times { IsRowOf times.now head.value }
+    ensures { let i = read_before_rows head.value (suc more) in
+        (row : List ℕ) → times.now ≡ map pos row
+        → HeadTells (after_travel (opening_of head.value) more i row) result }
 {
     let held = &mut *head;
     let from = held.builder.places() as u32 - 1 - more;
     set_row(alloc, &mut held.builder, from, times)?;
-    Ok(HeadStep::More(due_travels(alloc, head, more)?))
+    due_travels(alloc, head, more)
 }
 
 /// A line `travel`.
@@ -226,19 +193,12 @@ pub fn travel_line(
     head: Box<Head>,
     more: u32,
     words: LineWords<'_>,
-) -> Result<HeadStep, AllocError>
+) -> Result<HeadDue, Refusal>
     requires { Holds (HeadDue.Travel head more) }
-    ensures { IfOk result (IsHeadStep (HeadDue.Travel head more) words.entry) }
+    ensures { IsHeadStep (HeadDue.Travel head more) words.entry result }
 {
     fault_is_refused();
-    let places = head.size.places;
-    let kind = match read_line(Expect::Travel { places }, words) {
-        Ok(kind) => kind,
-        Err(fault) => return Ok(HeadStep::No(fault.reason())),
-    };
-    let LineKind::Travel { times } = kind else {
-        unreachable!()
-    };
+    let times = read_travel(words, head.size.places)?;
     add_travel(alloc, head, more, &times)
 }
 
@@ -249,19 +209,18 @@ fn add_team(
     more: u32,
     team: Team,
     rises: bool,
-) -> Result<HeadStep, AllocError>
+) -> Result<HeadDue, Refusal>
     requires held { Holds (HeadDue.Team head more) }
     requires home { team.home < head.value.size.places }
-    ensures { IfOk result (HeadTells (after_team (opening_of head.value) more (instance_so_far head.value.builder head.value.size.places) team (IsTrue rises))) }
+    ensures { let i = read_of head.value in
+        HeadTells (after_team (opening_of head.value) more i team (IsTrue rises)) result }
 {
     let held = &mut *head;
-    match held.builder.team(team) {
-        Ok(()) if rises => Ok(HeadStep::More(due_teams(alloc, head, more)?)),
-        Ok(()) | Err(BuildFault::BadShift) => Ok(HeadStep::No(Reason::Instance)),
-        Err(BuildFault::SameName) => Ok(HeadStep::No(Reason::Name)),
-        Err(BuildFault::OutOfMemory) => Err(AllocError),
-        Err(_) => unreachable!(),
+    held.builder.team(team).map_err(refusal_of)?;
+    if !rises {
+        return Err(Refusal::No(Reason::Instance));
     }
+    due_teams(alloc, head, more)
 }
 
 /// A line `team`.
@@ -270,26 +229,18 @@ pub fn team_line(
     head: Box<Head>,
     more: u32,
     words: LineWords<'_>,
-) -> Result<HeadStep, AllocError>
+) -> Result<HeadDue, Refusal>
     requires { Holds (HeadDue.Team head more) }
-    ensures { IfOk result (IsHeadStep (HeadDue.Team head more) words.entry) }
+    ensures { IsHeadStep (HeadDue.Team head more) words.entry result }
 {
     fault_is_refused();
-    let places = head.size.places;
-    let kind = match read_line(Expect::Team { places }, words) {
-        Ok(kind) => kind,
-        Err(fault) => return Ok(HeadStep::No(fault.reason())),
-    };
-    let LineKind::Team {
+    let TeamLine {
         name,
         home,
         from,
         until,
         skills,
-    } = kind
-    else {
-        unreachable!()
-    };
+    } = read_team(words, head.size.places)?;
     let set = skill_set(&skills);
     let team = Team {
         name,
@@ -308,20 +259,19 @@ fn add_task(
     more: u32,
     task: Task,
     rises: bool,
-) -> Result<HeadStep, AllocError>
+) -> Result<HeadDue, Refusal>
     requires held { Holds (HeadDue.Task head more) }
     requires place { task.place < head.value.size.places }
     requires teams { IsTeamCount task.teams }
-    ensures { IfOk result (HeadTells (after_task (opening_of head.value) more (instance_so_far head.value.builder head.value.size.places) task (IsTrue rises))) }
+    ensures { let i = read_of head.value in
+        HeadTells (after_task (opening_of head.value) more i task (IsTrue rises)) result }
 {
     let held = &mut *head;
-    match held.builder.task(task) {
-        Ok(()) if rises => Ok(HeadStep::More(due_tasks(alloc, head, more)?)),
-        Ok(()) | Err(BuildFault::BadWindow) => Ok(HeadStep::No(Reason::Instance)),
-        Err(BuildFault::SameName) => Ok(HeadStep::No(Reason::Name)),
-        Err(BuildFault::OutOfMemory) => Err(AllocError),
-        Err(_) => unreachable!(),
+    held.builder.task(task).map_err(refusal_of)?;
+    if !rises {
+        return Err(Refusal::No(Reason::Instance));
     }
+    due_tasks(alloc, head, more)
 }
 
 /// A line `task`.
@@ -330,17 +280,12 @@ pub fn task_line(
     head: Box<Head>,
     more: u32,
     words: LineWords<'_>,
-) -> Result<HeadStep, AllocError>
+) -> Result<HeadDue, Refusal>
     requires { Holds (HeadDue.Task head more) }
-    ensures { IfOk result (IsHeadStep (HeadDue.Task head more) words.entry) }
+    ensures { IsHeadStep (HeadDue.Task head more) words.entry result }
 {
     fault_is_refused();
-    let places = head.size.places;
-    let kind = match read_line(Expect::Task { places }, words) {
-        Ok(kind) => kind,
-        Err(fault) => return Ok(HeadStep::No(fault.reason())),
-    };
-    let LineKind::Task {
+    let TaskLine {
         name,
         place,
         earliest,
@@ -348,10 +293,7 @@ pub fn task_line(
         minutes,
         teams,
         skills,
-    } = kind
-    else {
-        unreachable!()
-    };
+    } = read_task(words, head.size.places)?;
     let set = skill_set(&skills);
     let skills = set.unwrap_or(0);
     let task = Task {

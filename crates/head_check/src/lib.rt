@@ -2,29 +2,30 @@
 // by the row of the table of lines that is due.
 #![tactic(auto)]
 
-ghost use Rattle.std.specs.Prelude.{IfOk};
 ghost use Rattle.head_check.specs.Head.{Holds, IsLineDue, IsHeadStep};
 
 mod due;
+mod faults;
 mod frozen;
 mod head;
 pub mod numbers;
 
-pub use due::{Base, Head, HeadDue, HeadStep};
+use cert_format::Refusal;
+pub use due::{Base, Head, HeadDue};
 use field_table::LineWords;
 use frozen::{frozen_line, keep_line};
 use head::{form_line, place_line, size_line, task_line, team_line, travel_line};
-use std::alloc::{AllocError, Global};
+use std::alloc::Global;
 
-/// Judges the line of the head that is due. Its only error is want of memory.
+/// Judges the line of the head that is due: what is due next, or why there is nothing more.
 #[inline(always)]
-pub fn judge_head(alloc: Global, due: HeadDue, words: LineWords<'_>) -> Result<HeadStep, AllocError>
+pub fn judge_head(alloc: Global, due: HeadDue, words: LineWords<'_>) -> Result<HeadDue, Refusal>
     requires due { IsLineDue due }
     requires holds { Holds due }
-    ensures { IfOk result (IsHeadStep due words.entry) }
+    ensures { IsHeadStep due words.entry result }
 {
     match due {
-        HeadDue::Form => Ok(form_line(words)),
+        HeadDue::Form => form_line(words),
         HeadDue::Size { form } => size_line(alloc, form, words),
         HeadDue::Place { head, more } => place_line(alloc, head, more, words),
         HeadDue::Travel { head, more } => travel_line(alloc, head, more, words),

@@ -22,7 +22,9 @@ pub fn number_at(numbers: &LineNumbers<'_>, n: usize) -> u32
 /// The set of the skills that are listed, a bit for each; None exactly where they don't rise strictly.
 pub fn skill_set(skills: &LineNumbers<'_>) -> Option<u64>
     requires { AreBelow SKILLS skills.now }
-    ensures { let ss = naturals skills.now in MatchOption result (IsStrictlyIncreasing ss → ⊥) (λ set. IsStrictlyIncreasing ss × (set ≡ mask_of ss)) }
+    ensures { let ss = naturals skills.now in
+        MatchOption result (IsStrictlyIncreasing ss → ⊥)
+        (λ set. IsStrictlyIncreasing ss × (set ≡ mask_of ss)) }
 {
     let mut set = 0u64;
     let mut least = 0u32;

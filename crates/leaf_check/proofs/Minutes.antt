@@ -1,6 +1,7 @@
 -- the minutes at which a team may begin a task, counted
 use Rattle.std.proofs.Common.{◌≡◌, ◌<◌, ◌≤◌, ◌+◌, ◌-◌, ◌↔◌, ℕ, suc, List, [], ◌∷◌, ◌++◌, length, get_or, ap, sym, subst, ◌∙◌, arith, true, false, ◌⊎◌, inl, inr}
-use Rattle.std.specs.Prelude.{◌≢◌, ℤ, pos, Option, None, Some}
+use Rattle.std.specs.Option.{is_some}
+use Rattle.std.specs.Prelude.{◌≢◌, ℤ, pos, Option, None, Some, MatchOption, nat_lt}
 use Rattle.std.proofs.lemmas.Bool.{cases_lt, cases_eq, lt-ltb}
 use Rattle.crew_terms.specs.Limits.{Limits, IsPermittedVisit, tasks_in}
 use Rattle.dossier_terms.specs.Dossier.{Potentials, phi_in}
@@ -38,6 +39,13 @@ uncounted law n k j known none = by (cases_lt 0 (minute_count n k j))
     by : (0 < minute_count n k j) ⊎ (minute_count n k j ≤ 0) → minute_count n k j ≡ 0
     by (inr l) = omega arith
     by (inl l) = absurd (none (first_minute n k j) ((law n k j (first_minute n k j)).1 (record { known = known; from = omega arith; until = omega arith })))
+
+-- there is a minute where some are counted
+pub found : Law → (n : Limits) (k j : ℕ) (m : Option (ℕ × ℕ)) → j < tasks_in n → MatchOption m (HasNoMinute n k j) (λ m. AreMinutes n k j m.0 m.1) → is_some m ≡ has_minutes n k j
+found law n k j None known none = sym (ap (nat_lt 0) (uncounted law n k j known none))
+found law n k j (Some m) known are =
+    let c = counted law n k j m.0 m.1 are in
+    sym (lt-ltb 0 (minute_count n k j) (subst (λ count. 0 < count) c.counted c.some))
 
 -- a task that the team may begin is one with minutes
 pub may_begin : Law → (n : Limits) (k j t : ℕ) → IsPermittedVisit n k j t → has_minutes n k j ≡ true

@@ -10,3 +10,7 @@ pub record HasRoomAt (kept : List PotentialRow) (j first count : ℕ) : Type 0 w
   pub known : j < length instance.tasks
   pub early : (task_of instance j).earliest ≤ first
   pub late : first + count ≤ (task_of instance j).latest + 1
+
+-- it is still a table of each instance that it was one of
+abbrev pub KeepsTable : List PotentialRow → List PotentialRow → Type 0
+KeepsTable old new = (instance : Instance) → IsTableOf instance old → IsTableOf instance new

@@ -14,6 +14,10 @@ pub record AreRunNumbers (ns : List ℤ) : Type 0 where
   pub numbers : ns ≡ flat_map run_numbers runs
   pub minutes : AllByRecursion (λ (r : Run). r.from ≤ LAST_MINUTE) runs
 
+-- it holds of the runs whose numbers these are
+abbrev pub OfRuns : List ℤ → (List Run → Type 0) → Type 0
+OfRuns ns P = (runs : List Run) → ns ≡ flat_map run_numbers runs → P runs
+
 abbrev pub no_run : Run
 no_run = record { from = 0; value = pos 0 }
 

@@ -9,23 +9,21 @@ ghost use Rattle.leaf_check.specs.Keys.{AreCounted, IsNextKey, has_minutes};
 use crew_laws::minutes_are_permitted;
 use node_limits::Limits;
 
-/// The first minute at which team `k` may begin task `j`, and how many such minutes there are; None where there is
-/// no such minute.
-pub fn counted_minutes(limits: &Limits<'_>, k: u32, j: u32) -> Option<(u32, u32)>
+/// The first minute at which team `k` may begin task `j`, and how many such minutes there are.
+pub fn counted_minutes(limits: &Limits<'_>, k: u32, j: u32) -> (u32, u32)
     requires team { k < teams_in limits.now.limits }
     requires task { j < tasks_in limits.now.limits }
-    ensures minutes { MatchOption result (minute_count limits.now.limits k j ≡ 0) (λ m. AreCounted limits.now.limits k j m.0 m.1) }
-    ensures early { IfSome result (λ m. (task_of limits.now.limits.instance j).earliest ≤ m.0) }
-    ensures late { IfSome result (λ m. m.0 + m.1 ≤ (task_of limits.now.limits.instance j).latest + 1) }
-    ensures day { IfSome result (λ m. m.0 + m.1 ≤ LAST_MINUTE + 1) }
+    requires some { 0 < minute_count limits.now.limits k j }
+    ensures minutes { AreCounted limits.now.limits k j result.0 result.1 }
+    ensures early { (task_of limits.now.limits.instance j).earliest ≤ result.0 }
+    ensures late { result.0 + result.1 ≤ (task_of limits.now.limits.instance j).latest + 1 }
+    ensures day { result.0 + result.1 ≤ LAST_MINUTE + 1 }
 {
     minutes_are_permitted();
     // What holds of its tasks: no minute is past `LAST_MINUTE`.
     let _day = limits.instance();
-    match limits.minutes(k, j) {
-        Some((first, last)) => Some((first, last + 1 - first)),
-        None => None,
-    }
+    let (first, last) = limits.minutes(k, j).unwrap();
+    (first, last + 1 - first)
 }
 
 /// Whether there is a minute at which team `k` may begin task `j`.
@@ -34,10 +32,8 @@ fn is_open(limits: &Limits<'_>, k: u32, j: u32) -> bool
     requires task { j < tasks_in limits.now.limits }
     ensures { result ≡ has_minutes limits.now.limits k j }
 {
-    match counted_minutes(limits, k, j) {
-        Some(_) => true,
-        None => false,
-    }
+    minutes_are_permitted();
+    limits.minutes(k, j).is_some()
 }
 
 /// The first task from this one on that team `k` may begin at some minute.

@@ -2,11 +2,10 @@
 ghost use Rattle.std.specs.Prelude.{◌≡◌, ◌≤◌, ◌<◌, ◌+◌, ℕ, IsTrue, length, pos, slice_index_or, if◌then◌else◌};
 ghost use Rattle.std.specs.List.{AllByRecursion};
 ghost use Rattle.crew_terms.specs.Leaf.{IsPrice, rho_of};
-ghost use Rattle.crew_terms.specs.Limits.{is_required as required_pair, pair_of, tasks_in, teams_in};
-ghost use Rattle.dossier_terms.specs.Dossier.{beside};
+ghost use Rattle.crew_terms.specs.Limits.{tasks_in, teams_in};
 ghost use Rattle.crew_terms.specs.Minutes.{required_teams};
 ghost use Rattle.potentials.specs.Prices.{with_rho};
-ghost use Rattle.leaf_check.specs.Prices.{ArePricesIn, SamePairsBut};
+ghost use Rattle.leaf_check.specs.Prices.{ArePairsGiven, ArePricesIn, SamePairsBut, requires_pair};
 
 use cert_format::LineNumbers;
 use crew_terms::Pair;
@@ -17,7 +16,7 @@ use potentials::Prices;
 fn is_required(limits: &Limits<'_>, k: u32, j: u32) -> bool
     requires team { k < teams_in limits.now.limits }
     requires task { j < tasks_in limits.now.limits }
-    ensures { result ≡ required_pair (pair_of limits.now.limits k j) }
+    ensures { result ≡ requires_pair limits.now.limits k j }
 {
     match limits.pair(k, j) {
         Pair::Required => true,
@@ -40,9 +39,10 @@ fn set_if_required(
     requires task { j < tasks_in limits.now.limits }
     requires range { AllByRecursion IsPrice given.now }
     requires few { read ≤ k }
-    requires count { IsTrue (required_pair (pair_of limits.now.limits k j)) → read < length given.now }
-    ensures set { prices.new ≡ (if required_pair (pair_of limits.now.limits k j) then with_rho prices.old k j (slice_index_or given.now read (pos 0)) else prices.old) }
-    ensures next { result ≡ (if required_pair (pair_of limits.now.limits k j) then read + 1 else read) }
+    requires count { IsTrue (requires_pair limits.now.limits k j) → read < length given.now }
+    ensures set { prices.new ≡ (if requires_pair limits.now.limits k j
+        then with_rho prices.old k j (slice_index_or given.now read (pos 0)) else prices.old) }
+    ensures next { result ≡ (if requires_pair limits.now.limits k j then read + 1 else read) }
 {
     if is_required(limits, k, j) {
         prices.set_rho(k, j, given.get(read));
@@ -60,7 +60,7 @@ pub fn set_extras(prices: &mut Prices, limits: &Limits<'_>, j: u32, given: &Line
     requires count { length given.now ≡ length (required_teams limits.now.limits j) }
     ensures prices { ArePricesIn limits.now.limits prices.new }
     ensures others { SamePairsBut j prices.old prices.new }
-    ensures given { (k : ℕ) → k < teams_in limits.now.limits → rho_of prices.new k j ≡ beside (required_teams limits.now.limits j) given.now k (rho_of prices.old k j) }
+    ensures given { ArePairsGiven limits.now.limits j given.now prices.old prices.new }
 {
     let mut read = 0;
     for k in 0..limits.instance().teams() as u32 {
@@ -88,7 +88,8 @@ pub fn set_prices(prices: &mut Prices, limits: &Limits<'_>, given: &LineNumbers<
     requires count { length given.now ≡ tasks_in limits.now.limits }
     ensures prices { ArePricesIn limits.now.limits prices.new }
     ensures tasks { prices.new.pi ≡ given.now }
-    ensures pairs { (k j : ℕ) → k < teams_in limits.now.limits → j < tasks_in limits.now.limits → rho_of prices.new k j ≡ pos 0 }
+    ensures pairs { (k j : ℕ) → k < teams_in limits.now.limits → j < tasks_in limits.now.limits
+        → rho_of prices.new k j ≡ pos 0 }
 {
     for j in 0..limits.instance().tasks() as u32 {
         clear_pairs(prices, limits, j);

@@ -1,18 +1,18 @@
 // A reader of the lines of one leaf, from its prices to its last potentials.
 ghost use Rattle.std.specs.Prelude.{◌≡◌, ◌≤◌, ◌<◌, ◌+◌, ℕ, suc, ℤ, List, [], length, IfOk, IfSome};
-ghost use Rattle.crew_terms.specs.Limits.{Limits as NodeLimits, has_required, tasks_in, teams_in};
+ghost use Rattle.crew_terms.specs.Limits.{Limits as NodeLimits, tasks_in, teams_in};
 ghost use Rattle.dossier_terms.specs.Dossier.{Leaf, Potentials};
 ghost use Rattle.crew_terms.specs.Minutes.{minute_count};
 ghost use Rattle.dossier_terms.specs.Reading.{Prices as PriceDue, LeafSite};
-ghost use Rattle.dossier_terms.specs.LeafTable.{after_extra, after_phi, after_table, extra_row, price_row, table_row, worth_row};
-ghost use Rattle.leaf_check.specs.Keys.{AreLeft, IsRowDue, has_minutes};
-ghost use Rattle.leaf_check.specs.Reader.{HasPotentials, HasReadLeaf, IsGoalAt, IsLeafStep, IsReady, StandsFor, LeafTells, below_next, priced_leaf};
+ghost use Rattle.dossier_terms.specs.LeafTable.{after_extra, after_phi, after_table, extra_row, price_row, worth_row};
+ghost use Rattle.leaf_check.specs.Keys.{AreExtrasLeft, ArePhisLeft, IsExtraDue, IsOpenTask};
+ghost use Rattle.leaf_check.specs.Reader.{HasPotentials, HasPotentialsBefore, HasReadLeaf, HasReadUpTo, IsGoalAt, IsLeafStep, IsReady, IsTableStep, StandsFor, LeafTells, priced_leaf};
 
 use crate::keys::{counted_minutes, next_open, next_priced, required_count};
 use crate::prices::{set_extras, set_prices};
 use crate::rows::set_potentials;
 use crate::runs::{are_runs, set_runs};
-use cert_format::{Expect, LineKind, fault_is_refused, read_line};
+use cert_format::{fault_is_refused, read_extra, read_phi, read_price, read_steps, read_worth};
 use crew_laws::minutes_are_permitted;
 use dossier_terms::{DossierForm, Reason};
 use field_table::LineWords;
@@ -43,15 +43,13 @@ enum LeafDue {
     Phi { team: u32, task: u32 },
 }
 
-/// What is said of a line.
+/// What is said of a line that breaks no rule.
 #[derive(Clone, Copy, Debug, PartialEq, Eq)]
 pub enum LeafStep {
-    /// It breaks no rule, and one more line of the leaf is due.
+    /// One more line of the leaf is due.
     More,
-    /// It breaks no rule, and it is the last one of the leaf.
+    /// It is the last one of the leaf.
     Done,
-    /// It breaks a rule.
-    No(Reason),
 }
 
 /// Reads the lines of one leaf with prices after another. It keeps the potentials of one team at a time.
@@ -89,7 +87,8 @@ impl LeafReader {
 
     /// Begins a leaf: its line of prices is due. The limits may be others than before, over the same instance.
     pub fn begin(&mut self)
-        ensures ready { (n m : NodeLimits) → m.instance ≡ n.instance → IsReady n self.old → IsReady m self.new }
+        ensures ready { (n m : NodeLimits) → m.instance ≡ n.instance
+            → IsReady n self.old → IsReady m self.new }
         ensures stands { (a : LeafSite) → StandsFor a self.new (PriceDue a) }
     {
         self.due = LeafDue::Price;
@@ -97,9 +96,14 @@ impl LeafReader {
 
     /// Judges the line that is due, by the table of lines. A team's rules are tested at its last line: `Potential` tells
     /// the first task whose potentials are too low, and then `Worth` that the worth is; `Bound` is told at the last line
-    /// of the leaf, where it does not prove what it has to. After `Done` and after `No` only `begin` goes on: what is
+    /// of the leaf, where it does not prove what it has to. After `Done` and after a reason only `begin` goes on: what is
     /// said of a line before that means nothing.
-    pub fn line(&mut self, limits: &Limits<'_>, goal: Goal, words: LineWords<'_>) -> LeafStep
+    pub fn line(
+        &mut self,
+        limits: &Limits<'_>,
+        goal: Goal,
+        words: LineWords<'_>,
+    ) -> Result<LeafStep, Reason>
         requires { IsReady limits.now.limits self.old }
         ensures ready { IsReady limits.now.limits self.new }
         ensures judged { IsLeafStep limits.now.limits goal words.entry self.old self.new result }
@@ -113,20 +117,20 @@ impl LeafReader {
     }
 
     /// The line `price`.
-    fn price_line(&mut self, limits: &Limits<'_>, goal: Goal, words: LineWords<'_>) -> LeafStep
+    fn price_line(
+        &mut self,
+        limits: &Limits<'_>,
+        goal: Goal,
+        words: LineWords<'_>,
+    ) -> Result<LeafStep, Reason>
         requires { IsReady limits.now.limits self.old }
         ensures ready { IsReady limits.now.limits self.new }
-        ensures tells { (a : LeafSite) → IsGoalAt a limits.now.limits goal → LeafTells a (price_row a words.entry) result self.new }
+        ensures tells { (a : LeafSite) → IsGoalAt a limits.now.limits goal
+            → LeafTells a (price_row a words.entry) result self.new }
     {
         fault_is_refused();
         let tasks = limits.instance().tasks() as u32;
-        let kind = match read_line(Expect::Price { tasks }, words) {
-            Ok(kind) => kind,
-            Err(fault) => return LeafStep::No(fault.reason()),
-        };
-        let LineKind::Price { prices } = kind else {
-            unreachable!()
-        };
+        let prices = read_price(words, tasks)?;
         set_prices(&mut self.prices, limits, &prices);
         self.after_extra(limits, goal, next_priced(limits, 0))
     }
@@ -138,42 +142,44 @@ impl LeafReader {
         goal: Goal,
         task: u32,
         words: LineWords<'_>,
-    ) -> LeafStep
+    ) -> Result<LeafStep, Reason>
         requires ready { IsReady limits.now.limits self.old }
         requires task { task < tasks_in limits.now.limits }
         ensures ready { IsReady limits.now.limits self.new }
-        ensures tells { (a : LeafSite) (prices : List ℤ) (rows : List (List ℤ)) (js : List ℕ) → IsGoalAt a limits.now.limits goal
+        ensures tells { (a : LeafSite) (prices : List ℤ) (rows : List (List ℤ)) (js : List ℕ)
+            → IsGoalAt a limits.now.limits goal
             → HasReadLeaf limits.now.limits self.old (priced_leaf prices rows)
-            → IsRowDue (has_required limits.now.limits) (tasks_in limits.now.limits) rows task js
-            → LeafTells a (extra_row a (priced_leaf prices rows) task js words.entry) result self.new }
+            → IsExtraDue limits.now.limits rows task js
+            → LeafTells a (extra_row a (priced_leaf prices rows) task js words.entry)
+            result self.new }
     {
         fault_is_refused();
         let count = required_count(limits, task);
-        let kind = match read_line(Expect::Extra { task, count }, words) {
-            Ok(kind) => kind,
-            Err(fault) => return LeafStep::No(fault.reason()),
-        };
-        let LineKind::Extra { prices, .. } = kind else {
-            unreachable!()
-        };
+        let prices = read_extra(words, task, count)?;
         set_extras(&mut self.prices, limits, task, &prices);
         self.after_extra(limits, goal, next_priced(limits, task as usize + 1))
     }
 
     /// What is said after a line of prices, where this is the next task with required pairs.
-    fn after_extra(&mut self, limits: &Limits<'_>, goal: Goal, next: Option<u32>) -> LeafStep
+    fn after_extra(
+        &mut self,
+        limits: &Limits<'_>,
+        goal: Goal,
+        next: Option<u32>,
+    ) -> Result<LeafStep, Reason>
         requires ready { IsReady limits.now.limits self.old }
         requires next { IfSome next (λ j. j < tasks_in limits.now.limits) }
         ensures ready { IsReady limits.now.limits self.new }
-        ensures tells { (a : LeafSite) (prices : List ℤ) (rows : List (List ℤ)) (js : List ℕ) → IsGoalAt a limits.now.limits goal
+        ensures tells { (a : LeafSite) (prices : List ℤ) (rows : List (List ℤ)) (js : List ℕ)
+            → IsGoalAt a limits.now.limits goal
             → HasReadLeaf limits.now.limits self.old (priced_leaf prices rows)
-            → AreLeft (has_required limits.now.limits) (tasks_in limits.now.limits) rows next js
+            → AreExtrasLeft limits.now.limits rows next js
             → LeafTells a (after_extra a (priced_leaf prices rows) js) result self.new }
     {
         match next {
             Some(task) => {
                 self.due = LeafDue::Extra { task };
-                LeafStep::More
+                Ok(LeafStep::More)
             }
             None => self.after_table(limits, goal, 0),
         }
@@ -186,23 +192,17 @@ impl LeafReader {
         goal: Goal,
         team: u32,
         words: LineWords<'_>,
-    ) -> LeafStep
+    ) -> Result<LeafStep, Reason>
         requires ready { IsReady limits.now.limits self.old }
         requires team { team < teams_in limits.now.limits }
         ensures ready { IsReady limits.now.limits self.new }
         ensures tells { (a : LeafSite) (leaf : Leaf) (left : ℕ) → IsGoalAt a limits.now.limits goal
-            → HasReadLeaf limits.now.limits self.old leaf → length leaf.tables ≡ team → team + suc left ≡ teams_in limits.now.limits
+            → HasReadUpTo limits.now.limits self.old leaf team (suc left)
             → LeafTells a (worth_row a leaf left words.entry) result self.new }
     {
         fault_is_refused();
         minutes_are_permitted();
-        let kind = match read_line(Expect::Worth, words) {
-            Ok(kind) => kind,
-            Err(fault) => return LeafStep::No(fault.reason()),
-        };
-        let LineKind::Worth { worth } = kind else {
-            unreachable!()
-        };
+        let worth = read_worth(words)?;
         self.worths[team as usize] = worth;
         self.after_phi(limits, goal, team, next_open(limits, team, 0))
     }
@@ -215,17 +215,14 @@ impl LeafReader {
         team: u32,
         task: u32,
         words: LineWords<'_>,
-    ) -> LeafStep
+    ) -> Result<LeafStep, Reason>
         requires ready { IsReady limits.now.limits self.old }
         requires team { team < teams_in limits.now.limits }
         requires task { task < tasks_in limits.now.limits }
         requires minutes { 0 < minute_count limits.now.limits team task }
         ensures ready { IsReady limits.now.limits self.new }
-        ensures tells { (a : LeafSite) (leaf : Leaf) (left : ℕ) (table : Potentials) (js : List ℕ) → IsGoalAt a limits.now.limits goal
-            → HasReadLeaf limits.now.limits self.old leaf → length leaf.tables ≡ team → team + suc left ≡ teams_in limits.now.limits
-            → HasPotentials limits.now.limits self.old team table task
-            → IsRowDue (has_minutes limits.now.limits team) (tasks_in limits.now.limits) table.phi task js
-            → LeafTells a (table_row a leaf left table task js words.entry) result self.new }
+        ensures tells { IsTableStep limits.now.limits goal team task words.entry
+            self.old self.new result }
     {
         match goal.form {
             DossierForm::One => self.phi_line(limits, goal, team, task, words),
@@ -241,31 +238,20 @@ impl LeafReader {
         team: u32,
         task: u32,
         words: LineWords<'_>,
-    ) -> LeafStep
+    ) -> Result<LeafStep, Reason>
         requires form { goal.form ≡ DossierForm.One }
         requires ready { IsReady limits.now.limits self.old }
         requires team { team < teams_in limits.now.limits }
         requires task { task < tasks_in limits.now.limits }
         requires minutes { 0 < minute_count limits.now.limits team task }
         ensures ready { IsReady limits.now.limits self.new }
-        ensures tells { (a : LeafSite) (leaf : Leaf) (left : ℕ) (table : Potentials) (js : List ℕ) → IsGoalAt a limits.now.limits goal
-            → HasReadLeaf limits.now.limits self.old leaf → length leaf.tables ≡ team → team + suc left ≡ teams_in limits.now.limits
-            → HasPotentials limits.now.limits self.old team table task
-            → IsRowDue (has_minutes limits.now.limits team) (tasks_in limits.now.limits) table.phi task js
-            → LeafTells a (table_row a leaf left table task js words.entry) result self.new }
+        ensures tells { IsTableStep limits.now.limits goal team task words.entry
+            self.old self.new result }
     {
         fault_is_refused();
         minutes_are_permitted();
-        let Some((first, count)) = counted_minutes(limits, team, task) else {
-            unreachable!()
-        };
-        let kind = match read_line(Expect::Phi { task, count }, words) {
-            Ok(kind) => kind,
-            Err(fault) => return LeafStep::No(fault.reason()),
-        };
-        let LineKind::Phi { values, .. } = kind else {
-            unreachable!()
-        };
+        let (first, count) = counted_minutes(limits, team, task);
+        let values = read_phi(words, task, count)?;
         set_potentials(&mut self.table, task, first, &values);
         self.after_phi(
             limits,
@@ -283,34 +269,23 @@ impl LeafReader {
         team: u32,
         task: u32,
         words: LineWords<'_>,
-    ) -> LeafStep
+    ) -> Result<LeafStep, Reason>
         requires form { goal.form ≡ DossierForm.Two }
         requires ready { IsReady limits.now.limits self.old }
         requires team { team < teams_in limits.now.limits }
         requires task { task < tasks_in limits.now.limits }
         requires minutes { 0 < minute_count limits.now.limits team task }
         ensures ready { IsReady limits.now.limits self.new }
-        ensures tells { (a : LeafSite) (leaf : Leaf) (left : ℕ) (table : Potentials) (js : List ℕ) → IsGoalAt a limits.now.limits goal
-            → HasReadLeaf limits.now.limits self.old leaf → length leaf.tables ≡ team → team + suc left ≡ teams_in limits.now.limits
-            → HasPotentials limits.now.limits self.old team table task
-            → IsRowDue (has_minutes limits.now.limits team) (tasks_in limits.now.limits) table.phi task js
-            → LeafTells a (table_row a leaf left table task js words.entry) result self.new }
+        ensures tells { IsTableStep limits.now.limits goal team task words.entry
+            self.old self.new result }
     {
         fault_is_refused();
         minutes_are_permitted();
-        let Some((first, count)) = counted_minutes(limits, team, task) else {
-            unreachable!()
-        };
-        let kind = match read_line(Expect::Steps { task }, words) {
-            Ok(kind) => kind,
-            Err(fault) => return LeafStep::No(fault.reason()),
-        };
-        let LineKind::Steps { pairs, .. } = kind else {
-            unreachable!()
-        };
+        let (first, count) = counted_minutes(limits, team, task);
+        let pairs = read_steps(words, task)?;
         let past = first + count;
         if !are_runs(&pairs, first, past) {
-            return LeafStep::No(Reason::Steps);
+            return Err(Reason::Steps);
         }
         set_runs(&mut self.table, task, past, &pairs);
         let later = task as usize + 1;
@@ -324,33 +299,35 @@ impl LeafReader {
         goal: Goal,
         team: u32,
         next: Option<u32>,
-    ) -> LeafStep
+    ) -> Result<LeafStep, Reason>
         requires ready { IsReady limits.now.limits self.old }
         requires team { team < teams_in limits.now.limits }
-        requires next { IfSome next (λ j. (j < tasks_in limits.now.limits) × (0 < minute_count limits.now.limits team j)) }
+        requires next { IfSome next (IsOpenTask limits.now.limits team) }
         ensures ready { IsReady limits.now.limits self.new }
-        ensures tells { (a : LeafSite) (leaf : Leaf) (left : ℕ) (table : Potentials) (js : List ℕ) → IsGoalAt a limits.now.limits goal
-            → HasReadLeaf limits.now.limits self.old leaf → length leaf.tables ≡ team → team + suc left ≡ teams_in limits.now.limits
-            → HasPotentials limits.now.limits self.old team table (below_next limits.now.limits next)
-            → AreLeft (has_minutes limits.now.limits team) (tasks_in limits.now.limits) table.phi next js
+        ensures tells { (a : LeafSite) (leaf : Leaf) (left : ℕ) (table : Potentials) (js : List ℕ)
+            → IsGoalAt a limits.now.limits goal
+            → HasReadUpTo limits.now.limits self.old leaf team (suc left)
+            → HasPotentialsBefore limits.now.limits self.old team table next
+            → ArePhisLeft limits.now.limits team table.phi next js
             → LeafTells a (after_phi a leaf left table js) result self.new }
     {
         match next {
             Some(task) => {
                 self.due = LeafDue::Phi { team, task };
-                LeafStep::More
+                Ok(LeafStep::More)
             }
             None => self.judge_team(limits, goal, team),
         }
     }
 
     /// What is said after the last line of a team: its rules are tested.
-    fn judge_team(&mut self, limits: &Limits<'_>, goal: Goal, team: u32) -> LeafStep
+    fn judge_team(&mut self, limits: &Limits<'_>, goal: Goal, team: u32) -> Result<LeafStep, Reason>
         requires ready { IsReady limits.now.limits self.old }
         requires team { team < teams_in limits.now.limits }
         ensures ready { IsReady limits.now.limits self.new }
-        ensures tells { (a : LeafSite) (leaf : Leaf) (left : ℕ) (table : Potentials) → IsGoalAt a limits.now.limits goal
-            → HasReadLeaf limits.now.limits self.old leaf → length leaf.tables ≡ team → team + suc left ≡ teams_in limits.now.limits
+        ensures tells { (a : LeafSite) (leaf : Leaf) (left : ℕ) (table : Potentials)
+            → IsGoalAt a limits.now.limits goal
+            → HasReadUpTo limits.now.limits self.old leaf team (suc left)
             → HasPotentials limits.now.limits self.old team table (tasks_in limits.now.limits)
             → LeafTells a (after_phi a leaf left table []) result self.new }
     {
@@ -364,41 +341,47 @@ impl LeafReader {
             worth,
         ) {
             LocalVerdict::Holds => self.after_table(limits, goal, team as usize + 1),
-            LocalVerdict::Low { task } => LeafStep::No(Reason::Potential(team, task)),
-            LocalVerdict::Worth => LeafStep::No(Reason::Worth(team)),
+            LocalVerdict::Low { task } => Err(Reason::Potential(team, task)),
+            LocalVerdict::Worth => Err(Reason::Worth(team)),
         }
     }
 
     /// What is said after the lines of so many teams.
-    fn after_table(&mut self, limits: &Limits<'_>, goal: Goal, teams: usize) -> LeafStep
+    fn after_table(
+        &mut self,
+        limits: &Limits<'_>,
+        goal: Goal,
+        teams: usize,
+    ) -> Result<LeafStep, Reason>
         requires ready { IsReady limits.now.limits self.old }
         requires teams { teams ≤ teams_in limits.now.limits }
         ensures ready { IsReady limits.now.limits self.new }
         ensures tells { (a : LeafSite) (leaf : Leaf) (left : ℕ) → IsGoalAt a limits.now.limits goal
-            → HasReadLeaf limits.now.limits self.old leaf → length leaf.tables ≡ teams → teams + left ≡ teams_in limits.now.limits
+            → HasReadUpTo limits.now.limits self.old leaf teams left
             → LeafTells a (after_table a leaf left) result self.new }
     {
         if teams < limits.instance().teams() {
             self.due = LeafDue::Worth { team: teams as u32 };
-            return LeafStep::More;
+            return Ok(LeafStep::More);
         }
         self.judge_bound(limits, goal)
     }
 
     /// What is said after the last line of a leaf: what it proves is tested.
-    fn judge_bound(&self, limits: &Limits<'_>, goal: Goal) -> LeafStep
+    fn judge_bound(&self, limits: &Limits<'_>, goal: Goal) -> Result<LeafStep, Reason>
         requires { IsReady limits.now.limits self.now }
         ensures { (a : LeafSite) (leaf : Leaf) → IsGoalAt a limits.now.limits goal
-            → HasReadLeaf limits.now.limits self.now leaf → length leaf.tables ≡ teams_in limits.now.limits
+            → HasReadLeaf limits.now.limits self.now leaf
+            → length leaf.tables ≡ teams_in limits.now.limits
             → LeafTells a (after_table a leaf 0) result self.now }
     {
         let proved = bound(limits, &self.prices, &self.worths);
         if !proves(proved, goal.bound) {
-            return LeafStep::No(Reason::Bound);
+            return Err(Reason::Bound);
         }
         if goal.is_closed && !proves(proved, goal.unassigned) {
-            return LeafStep::No(Reason::Bound);
+            return Err(Reason::Bound);
         }
-        LeafStep::Done
+        Ok(LeafStep::Done)
     }
 }

@@ -1,11 +1,11 @@
 // The runs of a line `steps`: whether they are runs, and their numbers in the table of a team.
 ghost use Rattle.std.specs.Prelude.{◌≡◌, ◌≢◌, ◌≤◌, ◌<◌, ◌+◌, ◌*◌, ◌-◌, ◌^◌, ℕ, List, length, pos, slice_index_or, MatchBool};
 ghost use Rattle.std.specs.List.{flat_map};
-ghost use Rattle.crew_terms.specs.Instance.{Instance as Planned};
 ghost use Rattle.dossier_terms.specs.Runs.{Run, AreRuns, values_of};
 ghost use Rattle.cert_format.specs.Fields.{run_numbers};
-ghost use Rattle.potentials.specs.Table.{IsTableOf, phi};
-ghost use Rattle.leaf_check.specs.Runs.{AreRunNumbers, CanSetRuns, GoesOn, begin_of_run};
+ghost use Rattle.potentials.specs.Table.{phi};
+ghost use Rattle.leaf_check.specs.Rows.{KeepsTable};
+ghost use Rattle.leaf_check.specs.Runs.{AreRunNumbers, CanSetRuns, GoesOn, OfRuns, begin_of_run};
 
 use cert_format::LineNumbers;
 use potentials::Table;
@@ -13,7 +13,7 @@ use potentials::Table;
 /// The minute at which the run with this number begins; `past` where there is none.
 fn run_begin(pairs: &LineNumbers<'_>, n: usize, past: u32) -> u32
     requires { AreRunNumbers pairs.now }
-    ensures { (runs : List Run) → pairs.now ≡ flat_map run_numbers runs → result ≡ begin_of_run past runs n }
+    ensures { OfRuns pairs.now (λ runs. result ≡ begin_of_run past runs n) }
 {
     if n < pairs.len() / 2 {
         pairs.get(2 * n) as u32
@@ -26,7 +26,8 @@ fn run_begin(pairs: &LineNumbers<'_>, n: usize, past: u32) -> u32
 fn goes_on(pairs: &LineNumbers<'_>, n: usize, past: u32) -> bool
     requires runs { AreRunNumbers pairs.now }
     requires two { 2 * n + 3 < length pairs.now }
-    ensures { (runs : List Run) → pairs.now ≡ flat_map run_numbers runs → MatchBool result (GoesOn past runs n) (GoesOn past runs n → ⊥) }
+    ensures { OfRuns pairs.now (λ runs. MatchBool result
+        (GoesOn past runs n) (GoesOn past runs n → ⊥)) }
 {
     // What holds of the line: it has no more numbers than a usize counts.
     let _count = pairs.len();
@@ -49,7 +50,8 @@ fn goes_on(pairs: &LineNumbers<'_>, n: usize, past: u32) -> bool
 /// Whether the runs begin at minute `first`, rise, begin before `past`, and no two neighbours have one number.
 pub fn are_runs(pairs: &LineNumbers<'_>, first: u32, past: u32) -> bool
     requires { AreRunNumbers pairs.now }
-    ensures { (runs : List Run) → pairs.now ≡ flat_map run_numbers runs → MatchBool result (AreRuns first past runs) (AreRuns first past runs → ⊥) }
+    ensures { OfRuns pairs.now (λ runs. MatchBool result
+        (AreRuns first past runs) (AreRuns first past runs → ⊥)) }
 {
     let from = run_begin(pairs, 0, past);
     if from != first {
@@ -67,10 +69,11 @@ pub fn are_runs(pairs: &LineNumbers<'_>, first: u32, past: u32) -> bool
 pub fn set_runs(table: &mut Table, j: u32, past: u32, pairs: &LineNumbers<'_>)
     requires runs { AreRunNumbers pairs.now }
     requires room { CanSetRuns table.old j past pairs.now }
-    ensures given { (runs : List Run) (first : ℕ) → pairs.now ≡ flat_map run_numbers runs → AreRuns first past runs → first < past
-        → (m : ℕ) → first + m < past → phi table.new j (first + m) ≡ slice_index_or (values_of past runs) m (pos 0) }
+    ensures given { (runs : List Run) (first : ℕ) → pairs.now ≡ flat_map run_numbers runs
+        → AreRuns first past runs → first < past → (m : ℕ) → first + m < past
+        → phi table.new j (first + m) ≡ slice_index_or (values_of past runs) m (pos 0) }
     ensures others { (h t : ℕ) → h ≢ j → phi table.new h t ≡ phi table.old h t }
-    ensures table { (instance : Planned) → IsTableOf instance table.old → IsTableOf instance table.new }
+    ensures table { KeepsTable table.old table.new }
 {
     for n in 0..pairs.len() / 2 {
         let from = run_begin(pairs, n, past);

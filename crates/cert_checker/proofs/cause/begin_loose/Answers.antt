@@ -1,13 +1,12 @@
-use Rattle.std.proofs.Common.{◌≡◌, ◌≤◌, ◌<◌, List, [], ap, subst, sym, ◌∙◌, arith}
-use Rattle.std.specs.Box.{with_value}
+use Rattle.std.proofs.Common.{◌≡◌, ap, subst, sym, ◌∙◌, arith}
 use Rattle.crew_terms.specs.Limits.{root_limits}
 use Rattle.crew_terms.specs.Plan.{unassigned_count}
-use Rattle.dossier_terms.specs.Reading.{Reading, Above, limits_below, parts_due}
+use Rattle.dossier_terms.specs.Reading.{limits_below, parts_due}
 use Rattle.share_check.specs.Summed.{HasRoom}
 use Rattle.cert_checker.specs.Due.{Awaits, IsInLoose, split_site}
 use Rattle.cert_checker.specs.declared.due.BegunDossier.{BegunDossier}
 use Rattle.cert_checker.specs.declared.due.TreeDraft.{TreeDraft}
-use Rattle.cert_checker.proofs.CauseRows.{loose_begun, loose_goes, loose_low, none_read, room_at_node}
+use Rattle.cert_checker.proofs.CauseRows.{loose_begun, loose_goes, none_read, room_at_node}
 use Rattle.cert_checker.proofs.cause.begin_loose.Goals as goal
 
 pub returns : goal.returns

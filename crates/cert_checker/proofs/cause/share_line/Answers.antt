@@ -1,71 +1,78 @@
-use Rattle.std.proofs.Common.{◌≡◌, ◌≤◌, ◌<◌, ℕ, length, ap, refl, subst, sym, ◌∙◌, arith, to_z, of_z}
+use Rattle.std.proofs.Common.{◌≡◌, ◌<◌, ◌^◌, List, length, ap, subst, sym, ◌∙◌, to_z, of_z}
 use Rattle.std.specs.Int.{w128}
 use Rattle.std.specs.Prelude.{ℤ, pos}
 use Rattle.std.proofs.lemmas.Int.{to_z_pos}
-use Rattle.cert_format.specs.Lines.{IsFaultOf, IsShareOf}
+use Rattle.std.proofs.lemmas.Result.{err_from_is_err_and}
+use Rattle.cert_format.specs.Expected.{expect_of}
+use Rattle.cert_format.specs.Lines.{IsFaultOf}
 use Rattle.cert_format.specs.declared.kinds.Expect.TheVariants as expected
-use Rattle.dossier_terms.specs.Causes.{Part, IsPartOf}
+use Rattle.dossier_terms.specs.Causes.{Part, Shares, IsPartOf}
 use Rattle.dossier_terms.specs.CauseTable.{share_row}
+use Rattle.dossier_terms.specs.Lines.{share_line}
 use Rattle.dossier_terms.specs.declared.Reason.TheVariants as reasons
-use Rattle.dossier_terms.specs.Reading.{Answer, Parts, No as Refuses}
+use Rattle.dossier_terms.specs.Reading.{Above, No as Refuses}
 use Rattle.dossier_terms.specs.Table.{Says}
-use Rattle.cert_checker.specs.Due.{Tells, split_site}
+use Rattle.cert_checker.specs.Due.{IsInLoose, Tells, split_site}
 use Rattle.cert_checker.specs.Rules.{after_share}
 use Rattle.cert_checker.specs.declared.due.BegunDossier.{BegunDossier}
 use Rattle.cert_checker.specs.declared.due.TreeDraft.{TreeDraft}
 use Rattle.cert_checker.proofs.Steps.{tells_row}
 use Rattle.cert_checker.proofs.CauseRows.{same_pos, share_early, share_says}
 use Rattle.cert_checker.proofs.cause.share_line.Goals as goal
+use Rattle.cert_checker.proofs.cause.share_line.Goals.{After-read_share, In_ok-column}
 
-pub returns-in-Err : goal.returns-in-Err
-returns-in-Err c = λ reading awaited.
-    let tree = c.args.tree.value in
-    let from_draft : c.deref-2.result.now ≡ tree.draft.value = c.deref-2.ensures ∙ ap (λ (x : TreeDraft). x.draft.value) c.deref.ensures in
-    let ws = c.args.words in
-    let loose = c.args.loose in
-    let read = awaited.1 in
-    let p = split_site tree awaited.0 loose.choice in
-    let columns : c.len-columns.result ≡ length tree.draft.value.pool = c.len-columns.ensures ∙ ap (λ (d : BegunDossier). length d.pool) from_draft in
-    let cast = to_z w128 (of_z w128 c.signed-whole.result) in
-    let whole : cast ≡ pos read.whole = ap (λ (z : ℤ). to_z w128 (of_z w128 z)) c.signed-whole.ensures ∙ to_z_pos w128 loose.whole awaited.2.few ∙ ap pos (sym awaited.2.whole) in
-    subst (λ r. Says r ws (Refuses c.reason.result)) (sym awaited.4) (subst (λ r. share_row p loose.now read c.args.more c.args.from ws (Refuses r)) (sym c.reason.ensures)
-    (c.fault_is_refused.ensures (Parts p loose.now read c.args.more c.args.from) ws c.in-Err.fault
-    (subst (λ w. IsFaultOf (expected.Share (length tree.draft.value.pool) w) ws c.in-Err.fault) whole (subst (λ n. IsFaultOf (expected.Share n cast) ws c.in-Err.fault) columns c.in-Err.ensures))))
+-- the columns that are counted are those of the pool
+columns_are : (c : After-read_share) → c.len-columns.result ≡ length c.args.tree.value.draft.value.pool
+columns_are c = c.len-columns.ensures ∙ ap (λ (d : BegunDossier). length d.pool) (c.deref-2.ensures ∙ ap (λ (x : TreeDraft). x.draft.value) c.deref.ensures)
+
+-- the parts of one share, with a sign
+whole_is : (c : After-read_share) → c.args.loose.whole < 2 ^ 127 → to_z w128 (of_z w128 c.signed-whole.result) ≡ pos c.args.loose.whole
+whole_is c few = ap (λ (z : ℤ). to_z w128 (of_z w128 z)) c.signed-whole.ensures ∙ to_z_pos w128 c.args.loose.whole few
+
+pub returns-in_err-column : goal.returns-in_err-column
+returns-in_err-column d =
+    let c = (goal.at.returns-in_err-column d).After-read_share in
+    let ws = d.args.words in
+    let fault = d.in_err-column.field-0.0 in
+    let p = err_from_is_err_and d.from_residual.result d.from_residual.ensures.1 in
+    rw (p.1, p.2) (λ reading awaited.
+    let whole = whole_is c awaited.2.few ∙ ap pos (sym awaited.2.whole) in
+    c.fault_is_refused.ensures reading ws fault (subst (λ r. IsFaultOf (expect_of r) ws fault) (sym awaited.4)
+    (subst (λ w. IsFaultOf (expected.Share (length c.args.tree.value.draft.value.pool) w) ws fault) whole
+    (subst (λ n. IsFaultOf (expected.Share n (to_z w128 (of_z w128 c.signed-whole.result))) ws fault) (columns_are c) d.in_err-column.ensures))))
+
+-- the share that was read
+abbrev part_of : In_ok-column → Part
+part_of c = record { column = c.in_ok-column.field-0.column; parts = c.in_ok-column.field-0.parts }
+
+-- it is one of the pool, of no more parts than there are
+is_part : (c : In_ok-column) (fs : List Above) (read : Shares) → IsInLoose c.args.tree.value c.args.loose read fs
+    → c.len-columns.result ≡ length c.args.tree.value.draft.value.pool → to_z w128 (of_z w128 c.signed-whole.result) ≡ pos c.args.loose.whole
+    → IsPartOf (length c.args.tree.value.draft.value.pool) read.whole (part_of c) × (c.args.words ≡ share_line (part_of c))
+is_part c fs read loose columns whole_parts =
+    let h = c.in_ok-column.ensures in
+    let whole : h.0 ≡ read.whole = same_pos h.0 read.whole (sym h.1 ∙ whole_parts ∙ ap pos (sym loose.whole)) in
+    (subst (λ n. IsPartOf n read.whole (part_of c)) columns (subst (λ w. IsPartOf c.len-columns.result w (part_of c)) whole h.2), h.3)
 
 pub returns-then-column-from : goal.returns-then-column-from
-returns-then-column-from c = λ reading awaited.
-    let tree = c.args.tree.value in
-    let from_draft : c.deref-2.result.now ≡ tree.draft.value = c.deref-2.ensures ∙ ap (λ (x : TreeDraft). x.draft.value) c.deref.ensures in
-    let ws = c.args.words in
-    let loose = c.args.loose in
-    let read = awaited.1 in
-    let p = split_site tree awaited.0 loose.choice in
-    let part : Part = record { column = c.in-Share.column; parts = c.in-Share.parts } in
-    let columns : c.len-columns.result ≡ length tree.draft.value.pool = c.len-columns.ensures ∙ ap (λ (d : BegunDossier). length d.pool) from_draft in
-    let cast = to_z w128 (of_z w128 c.signed-whole.result) in
-    let cast_is : cast ≡ pos read.whole = ap (λ (z : ℤ). to_z w128 (of_z w128 z)) c.signed-whole.ensures ∙ to_z_pos w128 loose.whole awaited.2.few ∙ ap pos (sym awaited.2.whole) in
-    let h = subst (IsShareOf c.len-columns.result cast ws) c.in-Share.is c.in-Ok.ensures in
-    let whole : h.0 ≡ read.whole = same_pos h.0 read.whole (sym h.1 ∙ cast_is) in
-    let ranges : IsPartOf (length tree.draft.value.pool) read.whole part = subst (λ n. IsPartOf n read.whole part) columns (subst (λ w. IsPartOf c.len-columns.result w part) whole h.2) in
-    subst (λ r. Says r ws (Refuses reasons.Cause)) (sym awaited.4) (share_early p ws loose.now read c.args.more c.args.from part ranges h.3 c.if-column-from.true)
+returns-then-column-from d = λ reading awaited.
+    let c = (goal.at.returns-then-column-from d).In_ok-column in
+    let before = (goal.at.returns-then-column-from d).After-read_share in
+    let loose = d.args.loose in
+    let p = split_site d.args.tree.value awaited.0 loose.choice in
+    let h = is_part c awaited.0 awaited.1 awaited.2 (columns_are before) (whole_is before awaited.2.few) in
+    subst (λ r. Says r d.args.words (Refuses reasons.Cause)) (sym awaited.4)
+    (share_early p d.args.words loose.now awaited.1 d.args.more d.args.from (part_of c) h.0 h.1 d.if-column-from.true)
 
 pub returns : goal.returns
-returns c = λ reading awaited.
-    let tree = c.args.tree.value in
-    let from_draft : c.deref-2.result.now ≡ tree.draft.value = c.deref-2.ensures ∙ ap (λ (x : TreeDraft). x.draft.value) c.deref.ensures in
-    let ws = c.args.words in
-    let loose = c.args.loose in
-    let fs = awaited.0 in
+returns d = λ reading awaited.
+    let c = (goal.at.returns d).In_ok-column in
+    let before = (goal.at.returns d).After-read_share in
+    let ws = d.args.words in
+    let loose = d.args.loose in
     let read = awaited.1 in
-    let p = split_site tree fs loose.choice in
-    let part : Part = record { column = c.in-Share.column; parts = c.in-Share.parts } in
-    let columns : c.len-columns.result ≡ length tree.draft.value.pool = c.len-columns.ensures ∙ ap (λ (d : BegunDossier). length d.pool) from_draft in
-    let cast = to_z w128 (of_z w128 c.signed-whole.result) in
-    let cast_is : cast ≡ pos read.whole = ap (λ (z : ℤ). to_z w128 (of_z w128 z)) c.signed-whole.ensures ∙ to_z_pos w128 loose.whole awaited.2.few ∙ ap pos (sym awaited.2.whole) in
-    let h = subst (IsShareOf c.len-columns.result cast ws) c.in-Share.is c.in-Ok.ensures in
-    let whole : h.0 ≡ read.whole = same_pos h.0 read.whole (sym h.1 ∙ cast_is) in
-    let ranges : IsPartOf (length tree.draft.value.pool) read.whole part = subst (λ n. IsPartOf n read.whole part) columns (subst (λ w. IsPartOf c.len-columns.result w part) whole h.2) in
-    let late = c.if-column-from.false in
-    subst (λ r. Tells (Says r ws) c.take_share.result) (sym awaited.4)
-    (tells_row (after_share p loose.now read c.args.more part) (share_row p loose.now read c.args.more c.args.from ws) c.take_share.result
-    (λ said rest. share_says p ws loose.now read c.args.more c.args.from part said ranges h.3 (omega arith) rest) (c.take_share.ensures fs read awaited.2))
+    let p = split_site d.args.tree.value awaited.0 loose.choice in
+    let h = is_part c awaited.0 read awaited.2 (columns_are before) (whole_is before awaited.2.few) in
+    subst (λ r. Tells (Says r ws) d.take_share.result) (sym awaited.4)
+    (tells_row (after_share p loose.now read d.args.more (part_of c)) (share_row p loose.now read d.args.more d.args.from ws) d.take_share.result
+    (λ said rest. share_says p ws loose.now read d.args.more d.args.from (part_of c) said h.0 h.1 d.if-column-from.false rest) (d.take_share.ensures awaited.0 read awaited.2))

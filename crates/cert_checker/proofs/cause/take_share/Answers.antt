@@ -1,18 +1,17 @@
-use Rattle.std.proofs.Common.{◌≡◌, ◌≤◌, ◌<◌, ◌+◌, ◌++◌, suc, List, [], ◌∷◌, length, ap, refl, subst, sym, ◌∙◌, arith}
+use Rattle.std.proofs.Common.{◌≡◌, ◌+◌, ◌++◌, suc, [], ◌∷◌, ap, refl, subst, sym, ◌∙◌, arith}
 use Rattle.std.specs.Prelude.{slice_index_or}
 use Rattle.std.specs.Box.{with_value}
-use Rattle.crew_terms.specs.Limits.{Limits, Route, root_limits}
-use Rattle.search_terms.specs.Shares.{Share, IsRouteIn}
+use Rattle.crew_terms.specs.Limits.{Route, root_limits}
+use Rattle.search_terms.specs.Shares.{IsRouteIn}
 use Rattle.dossier_terms.specs.Causes.{Part, Shares, column_of}
-use Rattle.dossier_terms.specs.Reading.{Reading, Above, limits_below, parts_due}
+use Rattle.dossier_terms.specs.Reading.{limits_below, parts_due}
 use Rattle.dossier_terms.specs.Rules.{Holds, On}
-use Rattle.node_limits.specs.Rest.{trail_over}
 use Rattle.share_check.specs.Summed.{IsSharesOf}
 use Rattle.cert_checker.specs.Due.{Awaits, IsInLoose, shares_in, split_site}
 use Rattle.cert_checker.specs.declared.due.BegunDossier.{BegunDossier}
 use Rattle.cert_checker.specs.declared.due.TreeDraft.{TreeDraft}
 use Rattle.cert_checker.proofs.NodeRows.{limits_at, taken_woke}
-use Rattle.cert_checker.proofs.CauseRows.{column_is, share_read, summed, summed_back}
+use Rattle.cert_checker.proofs.CauseRows.{column_is, share_read, summed_back}
 use Rattle.cert_checker.proofs.cause.take_share.Goals as goal
 
 pub returns : goal.returns

@@ -1,9 +1,9 @@
-use Rattle.std.proofs.Common.{ap, subst, sym, ◌∙◌}
+use Rattle.std.proofs.Common.{subst, sym, ◌∙◌}
 use Rattle.std.proofs.lemmas.Bool.{both_ways}
 use Rattle.crew_terms.specs.Limits.{root_limits}
 use Rattle.dossier_terms.specs.Counted.{instance_below}
 use Rattle.dossier_terms.specs.Reading.{Prices, limits_of}
-use Rattle.leaf_check.specs.Reader.{IsReady, StandsFor}
+use Rattle.leaf_check.specs.Reader.{IsReady}
 use Rattle.leaf_check.specs.declared.reader.LeafReader.{LeafReader}
 use Rattle.cert_checker.specs.Due.{HasLeafRoom, draft_of, site_of}
 use Rattle.cert_checker.specs.declared.due.TreeDraft.{TreeDraft}

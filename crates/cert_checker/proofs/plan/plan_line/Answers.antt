@@ -1,27 +1,20 @@
 use Rattle.std.proofs.Common.{◌≤◌, ◌-◌, ap, sym, subst, ◌∙◌}
-use Rattle.cert_format.specs.Lines.{IsPlanLine}
 use Rattle.dossier_terms.specs.Reading.{Plans}
 use Rattle.dossier_terms.specs.Table.{Says}
 use Rattle.dossier_terms.specs.BodyTable.{after_job, plan_row}
-use Rattle.cert_checker.specs.Due.{IsBegun, Tells, draft_of}
+use Rattle.cert_checker.specs.Due.{Tells, draft_of}
 use Rattle.cert_checker.specs.declared.due.BegunDossier.{BegunDossier as Kept}
 use Rattle.cert_checker.proofs.Steps.{tells_row}
 use Rattle.cert_checker.proofs.PlanRows.{plan_says}
 use Rattle.cert_checker.proofs.plan.plan_line.Goals as goal
 
-pub judge_job-requires : goal.judge_job-requires
-judge_job-requires c =
-    let begun = subst IsBegun (sym c.deref_mut-held.ensures.value) c.requires.1.0 in
-    record { plan = begun.plan; root = begun.root }
-
 pub returns : goal.returns
 returns c = λ reading a.
-    let h = subst (IsPlanLine c.tasks-tasks.result c.args.words) c.in-Plan.is c.in-Ok.ensures in
+    let h = c.in_ok-unassigned.ensures in
+    let u = c.in_ok-unassigned.field-0.unassigned in
+    let l = c.in_ok-unassigned.field-0.bound in
     let b : Kept = c.deref_mut-held.result.now in
-    let i = b.base.instance in
     let size = c.tasks-tasks.ensures.count in
-    let u = c.in-Plan.unassigned in
-    let l = c.in-Plan.bound in
     let rules = after_job (record (draft_of b) { bound = l }) (c.tasks-tasks.result - u) 0 in
     subst (λ r. Tells (Says r c.args.words) c.judge_job.result) (sym (a.1 ∙ ap (λ (d : Kept). Plans (draft_of d)) (sym c.deref_mut-held.ensures.value)))
     (tells_row rules (plan_row (draft_of b) c.args.words) c.judge_job.result

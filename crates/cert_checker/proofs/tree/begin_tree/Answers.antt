@@ -1,4 +1,4 @@
-use Rattle.std.proofs.Common.{◌≡◌, ◌≤◌, ◌+◌, List, [], length, ap, subst, sym, refl, ◌∙◌, arith}
+use Rattle.std.proofs.Common.{◌≡◌, List, [], ap, subst, sym, refl, ◌∙◌, arith}
 use Rattle.std.specs.Box.{with_value}
 use Rattle.node_limits.specs.Rest.{trail_over}
 use Rattle.node_limits.specs.Trail.{Trail}

@@ -1,13 +1,12 @@
-use Rattle.std.proofs.Common.{rules}
+use Rattle.cert_format.specs.declared.kinds.Expect.TheVariants.{Phi}
+use Rattle.cert_format.specs.declared.kinds.LineKind.TheVariants as kinds
 use Rattle.cert_format.proofs.LeafLines.{phi_line_of, no_phi}
+use Rattle.cert_format.proofs.Readings.{rest_read}
 use Rattle.cert_format.proofs.leaves.read_phi.Goals as goal
 
-pub returns-in_err-values : goal.returns-in_err-values
-returns-in_err-values c =
-    let shape = c.if-not-has_row.ensures in
-    let told = c.in_err-values.ensures.0 in
-    let none = no_phi c.args.task c.args.count c.args.words c.in_err-values.ensures.1 in
-    search (rules, none)
-
 pub returns : goal.returns
-returns c = phi_line_of c.args.task c.args.count c.args.words c.in_ok-values.values c.if-not-has_row.ensures c.in_ok-values.ensures
+returns c =
+    let shape = c.if-not-has_row.ensures in
+    rest_read (Phi c.args.task c.args.count) (kinds.Phi c.args.task) c.args.words c.read_rest.result _ _ c.read_rest.ensures
+    (λ values spelled. phi_line_of c.args.task c.args.count c.args.words values shape spelled)
+    (λ none. (shape, tt, no_phi c.args.task c.args.count c.args.words none))

@@ -1,46 +1,37 @@
-use Rattle.std.proofs.Common.{◌≡◌, ◌+◌, ◌-◌, ℕ, suc, List, length, map, ap, sym, subst, ◌∙◌, arith}
+use Rattle.std.proofs.Common.{◌≡◌, ◌+◌, ◌-◌, suc, List, length, ap, sym, subst, ◌∙◌, arith}
 use Rattle.std.specs.Prelude.{ℤ, pos}
 use Rattle.std.proofs.lemmas.List.{length-map}
 use Rattle.crew_terms.specs.declared.TheConstants.{LAST_MINUTE}
 use Rattle.crew_instance.specs.Draft.{with_row}
-use Rattle.dossier_terms.specs.Reading.{More as Goes, travels_due}
-use Rattle.dossier_terms.specs.Rules.{On}
-use Rattle.dossier_terms.specs.Ranges.{IsTravel}
+use Rattle.dossier_terms.specs.Reading.{travels_due}
+use Rattle.dossier_terms.specs.Rules.{Goes}
 use Rattle.dossier_terms.specs.HeadTable.{after_travel}
 use Rattle.head_check.specs.declared.due.Head.{Head}
-use Rattle.head_check.specs.declared.due.HeadStep.TheVariants.{More}
 use Rattle.head_check.specs.Numbers.{AreBelow, naturals}
-use Rattle.head_check.specs.Head.{IsHead, HeadTells, instance_so_far, rows_read, opening_of}
-use Rattle.head_check.proofs.Steps.{plainly}
+use Rattle.head_check.specs.Head.{HasRowsLeft, IsHead, IsRowOf, HeadTells, instance_so_far, opening_of, read_before_rows}
+use Rattle.head_check.proofs.Steps.{told_by}
 use Rattle.head_check.proofs.HeadRows.{travel_parts}
 use Rattle.head_check.proofs.HeadSteps.{head_more, minutes_below}
 use Rattle.head_check.proofs.head.add_travel.Goals as goal
 use Rattle.head_check.specs.NumbersBack.{naturals-pos}
-
--- what is read of the head where so many more rows are to come after the next, and the row that is next
-abbrev IsRead : ℕ → Head → Type 0
-IsRead more h = (p : ℕ) × (p + suc more ≡ h.size.places) × IsHead h h.size.places p 0 0
-
-abbrev IsRowOf : List ℤ → Head → Type 0
-IsRowOf times h = (row : List ℕ) × (times ≡ map pos row) × IsTravel h.size.places row
 
 counted : (times : List ℤ) (h : Head) → IsRowOf times h → length times ≡ h.size.places
 counted times h t = ap length t.1 ∙ length-map t.0 pos ∙ t.2.count
 
 pub overflow_sub-from : goal.overflow_sub-from
 overflow_sub-from c =
-    let held = subst (IsRead c.args.more) (sym c.deref_mut-held.ensures.value) c.requires.held in
+    let held = subst (λ (h : Head). HasRowsLeft h (suc c.args.more)) (sym c.deref_mut-held.ensures.value) c.requires.held in
     let n = held.2.places in let l = held.1 in let m = c.places.ensures.count in omega arith
 
 pub set_row-requires-clause-place : goal.set_row-requires-clause-place
 set_row-requires-clause-place c =
-    let held = subst (IsRead c.args.more) (sym c.deref_mut-held.ensures.value) c.requires.held in
+    let held = subst (λ (h : Head). HasRowsLeft h (suc c.args.more)) (sym c.deref_mut-held.ensures.value) c.requires.held in
     let n = held.2.places in let l = held.1 in let m = c.places.ensures.count in omega arith
 
 pub set_row-requires-clause-count : goal.set_row-requires-clause-count
 set_row-requires-clause-count c =
     let b : Head = c.deref_mut-held.result.now in
-    let held = subst (IsRead c.args.more) (sym c.deref_mut-held.ensures.value) c.requires.held in
+    let held = subst (λ (h : Head). HasRowsLeft h (suc c.args.more)) (sym c.deref_mut-held.ensures.value) c.requires.held in
     counted c.args.times.now b (subst (IsRowOf c.args.times.now) (sym c.deref_mut-held.ensures.value) c.requires.times) ∙ sym held.2.places
 
 pub set_row-requires-clause-day : goal.set_row-requires-clause-day
@@ -51,7 +42,7 @@ set_row-requires-clause-day c =
 pub due_travels-requires : goal.due_travels-requires
 due_travels-requires c =
     let b : Head = c.deref_mut-held.result.now in
-    let held : IsRead c.args.more b = subst (IsRead c.args.more) (sym c.deref_mut-held.ensures.value) c.requires.held in
+    let held : HasRowsLeft b (suc c.args.more) = subst (λ (h : Head). HasRowsLeft h (suc c.args.more)) (sym c.deref_mut-held.ensures.value) c.requires.held in
     let t : IsRowOf c.args.times.now b = subst (IsRowOf c.args.times.now) (sym c.deref_mut-held.ensures.value) c.requires.times in
     let p = held.0 in
     let l = held.1 in
@@ -72,9 +63,9 @@ pub returns : goal.returns
 returns c = λ row is.
     let b : Head = c.deref_mut-held.result.now in
     let e : b ≡ c.args.head.value = c.deref_mut-held.ensures.value in
-    let held : IsRead c.args.more b = subst (IsRead c.args.more) (sym e) c.requires.held in
+    let held : HasRowsLeft b (suc c.args.more) = subst (λ (h : Head). HasRowsLeft h (suc c.args.more)) (sym e) c.requires.held in
     let t : IsRowOf c.args.times.now b = subst (IsRowOf c.args.times.now) (sym e) c.requires.times in
-    let r = rows_read b c.args.more in
+    let r = b.size.places - suc c.args.more in
     let new = c.set_row.new.builder in
     let l = held.1 in
     let n = held.2.places in
@@ -87,7 +78,8 @@ returns c = λ row is.
     let next : b.size.places - c.args.more ≡ suc r = omega arith in
     let size : length row ≡ b.size.places = sym (length-map row pos) ∙ sym (ap length is) ∙ counted c.args.times.now b t in
     let parts = travel_parts b.builder r row (omega arith) (omega arith) in
-    subst (λ (h : Head). HeadTells (after_travel (opening_of h) c.args.more (instance_so_far h.builder (rows_read h c.args.more)) row) (More c.in_ok-due_travels.field-0)) e
-    (plainly (On (ap Goes (c.in_ok-due_travels.ensures.is ∙ ap (λ x. travels_due (opening_of b) c.args.more (instance_so_far new x)) next
-    ∙ ap (λ d. travels_due (opening_of b) c.args.more (instance_so_far d (suc r))) sets ∙ ap (travels_due (opening_of b) c.args.more) parts)))
-    c.in_ok-due_travels.ensures.holds)
+    subst (λ (h : Head). HeadTells (after_travel (opening_of h) c.args.more (read_before_rows h (suc c.args.more)) row) c.due_travels.result) e
+    (told_by c.due_travels.result c.due_travels.ensures (λ said rest.
+    subst (λ i. Goes (travels_due (opening_of b) c.args.more i) said) parts
+    (subst (λ d. Goes (travels_due (opening_of b) c.args.more (instance_so_far d (suc r))) said) sets
+    (subst (λ x. Goes (travels_due (opening_of b) c.args.more (instance_so_far new x)) said) next rest))))

@@ -1,23 +1,17 @@
-use Rattle.std.proofs.Common.{sym, subst}
-use Rattle.cert_format.specs.Lines.{IsPlaceLine}
-use Rattle.dossier_terms.specs.HeadTable.{after_place}
-use Rattle.head_check.specs.Head.{reading_of, IsHeadStep, HeadTells, instance_so_far, opening_of}
+use Rattle.head_check.specs.Head.{reading_of, opening_of, places_of}
 use Rattle.head_check.specs.declared.due.HeadDue.TheVariants.{Place}
-use Rattle.head_check.specs.declared.due.HeadStep.TheVariants.{No}
-use Rattle.head_check.proofs.Steps.{says_step, tells_step}
+use Rattle.head_check.proofs.Steps.{refused, told_by}
 use Rattle.head_check.proofs.HeadRows.{place_says}
-use Rattle.head_check.proofs.HeadSteps.{if_ok}
 use Rattle.head_check.proofs.head.place_line.Goals as goal
 
-pub returns-in-Err : goal.returns-in-Err
-returns-in-Err c =
-    let due = Place c.args.head c.args.more in
-    subst (λ r. IsHeadStep due c.args.words (No r)) (sym c.reason.ensures) (says_step due c.args.words (No _) (c.fault_is_refused.ensures (reading_of due) c.args.words c.in-Err.fault c.in-Err.ensures) tt)
+pub returns-in_err-name : goal.returns-in_err-name
+returns-in_err-name c =
+    refused _ c.from_residual.result c.in_err-name.field-0.0 c.from_residual.ensures.1
+    (c.fault_is_refused.ensures (reading_of (Place c.args.head c.args.more)) c.args.words _ c.in_err-name.ensures)
 
 pub returns : goal.returns
 returns c =
-    let h = subst (IsPlaceLine c.args.words) c.in-Place.is c.in-Ok.ensures in
-    let due = Place c.args.head c.args.more in
-    let rules = after_place (opening_of c.args.head.value) c.args.more (instance_so_far c.args.head.value.builder 0) c.in-Place.name in
-    if_ok c.add_place.result (HeadTells rules) (IsHeadStep due c.args.words) c.add_place.ensures (λ step t.
-    tells_step due c.args.words step rules (λ said rest. place_says (opening_of c.args.head.value) c.args.more (instance_so_far c.args.head.value.builder 0) c.args.words c.in-Place.name said h.0 h.1 rest) t)
+    let head = c.args.head.value in
+    let h = c.in_ok-name.ensures in
+    told_by c.add_place.result c.add_place.ensures (λ said rest.
+    place_says (opening_of head) c.args.more (places_of head) c.args.words c.in_ok-name.name said h.0 h.1 rest)

@@ -1,43 +1,43 @@
 use Rattle.std.proofs.Common.{sym, subst, ◌∙◌}
-use Rattle.cert_format.specs.Lines.{IsFaultOf, IsTeamOf}
-use Rattle.cert_format.specs.declared.kinds.Expect.TheVariants as expects
-use Rattle.head_check.specs.Numbers.{AreBelow}
-use Rattle.dossier_terms.specs.HeadTable.{after_team}
-use Rattle.head_check.specs.Head.{reading_of, IsHeadStep, HeadTells, instance_so_far, opening_of}
 use Rattle.std.specs.Prelude.{IsTrue}
 use Rattle.crew_terms.specs.declared.Team.{Team}
 use Rattle.crew_terms.specs.declared.TheConstants.{SKILLS}
+use Rattle.cert_format.specs.Lines.{IsFaultOf, IsTeamOf}
+use Rattle.cert_format.specs.Typed.{team_kind}
+use Rattle.cert_format.specs.declared.kinds.Expect.TheVariants as expects
+use Rattle.cert_format.specs.declared.typed.TeamLine.{TeamLine}
+use Rattle.head_check.specs.Numbers.{AreBelow}
+use Rattle.head_check.specs.Head.{reading_of, opening_of, read_of}
 use Rattle.head_check.specs.declared.due.Head.{Head}
 use Rattle.head_check.specs.declared.due.HeadDue.TheVariants.{Team as TeamDue}
-use Rattle.head_check.specs.declared.due.HeadStep.TheVariants.{No}
-use Rattle.head_check.proofs.Steps.{says_step, tells_step}
+use Rattle.head_check.proofs.Steps.{refused, told_by}
 use Rattle.head_check.proofs.Listed.{below_from}
 use Rattle.head_check.proofs.HeadRows.{team_says, team_rules}
-use Rattle.head_check.proofs.HeadSteps.{if_ok, set_facts}
+use Rattle.head_check.proofs.HeadSteps.{set_facts}
 use Rattle.head_check.proofs.head.team_line.Goals as goal
 
-pub returns-in-Err : goal.returns-in-Err
-returns-in-Err c =
-    let due = TeamDue c.args.head c.args.more in
-    subst (λ r. IsHeadStep due c.args.words (No r)) (sym c.reason.ensures) (says_step due c.args.words (No _) (c.fault_is_refused.ensures (reading_of due) c.args.words c.in-Err.fault (subst (λ (h : Head). IsFaultOf (expects.Team h.size.places) c.args.words c.in-Err.fault) c.deref.ensures c.in-Err.ensures)) tt)
+pub returns-in_err-name : goal.returns-in_err-name
+returns-in_err-name c =
+    refused _ c.from_residual.result c.in_err-name.field-0.0 c.from_residual.ensures.1
+    (c.fault_is_refused.ensures (reading_of (TeamDue c.args.head c.args.more)) c.args.words _
+    (subst (λ (h : Head). IsFaultOf (expects.Team h.size.places) c.args.words c.in_err-name.field-0.0) c.deref.ensures c.in_err-name.ensures))
 
 pub skill_set-set-requires : goal.skill_set-set-requires
 skill_set-set-requires c =
-    let h = subst (IsTeamOf c.args.head.value.size.places c.args.words) c.in-Team.is (subst (λ (h : Head). IsTeamOf h.size.places c.args.words c.in-Ok.kind) c.deref.ensures c.in-Ok.ensures) in
+    let line : TeamLine = c.in_ok-name.field-0 in
+    let h = subst (λ (h : Head). IsTeamOf h.size.places c.args.words (team_kind line)) c.deref.ensures c.in_ok-name.ensures in
     subst (AreBelow SKILLS) (sym h.1) (below_from SKILLS h.0 h.2.skills)
 
 pub returns : goal.returns
 returns c =
     let o = opening_of c.args.head.value in
-    let h = subst (IsTeamOf o.size.places c.args.words) c.in-Team.is (subst (λ (h : Head). IsTeamOf h.size.places c.args.words c.in-Ok.kind) c.deref.ensures c.in-Ok.ensures) in
-    let due = TeamDue c.args.head c.args.more in
-    let i = instance_so_far c.args.head.value.builder o.size.places in
-    let facts = set_facts c.in-Team.skills h.0 c.skill_set-set.result h.1 c.skill_set-set.ensures in
-    let spelled : Team = record { name = c.in-Team.name; home = c.in-Team.home; from = c.in-Team.from; until = c.in-Team.until; skills = 0 } in
+    let i = read_of c.args.head.value in
+    let line : TeamLine = c.in_ok-name.field-0 in
+    let h = subst (λ (h : Head). IsTeamOf h.size.places c.args.words (team_kind line)) c.deref.ensures c.in_ok-name.ensures in
+    let facts = set_facts line.skills h.0 c.skill_set-set.result h.1 c.skill_set-set.ensures in
+    let spelled : Team = record { name = line.name; home = line.home; from = line.from; until = line.until; skills = 0 } in
     let team : Team = record spelled { skills = c.unwrap_or.result } in
-    let rules = after_team o c.args.more i team (IsTrue c.is_some.result) in
-    if_ok c.add_team.result (HeadTells rules) (IsHeadStep due c.args.words) c.add_team.ensures (λ step t.
-    tells_step due c.args.words step rules (λ said rest. team_says o c.args.more i c.args.words (spelled, h.0) said h.2 h.3
+    told_by c.add_team.result c.add_team.ensures (λ said rest. team_says o c.args.more i c.args.words (spelled, h.0) said h.2 h.3
     (team_rules o c.args.more i team h.0 (IsTrue c.is_some.result) said
     (λ is. let f = facts.0 (subst IsTrue c.is_some.ensures is) in (f.0, c.unwrap_or.ensures ∙ f.1))
-    (λ not rise. facts.1 (λ is. not (subst IsTrue (sym c.is_some.ensures) is)) rise) rest)) t)
+    (λ not rise. facts.1 (λ is. not (subst IsTrue (sym c.is_some.ensures) is)) rise) rest))

@@ -1,22 +1,20 @@
-use Rattle.std.proofs.Common.{arith}
-use Rattle.crew_terms.specs.Instance.{no_task}
-use Rattle.leaf_check.proofs.Minutes.{counted, uncounted}
+use Rattle.std.proofs.Common.{◌∙◌}
+use Rattle.std.proofs.lemmas.Bool.{lt-ltb}
+use Rattle.std.proofs.lemmas.Option.{MatchOption-at_some}
+use Rattle.node_limits.specs.Minutes.{AreMinutes, HasNoMinute}
+use Rattle.crew_terms.specs.Minutes.{minute_count}
+use Rattle.leaf_check.proofs.Minutes.{counted, found}
 use Rattle.leaf_check.proofs.keys.counted_minutes.Goals as goal
 
-pub overflow_add-result : goal.overflow_add-result
-overflow_add-result c =
-    let day = (c.instance-day.ensures.is_instance.parts.tasks c.args.j no_task c.requires.task).window.day in
-    let late = c.in-Some.ensures.late in
-    omega arith
+pub unwrap-first-requires : goal.unwrap-first-requires
+unwrap-first-requires c =
+    let n = c.args.limits.now.limits in
+    found c.minutes_are_permitted.ensures n c.args.k c.args.j c.minutes.result c.requires.task c.minutes.ensures.exact ∙ lt-ltb 0 (minute_count n c.args.k c.args.j) c.requires.some
 
-pub returns-in-Some-clause-minutes : goal.returns-in-Some-clause-minutes
-returns-in-Some-clause-minutes c = counted c.minutes_are_permitted.ensures c.args.limits.now.limits c.args.k c.args.j c.in-Some.first c.in-Some.last c.in-Some.ensures.exact
-
-pub returns-in-None-clause-minutes : goal.returns-in-None-clause-minutes
-returns-in-None-clause-minutes c = uncounted c.minutes_are_permitted.ensures c.args.limits.now.limits c.args.k c.args.j c.requires.task c.in-None.ensures.exact
-
-pub returns-in-Some-clause-day : goal.returns-in-Some-clause-day
-returns-in-Some-clause-day c =
-    let day = (c.instance-day.ensures.is_instance.parts.tasks c.args.j no_task c.requires.task).window.day in
-    let late = c.in-Some.ensures.late in
-    omega (arith, c.in-Some.ensures.exact.order)
+pub returns-clause-minutes : goal.returns-clause-minutes
+returns-clause-minutes c =
+    let n = c.args.limits.now.limits in
+    let first = c.unwrap-first.result.0 in
+    let last = c.unwrap-first.result.1 in
+    counted c.minutes_are_permitted.ensures n c.args.k c.args.j first last
+    (MatchOption-at_some (HasNoMinute n c.args.k c.args.j) (λ m. AreMinutes n c.args.k c.args.j m.0 m.1) c.unwrap-first.result c.unwrap-first.ensures c.minutes.ensures.exact)

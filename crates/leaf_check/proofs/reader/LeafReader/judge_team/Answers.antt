@@ -9,7 +9,9 @@ use Rattle.leaf_check.proofs.Told.{read_table, team_low, team_worth, team_holds,
 use Rattle.leaf_check.proofs.reader.LeafReader.judge_team.Goals as goal
 
 pub returns-in-Holds-clause-tells : goal.returns-in-Holds-clause-tells
-returns-in-Holds-clause-tells c = λ a leaf left table g read count teams potentials.
+returns-in-Holds-clause-tells c = λ a leaf left table g upto potentials.
+    let read = upto.read in
+    let count = upto.count in
     let n = c.args.limits.now.limits in
     let r : LeafReader = record c.args.self.now { room = c.local.new.room } in
     let kept : HasReadLeaf n r leaf = record { prices = read.prices; worths = read.worths } in
@@ -21,12 +23,16 @@ returns-in-Holds-clause-tells c = λ a leaf left table g read count teams potent
     let fits : FitsSigned w64 c.index-worth.result.now = search rules in
     let worth : ℤ = to_z w64 (of_z w64 c.index-worth.result.now) in
     let is : worth ≡ table.worth = to_z-of_z w64 c.index-worth.result.now fits ∙ c.index-worth.ensures ∙ get_or_default r.worths.items team c.index-worth.result.now (pos 0) short ∙ potentials.worth in
+    let teams = upto.teams in
     let longer = length-append leaf.tables (table ∷ []) in
     team_holds a n r leaf team left table worth g.limits count kept same is c.after_table.result c.after_table.new.self c.in-Holds.ensures.verdict
-    (c.after_table.ensures.tells a (with_table leaf table) left g (read_table n r leaf table team count short potentials.worth kept) (omega arith) (omega arith))
+    (c.after_table.ensures.tells a (with_table leaf table) left g
+    (record { read = read_table n r leaf table team count short potentials.worth kept; count = omega arith; teams = omega arith }))
 
 pub returns-in-Low-clause-tells : goal.returns-in-Low-clause-tells
-returns-in-Low-clause-tells c = λ a leaf left table g read count teams potentials.
+returns-in-Low-clause-tells c = λ a leaf left table g upto potentials.
+    let read = upto.read in
+    let count = upto.count in
     let n = c.args.limits.now.limits in
     let r : LeafReader = record c.args.self.now { room = c.local.new.room } in
     let kept : HasReadLeaf n r leaf = record { prices = read.prices; worths = read.worths } in
@@ -40,7 +46,9 @@ returns-in-Low-clause-tells c = λ a leaf left table g read count teams potentia
     team_low a n r leaf c.args.team left table worth g.limits count kept same is c.in-Low.task c.in-Low.ensures.verdict
 
 pub returns-in-Worth-clause-tells : goal.returns-in-Worth-clause-tells
-returns-in-Worth-clause-tells c = λ a leaf left table g read count teams potentials.
+returns-in-Worth-clause-tells c = λ a leaf left table g upto potentials.
+    let read = upto.read in
+    let count = upto.count in
     let n = c.args.limits.now.limits in
     let r : LeafReader = record c.args.self.now { room = c.local.new.room } in
     let kept : HasReadLeaf n r leaf = record { prices = read.prices; worths = read.worths } in

@@ -13,9 +13,9 @@ returns-in-Extra-clause-judged c = λ a s g stands.
 pub returns-in-Worth-clause-judged : goal.returns-in-Worth-clause-judged
 returns-in-Worth-clause-judged c = λ a s g stands.
     at_worth a c.args.limits.now.limits c.args.self.now c.worth_line.new.self s c.args.words c.worth_line.result c.in-Worth.team g.limits c.in-Worth.is stands
-    (λ leaf left read count teams. c.worth_line.ensures.tells a leaf left g read count teams)
+    (λ leaf left upto. c.worth_line.ensures.tells a leaf left g upto)
 
 pub returns-in-Phi-clause-judged : goal.returns-in-Phi-clause-judged
 returns-in-Phi-clause-judged c = λ a s g stands.
     at_phi a c.args.limits.now.limits c.args.self.now c.potentials_line.new.self s c.args.words c.potentials_line.result c.in-Phi.team c.in-Phi.task g.limits c.in-Phi.is stands
-    (λ leaf left table js read count teams potentials row. c.potentials_line.ensures.tells a leaf left table js g read count teams potentials row)
+    (λ leaf left table js upto potentials row. c.potentials_line.ensures.tells a leaf left table js g upto potentials row)

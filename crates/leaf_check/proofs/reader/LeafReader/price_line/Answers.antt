@@ -1,31 +1,31 @@
 use Rattle.std.proofs.Common.{◌≡◌, [], length, ap, sym, subst, refl, ◌∙◌}
 use Rattle.crew_terms.specs.Limits.{has_required, tasks_in}
 use Rattle.crew_terms.specs.Leaf.{IsPrice}
-use Rattle.cert_format.specs.Lines.{IsFaultOf, IsPriceLine}
+use Rattle.cert_format.specs.Lines.{IsFaultOf}
 use Rattle.cert_format.specs.declared.kinds.Expect.TheVariants as expected
 use Rattle.crew_terms.specs.Minutes.{priced}
-use Rattle.dossier_terms.specs.Reading.{No as Refuses, limits_of, Prices}
+use Rattle.dossier_terms.specs.Reading.{limits_of, Prices}
 use Rattle.dossier_terms.specs.Ranges.{AreNumbers}
 use Rattle.dossier_terms.specs.LeafTable.{after_extra, price_row}
-use Rattle.leaf_check.specs.Reader.{HasReadLeaf, LeafTells, TellsNo, priced_leaf}
+use Rattle.leaf_check.specs.Reader.{HasReadLeaf, LeafTells, priced_leaf}
 use Rattle.leaf_check.specs.declared.reader.LeafReader.{LeafReader}
 use Rattle.leaf_check.proofs.Listed.{left_first}
 use Rattle.leaf_check.proofs.Lines.{price_read}
 use Rattle.leaf_check.proofs.Read.{first_prices}
-use Rattle.leaf_check.proofs.Told.{tells_rest}
+use Rattle.leaf_check.proofs.Told.{tells_fault, tells_rest}
 use Rattle.leaf_check.proofs.reader.LeafReader.price_line.Goals as goal
 
-pub returns-in-Err-clause-tells : goal.returns-in-Err-clause-tells
-returns-in-Err-clause-tells c = λ a g.
+pub returns-in_err-prices-clause-tells : goal.returns-in_err-prices-clause-tells
+returns-in_err-prices-clause-tells c = λ a g.
     let up : c.tasks-tasks.result ≡ tasks_in (limits_of a) = c.tasks-tasks.ensures.count ∙ ap (λ i. length i.tasks) c.instance.ensures.instance ∙ ap tasks_in (sym g.limits) in
-    TellsNo c.reason.result (subst (λ r. price_row a c.args.words (Refuses r)) (sym c.reason.ensures)
-    (c.fault_is_refused.ensures (Prices a) c.args.words c.in-Err.fault (subst (λ m. IsFaultOf (expected.Price m) c.args.words c.in-Err.fault) up c.in-Err.ensures))) refl
+    tells_fault a (Prices a) c.args.words c.in_err-prices.field-0.0 c.from_residual.result c.args.self.now c.fault_is_refused.ensures c.from_residual.ensures.1
+    (subst (λ m. IsFaultOf (expected.Price m) c.args.words c.in_err-prices.field-0.0) up c.in_err-prices.ensures)
 
 pub returns-clause-tells : goal.returns-clause-tells
 returns-clause-tells c = λ a g.
     let n = c.args.limits.now.limits in
-    let vs = c.in-Price.prices in
-    let h = subst (IsPriceLine c.tasks-tasks.result c.args.words) c.in-Price.is c.in-Ok.ensures in
+    let vs = c.in_ok-prices.prices in
+    let h = c.in_ok-prices.ensures in
     let up : c.tasks-tasks.result ≡ tasks_in (limits_of a) = c.tasks-tasks.ensures.count ∙ ap (λ i. length i.tasks) c.instance.ensures.instance ∙ ap tasks_in (sym g.limits) in
     let fits : AreNumbers IsPrice (tasks_in (limits_of a)) vs = subst (λ m. AreNumbers IsPrice m vs) up h.0 in
     let r : LeafReader = record c.args.self.now { prices = c.set_prices.new.prices } in
