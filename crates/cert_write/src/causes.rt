@@ -43,7 +43,8 @@ pub enum Cause<'a> {
 
 /// The first line of a loose cause.
 fn put_first<K: Sink>(out: &mut K, now: u32, den: i128, shares: &[Share]) -> Result<(), WriteFault>
-    ensures { Puts K.Sink (line_text (loose_line now (unsigned_abs den) (length shares.now))) out.old out.new result }
+    ensures { Puts K.Sink (line_text (loose_line now (unsigned_abs den) (length shares.now)))
+        out.old out.new result }
 {
     let mut buffer = Buffer::new();
     let whole = buffer.format(den.unsigned_abs()).as_bytes();
@@ -77,7 +78,8 @@ fn put_share<K: Sink>(out: &mut K, share: Share) -> Result<(), WriteFault>
 
 /// The lines of the columns' shares.
 fn put_shares<K: Sink>(out: &mut K, shares: &[Share]) -> Result<(), WriteFault>
-    ensures { Puts K.Sink (flat_map line_text (map share_line (map part_of shares.now))) out.old out.new result }
+    ensures { Puts K.Sink (flat_map line_text (map share_line (map part_of shares.now))) out.old
+        out.new result }
 {
     for share in shares {
         put_share(out, *share)?;
@@ -96,7 +98,8 @@ fn put_parts<K: Sink>(out: &mut K, parts: i128) -> Result<(), WriteFault>
 
 /// The words of what is left unassigned of each task, behind others of a line.
 fn put_open_parts<K: Sink>(out: &mut K, left_open: &[i128]) -> Result<(), WriteFault>
-    ensures { Puts K.Sink (flat_map next_word (map decimal (map unsigned_abs left_open.now))) out.old out.new result }
+    ensures { Puts K.Sink (flat_map next_word (map decimal (map unsigned_abs left_open.now)))
+        out.old out.new result }
 {
     for parts in left_open {
         put_parts(out, *parts)?;
@@ -106,7 +109,8 @@ fn put_open_parts<K: Sink>(out: &mut K, left_open: &[i128]) -> Result<(), WriteF
 
 /// The line of what is left unassigned of each task.
 fn put_spare<K: Sink>(out: &mut K, left_open: &[i128]) -> Result<(), WriteFault>
-    ensures { Puts K.Sink (line_text (spare_line (map unsigned_abs left_open.now))) out.old out.new result }
+    ensures { Puts K.Sink (line_text (spare_line (map unsigned_abs left_open.now))) out.old
+        out.new result }
 {
     put_all(out, b"spare")?;
     put_open_parts(out, left_open)?;
@@ -121,7 +125,11 @@ fn put_loose<K: Sink>(
     shares: &[Share],
     left_open: &[i128],
 ) -> Result<(), WriteFault>
-    ensures { let s : Shares = record { whole = unsigned_abs den; parts = map part_of shares.now; spare = map unsigned_abs left_open.now } in
+    ensures { let s : Shares = record {
+      whole = unsigned_abs den;
+      parts = map part_of shares.now;
+      spare = map unsigned_abs left_open.now;
+    } in
         Puts K.Sink (flat_map line_text (cause_lines (Loose now s))) out.old out.new result }
 {
     put_first(out, now, den, shares)?;
@@ -171,7 +179,8 @@ fn put_spent<K: Sink>(out: &mut K, now: u32) -> Result<(), WriteFault>
 
 /// The lines of a cause.
 pub(crate) fn put_cause<K: Sink>(out: &mut K, cause: &Cause<'_>) -> Result<(), WriteFault>
-    ensures { Puts K.Sink (flat_map line_text (cause_lines (cause_of cause.now))) out.old out.new result }
+    ensures { Puts K.Sink (flat_map line_text (cause_lines (cause_of cause.now))) out.old
+        out.new result }
 {
     match cause {
         Cause::None => put_line(out, &[Part::Word(b"why"), Part::Word(b"none")]),

@@ -43,7 +43,8 @@ pub struct Parts<'a, C: Columns> {
 
 /// The first line, and the lines of the instance with its frozen jobs.
 fn put_head<K: Sink>(out: &mut K, instance: &Instance, nodes: u32) -> Result<(), WriteFault>
-    ensures { Puts K.Sink (flat_map line_text (head_lines Two instance.now nodes)) out.old out.new result }
+    ensures { Puts K.Sink (flat_map line_text (head_lines Two instance.now nodes)) out.old
+        out.new result }
 {
     put_line(
         out,
@@ -66,7 +67,8 @@ fn put_dossier<K: Sink, C: Columns>(
     requires dossier { (d : Dossier) × IsDossierOf (given C.columns parts.now) d }
     requires valid { AreWritable (given C.columns parts.now) }
     requires ready { IsReady parts.now.instance.now parts.now.tree.now desk.old }
-    ensures { (d : Dossier) → IsDossierOf (given C.columns parts.now) d → Puts K.Sink (text_of d) out.old out.new result }
+    ensures { (d : Dossier) → IsDossierOf (given C.columns parts.now) d
+        → Puts K.Sink (text_of d) out.old out.new result }
 {
     one_tree();
     put_head(out, parts.instance, parts.nodes)?;

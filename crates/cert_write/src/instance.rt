@@ -73,7 +73,8 @@ fn put_travels<K: Sink>(out: &mut K, instance: &Instance) -> Result<(), WriteFau
 /// Adds the numbers of the skills of a set, rising.
 fn push_skills(line: &mut Line<'_>, skills: u64)
     requires { array_vec_len line.old + SKILLS ≤ MOST_PARTS }
-    ensures { map part_word line.new.items ≡ map part_word line.old.items ++ map decimal (skills_of skills) }
+    ensures { map part_word line.new.items
+        ≡ map part_word line.old.items ++ map decimal (skills_of skills) }
 {
     for s in 0..SKILLS {
         if skills >> s & 1 == 1 {

@@ -16,7 +16,8 @@ use line_out::{Part, put_line};
 /// The line of the frozen job of task `j`, if it has one.
 fn put_if_frozen<K: Sink>(out: &mut K, instance: &Instance, j: u32) -> Result<(), WriteFault>
     requires { j < length instance.now.tasks }
-    ensures { Puts K.Sink (flat_map line_text (map keep_line (job_list j (job_of instance.now.frozen j))))
+    ensures { Puts K.Sink (flat_map line_text
+        (map keep_line (job_list j (job_of instance.now.frozen j))))
         out.old out.new result }
 {
     match instance.frozen(j) {
@@ -61,7 +62,8 @@ fn count_frozen(instance: &Instance) -> u32
 
 /// The lines of the frozen jobs, behind the line that tells how many there are.
 pub(crate) fn put_frozen<K: Sink>(out: &mut K, instance: &Instance) -> Result<(), WriteFault>
-    ensures { Puts K.Sink (flat_map line_text (frozen_lines Two instance.now.frozen)) out.old out.new result }
+    ensures { Puts K.Sink (flat_map line_text (frozen_lines Two instance.now.frozen)) out.old
+        out.new result }
 {
     put_line(
         out,
@@ -73,7 +75,8 @@ pub(crate) fn put_frozen<K: Sink>(out: &mut K, instance: &Instance) -> Result<()
 /// The line of task `j`, if the plan has it begun.
 fn put_if_begun<K: Sink>(out: &mut K, plan: &Plan, j: u32) -> Result<(), WriteFault>
     requires { j < length plan.now }
-    ensures { Puts K.Sink (flat_map line_text (map do_line (job_list j (job_of plan.now j)))) out.old out.new result }
+    ensures { Puts K.Sink (flat_map line_text (map do_line (job_list j (job_of plan.now j))))
+        out.old out.new result }
 {
     match plan.start(j) {
         None => Ok(()),
@@ -83,7 +86,8 @@ fn put_if_begun<K: Sink>(out: &mut K, plan: &Plan, j: u32) -> Result<(), WriteFa
 
 /// The lines of the tasks that the plan has begun.
 fn put_begun<K: Sink>(out: &mut K, plan: &Plan) -> Result<(), WriteFault>
-    ensures { Puts K.Sink (flat_map line_text (map do_line (jobs_from 0 plan.now))) out.old out.new result }
+    ensures { Puts K.Sink (flat_map line_text (map do_line (jobs_from 0 plan.now))) out.old
+        out.new result }
 {
     for j in 0..plan.len() as u32 {
         put_if_begun(out, plan, j)?;

@@ -11,7 +11,8 @@ use label_pricing::{one_worth, teams_have_bests};
 
 /// Parts of which a dossier can be written have a dossier, and one alone.
 pub fn parts_have_one_dossier()
-    ensures some { (g : Given) → IsInstance g.instance → AreWritable g → (d : Dossier) × IsDossierOf g d }
+    ensures some { (g : Given) → IsInstance g.instance → AreWritable g
+        → (d : Dossier) × IsDossierOf g d }
     ensures one { (g : Given) (d e : Dossier) → IsDossierOf g d → IsDossierOf g e → d ≡ e }
 {
     minutes_are_permitted();

@@ -38,7 +38,8 @@ type Line<'a> = ArrayVec<Part<'a>, MOST_PARTS>;
 /// The words of the prices of the tasks, behind others of a line.
 fn put_prices<K: Sink>(out: &mut K, prices: &Prices) -> Result<(), WriteFault>
     requires { length prices.now.pi ≤ MOST_TASKS }
-    ensures { Puts K.Sink (flat_map next_word (map signed_decimal prices.now.pi)) out.old out.new result }
+    ensures { Puts K.Sink (flat_map next_word (map signed_decimal prices.now.pi)) out.old
+        out.new result }
 {
     for j in 0..prices.tasks() as u32 {
         put_next(out, &Part::Signed(prices.pi(j)))?;
@@ -67,7 +68,9 @@ fn push_extras(line: &mut Line<'_>, limits: &Limits<'_>, prices: &Prices, j: u32
     requires room { array_vec_len line.old + MOST_TEAMS ≤ MOST_PARTS }
     requires task { j < tasks_in limits.now.limits }
     requires prices { ArePricesOf limits.now.limits prices.now }
-    ensures { map part_word line.new.items ≡ map part_word line.old.items ++ map signed_decimal (extra_prices limits.now.limits prices.now j) }
+    ensures { map part_word line.new.items
+        ≡ map part_word line.old.items
+        ++ map signed_decimal (extra_prices limits.now.limits prices.now j) }
 {
     for k in 0..limits.instance().teams() as u32 {
         if is_required(limits.pair(k, j)) {
@@ -85,7 +88,8 @@ fn put_extra<K: Sink>(
 ) -> Result<(), WriteFault>
     requires task { j < tasks_in limits.now.limits }
     requires prices { ArePricesOf limits.now.limits prices.now }
-    ensures { Puts K.Sink (line_text (extra_words limits.now.limits prices.now j)) out.old out.new result }
+    ensures { Puts K.Sink (line_text (extra_words limits.now.limits prices.now j)) out.old
+        out.new result }
 {
     let mut line = Line::new();
     line.push(Part::Word(b"extra"));
@@ -103,7 +107,9 @@ fn put_if_priced<K: Sink>(
 ) -> Result<(), WriteFault>
     requires task { j < tasks_in limits.now.limits }
     requires prices { ArePricesOf limits.now.limits prices.now }
-    ensures { Puts K.Sink (flat_map line_text (map (extra_words limits.now.limits prices.now) (filter (has_required limits.now.limits) (j ∷ []))))
+    ensures { Puts K.Sink (flat_map line_text
+        (map (extra_words limits.now.limits prices.now)
+        (filter (has_required limits.now.limits) (j ∷ []))))
         out.old out.new result }
 {
     if limits.required(j) == 0 {
@@ -115,7 +121,8 @@ fn put_if_priced<K: Sink>(
 /// The lines of the prices of required teams.
 fn put_extras<K: Sink>(out: &mut K, limits: &Limits<'_>, prices: &Prices) -> Result<(), WriteFault>
     requires { ArePricesOf limits.now.limits prices.now }
-    ensures { Puts K.Sink (flat_map line_text (map (extra_words limits.now.limits prices.now) (priced limits.now.limits)))
+    ensures { Puts K.Sink (flat_map line_text
+        (map (extra_words limits.now.limits prices.now) (priced limits.now.limits)))
         out.old out.new result }
 {
     for j in 0..limits.instance().tasks() as u32 {
@@ -134,7 +141,8 @@ fn put_leaf<K: Sink>(
     requires prices { ArePricesOf limits.now.limits prices.now }
     requires room { IsRoomOf limits.now.limits.instance room.old }
     ensures puts { (leaf : Leaf) → IsPricedLeaf limits.now.limits prices.now leaf →
-        Puts K.Sink (flat_map line_text (leaf_lines Two limits.now.limits leaf)) out.old out.new result }
+        Puts K.Sink (flat_map line_text (leaf_lines Two limits.now.limits leaf)) out.old
+        out.new result }
     ensures room { IsRoomOf limits.now.limits.instance room.new }
 {
     // It is known from here on how many tasks an instance may have.
@@ -166,8 +174,10 @@ pub(crate) fn put_claim<K: Sink>(
 ) -> Result<(), WriteFault>
     requires prices { ArePricesOf limits.now.limits prices.now }
     requires room { IsRoomOf limits.now.limits.instance room.old }
-    ensures puts { (claim : Claim Leaf) → IsPricedClaim limits.now.limits (record { state = state; prices = prices.now }) claim →
-        Puts K.Sink (flat_map line_text (claim_lines Two limits.now.limits claim)) out.old out.new result }
+    ensures puts { (claim : Claim Leaf) → IsPricedClaim limits.now.limits
+        (record { state = state; prices = prices.now }) claim →
+        Puts K.Sink (flat_map line_text (claim_lines Two limits.now.limits claim)) out.old
+        out.new result }
     ensures room { IsRoomOf limits.now.limits.instance room.new }
 {
     put_state(out, state)?;

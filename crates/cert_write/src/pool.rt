@@ -25,7 +25,8 @@ fn put_visit<K: Sink>(out: &mut K, visit: Visit) -> Result<(), WriteFault>
 
 /// The words of visits, behind others of a line.
 fn put_visits<K: Sink>(out: &mut K, visits: &[Visit]) -> Result<(), WriteFault>
-    ensures { Puts K.Sink (flat_map next_word (flat_map visit_words visits.now)) out.old out.new result }
+    ensures { Puts K.Sink (flat_map next_word (flat_map visit_words visits.now)) out.old
+        out.new result }
 {
     for visit in visits {
         put_visit(out, *visit)?;
@@ -35,7 +36,8 @@ fn put_visits<K: Sink>(out: &mut K, visits: &[Visit]) -> Result<(), WriteFault>
 
 /// The line of a route.
 fn put_route<K: Sink>(out: &mut K, team: u32, visits: &[Visit]) -> Result<(), WriteFault>
-    ensures { Puts K.Sink (line_text (route_line (route_of team visits.now))) out.old out.new result }
+    ensures { Puts K.Sink (line_text (route_line (route_of team visits.now))) out.old
+        out.new result }
 {
     put_all(out, b"route")?;
     put_next(out, &number(team))?;
@@ -45,7 +47,8 @@ fn put_route<K: Sink>(out: &mut K, team: u32, visits: &[Visit]) -> Result<(), Wr
 
 /// The lines of the columns.
 fn put_routes<K: Sink, C: Columns>(out: &mut K, columns: &C) -> Result<(), WriteFault>
-    ensures { Puts K.Sink (flat_map line_text (map route_line (C.columns columns.now))) out.old out.new result }
+    ensures { Puts K.Sink (flat_map line_text (map route_line (C.columns columns.now))) out.old
+        out.new result }
 {
     for id in 0..columns.len() {
         put_route(out, columns.team(id), columns.visits(id))?;
@@ -59,7 +62,8 @@ pub(crate) fn put_pool<K: Sink, C: Columns>(
     columns: &C,
     kept: usize,
 ) -> Result<(), WriteFault>
-    ensures { Puts K.Sink (flat_map line_text (pool_lines kept (C.columns columns.now))) out.old out.new result }
+    ensures { Puts K.Sink (flat_map line_text (pool_lines kept (C.columns columns.now))) out.old
+        out.new result }
 {
     let count = columns.len() as u64;
     put_line(

@@ -17,7 +17,8 @@ use potentials::Table;
 
 /// The words of a run, behind others of a line.
 fn put_run<K: Sink>(out: &mut K, t: u32, value: i64) -> Result<(), WriteFault>
-    ensures { Puts K.Sink (flat_map next_word (run_words (record { from = t; value = value }))) out.old out.new result }
+    ensures { Puts K.Sink (flat_map next_word (run_words (record { from = t; value = value })))
+        out.old out.new result }
 {
     put_next(out, &number(t))?;
     put_next(out, &Part::Signed(value))
@@ -25,7 +26,8 @@ fn put_run<K: Sink>(out: &mut K, t: u32, value: i64) -> Result<(), WriteFault>
 
 /// The words of a run that begins here, where the number is another than the last one.
 fn put_change<K: Sink>(out: &mut K, last: Option<i64>, t: u32, value: i64) -> Result<(), WriteFault>
-    ensures { Puts K.Sink (flat_map next_word (flat_map run_words (run_at last t value))) out.old out.new result }
+    ensures { Puts K.Sink (flat_map next_word (flat_map run_words (run_at last t value))) out.old
+        out.new result }
 {
     match last {
         Some(before) if before == value => Ok(()),
@@ -57,7 +59,8 @@ fn put_runs<K: Sink>(
     requires task { j < length table.now }
     requires order { first ≤ end }
     requires minutes { (t : ℕ) → first ≤ t → t < end → CoversMinute table.now j t }
-    ensures { Puts K.Sink (flat_map next_word (flat_map run_words (runs_of first (row_of table.now j first (end - first)))))
+    ensures { Puts K.Sink (flat_map next_word
+        (flat_map run_words (runs_of first (row_of table.now j first (end - first)))))
         out.old out.new result }
 {
     for t in first..end {
@@ -77,7 +80,8 @@ pub(crate) fn put_steps<K: Sink>(
     requires task { j < length table.now }
     requires order { first ≤ end }
     requires minutes { (t : ℕ) → first ≤ t → t < end → CoversMinute table.now j t }
-    ensures { Puts K.Sink (line_text (steps_line j (runs_of first (row_of table.now j first (end - first)))))
+    ensures { Puts K.Sink (line_text (steps_line j
+        (runs_of first (row_of table.now j first (end - first)))))
         out.old out.new result }
 {
     put_all(out, b"steps")?;

@@ -53,7 +53,9 @@ fn put_if_open<K: Sink>(
     requires team { k < teams_in limits.now.limits }
     requires task { j < tasks_in limits.now.limits }
     requires table { IsTableOf limits.now.limits.instance table.now }
-    ensures { Puts K.Sink (flat_map line_text (map (row_line limits.now.limits k table.now) (filter (may_begin limits.now.limits k) (j ∷ []))))
+    ensures { Puts K.Sink (flat_map line_text
+        (map (row_line limits.now.limits k table.now)
+        (filter (may_begin limits.now.limits k) (j ∷ []))))
         out.old out.new result }
 {
     minutes_are_permitted();
@@ -74,7 +76,9 @@ fn put_rows<K: Sink>(
 ) -> Result<(), WriteFault>
     requires team { k < teams_in limits.now.limits }
     requires table { IsTableOf limits.now.limits.instance table.now }
-    ensures { Puts K.Sink (flat_map line_text (map (row_line limits.now.limits k table.now) (filter (may_begin limits.now.limits k) (range_with_len 0 (tasks_in limits.now.limits)))))
+    ensures { Puts K.Sink (flat_map line_text
+        (map (row_line limits.now.limits k table.now)
+        (filter (may_begin limits.now.limits k) (range_with_len 0 (tasks_in limits.now.limits)))))
         out.old out.new result }
 {
     for j in 0..limits.instance().tasks() as u32 {
@@ -93,7 +97,8 @@ fn put_table<K: Sink>(
 ) -> Result<(), WriteFault>
     requires team { k < teams_in limits.now.limits }
     requires table { IsTableOf limits.now.limits.instance table.now }
-    ensures { Puts K.Sink (flat_map line_text (team_lines limits.now.limits k (table_in limits.now.limits k worth table.now)))
+    ensures { Puts K.Sink (flat_map line_text
+        (team_lines limits.now.limits k (table_in limits.now.limits k worth table.now)))
         out.old out.new result }
 {
     put_line(out, &[Part::Word(b"worth"), Part::Signed(worth)])?;
@@ -136,7 +141,8 @@ pub(crate) fn put_tables<K: Sink>(
     requires room { HasRoom limits.now.limits.instance pricer.old }
     requires table { IsTableOf limits.now.limits.instance table.old }
     ensures puts { (ts : List Potentials) → ArePricedTables limits.now.limits prices.now 0 ts →
-        Puts K.Sink (flat_map line_text (table_lines Two limits.now.limits 0 ts)) out.old out.new result }
+        Puts K.Sink (flat_map line_text (table_lines Two limits.now.limits 0 ts)) out.old
+        out.new result }
     ensures room { HasRoom limits.now.limits.instance pricer.new }
     ensures table { IsTableOf limits.now.limits.instance table.new }
 {

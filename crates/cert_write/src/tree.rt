@@ -42,7 +42,8 @@ fn put_choice<K: Sink>(out: &mut K, choice: Choice) -> Result<(), WriteFault>
 
 /// The lines of a split.
 fn put_split<K: Sink>(out: &mut K, choice: Choice, cause: &Cause<'_>) -> Result<(), WriteFault>
-    ensures { Puts K.Sink (flat_map line_text (choice_line choice ∷ cause_lines (cause_of cause.now))) out.old out.new result }
+    ensures { Puts K.Sink (flat_map line_text
+        (choice_line choice ∷ cause_lines (cause_of cause.now))) out.old out.new result }
 {
     put_choice(out, choice)?;
     put_cause(out, cause)
@@ -67,12 +68,14 @@ fn put_node<K: Sink>(
     node: &Node,
     causes: &[Cause<'_>],
 ) -> Result<usize, WriteFault>
-    requires due { (root : NodeLimits) × (whole : Written) × (nodes : List TreeNode) × (place : Place) ×
+    requires due { (root : NodeLimits) × (whole : Written) × (nodes : List TreeNode)
+        × (place : Place) ×
         Stands root whole (node.now ∷ nodes) (map cause_of causes.now) limits.old walk.old place }
     requires room { IsRoomOf limits.old.limits.instance room.old }
     ensures goes { (root : NodeLimits) (whole : Written) (nodes : List TreeNode) (place : Place) →
         Stands root whole (node.now ∷ nodes) (map cause_of causes.now) limits.old walk.old place →
-        GoesOn K.Sink root whole nodes (map cause_of causes.now) place out.old out.new limits.new walk.new result }
+        GoesOn K.Sink root whole nodes
+        (map cause_of causes.now) place out.old out.new limits.new walk.new result }
     ensures used { IfOk result (λ n. n ≤ length causes.now) }
     ensures instance { limits.new.limits.instance ≡ limits.old.limits.instance }
     ensures room { IsRoomOf limits.new.limits.instance room.new }
@@ -109,10 +112,13 @@ fn put_nodes<K: Sink>(
     tree: &Tree,
     causes: &[Cause<'_>],
 ) -> Result<(), WriteFault>
-    requires due { (given : BranchTree) × (written : Written) × IsDue (root_limits instance.now) tree.now (map cause_of causes.now) given written }
+    requires due { (given : BranchTree) × (written : Written)
+        × IsDue (root_limits instance.now) tree.now (map cause_of causes.now) given written }
     requires ready { AreReady instance.now tree.now limits.old walk.old room.old }
-    ensures { (given : BranchTree) (written : Written) → IsDue (root_limits instance.now) tree.now (map cause_of causes.now) given written →
-        Puts K.Sink (flat_map line_text (node_lines Two (root_limits instance.now) written)) out.old out.new result }
+    ensures { (given : BranchTree) (written : Written)
+        → IsDue (root_limits instance.now) tree.now (map cause_of causes.now) given written →
+        Puts K.Sink (flat_map line_text (node_lines Two (root_limits instance.now) written)) out.old
+        out.new result }
 {
     one_tree();
     let _few = tree.splits();
@@ -127,7 +133,8 @@ fn put_nodes<K: Sink>(
 
 /// The line of the numbers of a tree.
 fn put_counts<K: Sink>(out: &mut K, tree: &Tree) -> Result<(), WriteFault>
-    ensures { (given : BranchTree) → tree.now ≡ preorder given → Puts K.Sink (line_text (tree_line (counts_of given))) out.old out.new result }
+    ensures { (given : BranchTree) → tree.now ≡ preorder given
+        → Puts K.Sink (line_text (tree_line (counts_of given))) out.old out.new result }
 {
     one_tree();
     put_line(
@@ -152,10 +159,13 @@ pub(crate) fn put_tree<K: Sink>(
     tree: &Tree,
     causes: &[Cause<'_>],
 ) -> Result<(), WriteFault>
-    requires due { (given : BranchTree) × (written : Written) × IsDue (root_limits instance.now) tree.now (map cause_of causes.now) given written }
+    requires due { (given : BranchTree) × (written : Written)
+        × IsDue (root_limits instance.now) tree.now (map cause_of causes.now) given written }
     requires ready { AreReady instance.now tree.now limits.old walk.old room.old }
-    ensures { (given : BranchTree) (written : Written) → IsDue (root_limits instance.now) tree.now (map cause_of causes.now) given written →
-        Puts K.Sink (flat_map line_text (tree_lines Two instance.now written)) out.old out.new result }
+    ensures { (given : BranchTree) (written : Written)
+        → IsDue (root_limits instance.now) tree.now (map cause_of causes.now) given written →
+        Puts K.Sink (flat_map line_text (tree_lines Two instance.now written)) out.old
+        out.new result }
 {
     put_counts(out, tree)?;
     put_nodes(out, limits, walk, room, instance, tree, causes)?;

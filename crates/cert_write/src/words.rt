@@ -35,7 +35,8 @@ pub(crate) fn put_counts<K: Sink>(
     second: u32,
     others: &[u32],
 ) -> Result<(), WriteFault>
-    ensures { Puts K.Sink (line_text (word.now ∷ decimal first ∷ decimal second ∷ map decimal others.now))
+    ensures { Puts K.Sink (line_text (word.now ∷ decimal first ∷ decimal second ∷ map decimal
+        others.now))
         out.old out.new result }
 {
     put_all(out, word)?;

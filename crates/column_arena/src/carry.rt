@@ -49,7 +49,8 @@ fn kept(
     requires teams { teams.now.new ≡ names_of_teams limits.now.limits.instance }
     requires tasks { tasks.now.new ≡ names_of_tasks limits.now.limits.instance }
     requires named { IsNamedBy teams.now.old tasks.now.old route.now }
-    ensures { let named = route_named teams.now.old tasks.now.old route.now in IfOk result (λ found. MatchOption found
+    ensures { let named = route_named teams.now.old tasks.now.old route.now in
+        IfOk result (λ found. MatchOption found
         ((r : TeamRoute) → IsKeptAs limits.now.limits named r → ⊥)
         (λ r. IsKeptAs limits.now.limits named r)) }
 {
@@ -86,7 +87,8 @@ impl Carry {
         columns: &C,
     ) -> Result<Carry, AllocError>
         requires { All (IsOfInstance instance.now) (C.columns columns.now) }
-        ensures { IfOk result (λ carry. carry ≡ map (by_names instance.now) (C.columns columns.now)) }
+        ensures { IfOk result (λ carry. carry
+            ≡ map (by_names instance.now) (C.columns columns.now)) }
     {
         // Names of an instance differ, so columns by names do; and none has no visits.
         let _ = instance.teams();
@@ -112,7 +114,8 @@ impl Carry {
         requires { C.columns columns.old ≡ [] }
         ensures kept { OnOk result (AreKeptIn limits.now.limits self.now (C.columns columns.new)) }
         ensures count { IfOk result (λ count. count ≡ length (C.columns columns.new)) }
-        ensures err { OnErr result ((m : ℕ) × AreKeptIn limits.now.limits (take m self.now) (C.columns columns.new)) }
+        ensures err { OnErr result ((m : ℕ) × AreKeptIn limits.now.limits (take m self.now)
+            (C.columns columns.new)) }
     {
         let alloc = *self.routes.allocator();
         let instance = limits.instance();

@@ -42,6 +42,7 @@ pub trait Columns {
         requires team { team < MOST_TEAMS }
         requires some { 0 < length visits.now }
         requires tasks { All (λ v. v.task < MOST_TASKS) visits.now }
-        ensures added { IfOk result (λ id. IsAdded (columns self.old) (route_of team visits.now) id (columns self.new)) }
+        ensures added { IfOk result (λ id. IsAdded (columns self.old) (route_of team visits.now) id
+            (columns self.new)) }
         ensures err { OnErr result (columns self.new ≡ columns self.old) };
 }

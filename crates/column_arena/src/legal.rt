@@ -54,7 +54,8 @@ fn ruled_out<C: Columns>(
     limits: &Limits<'_>,
     columns: &C,
 ) -> Result<Vec<bool>, AllocError>
-    ensures { IfOk result (λ marks. AreRuledOut limits.now.limits (C.columns columns.now) marks.items) }
+    ensures { IfOk result (λ marks. AreRuledOut limits.now.limits
+        (C.columns columns.now) marks.items) }
 {
     let mut marks = vec![in alloc; false; columns.len()]?;
     for k in 0..limits.instance().teams() as u32 {
@@ -86,7 +87,8 @@ pub fn legal_in<C: Columns>(
     columns: &C,
     out: &mut Vec<usize>,
 ) -> Result<(), AllocError>
-    ensures numbers { OnOk result (AreNumbersWith (IsLegalColumn limits.now.limits (C.columns columns.now)) out.new.items) }
+    ensures numbers { OnOk result (AreNumbersWith
+        (IsLegalColumn limits.now.limits (C.columns columns.now)) out.new.items) }
     ensures routes { OnOk result (AreLegalOf limits.now.limits (C.columns columns.now)
         (map (column_of (C.columns columns.now)) out.new.items)) }
 {

@@ -78,7 +78,8 @@ impl<'n> Renumbering<'n> {
     /// The new number that has the name of an old number; None exactly where there is none.
     pub fn number(&self, k: u32) -> Option<u32>
         requires { k < length self.now.old }
-        ensures { MatchOption result ((j : ℕ) → IsRenumbered self.now k j → ⊥) (IsRenumbered self.now k) }
+        ensures { MatchOption result ((j : ℕ) → IsRenumbered self.now k j → ⊥)
+            (IsRenumbered self.now k) }
     {
         let old = self.old;
         let place = self.new.get_index_of(&old[k as usize])?;

@@ -118,7 +118,9 @@ fn fill(table: &mut Vec<Uses>) -> Result<(), AllocError>
 
 fn reserve_at(table: &mut Vec<Uses>, p: usize) -> Result<(), AllocError>
     requires { p < length table.old.items }
-    ensures ok { OnOk result (table.new.items ≡ slice_set table.old.items p (record (held_at table.old.items p) { spare = max (held_at table.old.items p).spare 1 })) }
+    ensures ok { OnOk result (table.new.items
+        ≡ slice_set table.old.items p (record
+        (held_at table.old.items p) { spare = max (held_at table.old.items p).spare 1 })) }
     ensures err { OnErr result (table.new.items ≡ table.old.items) }
 {
     table[p].reserve()
@@ -129,7 +131,8 @@ pub fn reserve(table: &mut Vec<Uses>, team: u32, visits: &[Visit]) -> Result<(),
     requires team { team < MOST_TEAMS }
     requires tasks { All (λ v. v.task < MOST_TASKS) visits.now }
     ensures same { HaveSameNumbers table.old.items table.new.items }
-    ensures room { OnOk result (All (λ v. 0 < (held_at table.new.items (place_of team v.task)).spare) visits.now) }
+    ensures room { OnOk result (All (λ v. 0 < (held_at table.new.items
+        (place_of team v.task)).spare) visits.now) }
 {
     fill(table)?;
     for visit in visits {
@@ -140,8 +143,10 @@ pub fn reserve(table: &mut Vec<Uses>, team: u32, visits: &[Visit]) -> Result<(),
 
 fn put_at(table: &mut Vec<Uses>, p: usize, id: usize)
     requires within { p < length table.old.items }
-    requires room { is_last (held_at table.old.items p).ids id ≡ false → 0 < (held_at table.old.items p).spare }
-    ensures { table.new.items ≡ slice_set table.old.items p (with_last (held_at table.old.items p) id) }
+    requires room { is_last (held_at table.old.items p).ids id ≡ false
+        → 0 < (held_at table.old.items p).spare }
+    ensures { table.new.items ≡ slice_set table.old.items p
+        (with_last (held_at table.old.items p) id) }
 {
     table[p].put(id);
 }
@@ -150,8 +155,10 @@ fn put_at(table: &mut Vec<Uses>, p: usize, id: usize)
 pub fn note(table: &mut Vec<Uses>, team: u32, visits: &[Visit], id: usize)
     requires team { team < MOST_TEAMS }
     requires tasks { All (λ v. v.task < MOST_TASKS) visits.now }
-    requires room { All (λ v. 0 < (held_at table.old.items (place_of team v.task)).spare) visits.now }
-    requires fresh { All (λ v. is_last (held_at table.old.items (place_of team v.task)).ids id ≡ false) visits.now }
+    requires room { All (λ v. 0 < (held_at table.old.items (place_of team v.task)).spare)
+        visits.now }
+    requires fresh { All (λ v. is_last (held_at table.old.items (place_of team v.task)).ids id
+        ≡ false) visits.now }
     ensures { IsNoted table.old.items team visits.now id table.new.items }
 {
     for visit in visits {

@@ -107,7 +107,8 @@ pub(crate) fn hand_over<C: Columns>(
     offers: &Offers,
     most: u32,
 ) -> Result<Vec<Route<'static>>, AllocError>
-    ensures fresh { IfOk result (λ routes. AreFresh limits.now.limits (C.columns columns.now) routes.items) }
+    ensures fresh { IfOk result (λ routes. AreFresh limits.now.limits
+        (C.columns columns.now) routes.items) }
     ensures few { IfOk result (λ routes. length routes.items ≤ most) }
 {
     let mut routes: Vec<Route<'static>> = Vec::new(alloc);

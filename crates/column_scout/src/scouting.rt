@@ -72,7 +72,8 @@ pub fn scout<C: Columns>(
     ensures required { IfOk result (λ s. IsOnRequired limits.now.limits s.prices) }
     ensures proved { IfOk result (λ s. IsProvedCount limits.now.limits s.prices s.proved) }
     ensures as_much { IfOk result (λ s. ProveAsMuch limits.now.limits s.prices start) }
-    ensures fresh { IfOk result (λ s. AreFresh limits.now.limits (C.columns columns.now) s.routes.items) }
+    ensures fresh { IfOk result (λ s. AreFresh limits.now.limits
+        (C.columns columns.now) s.routes.items) }
     ensures few { IfOk result (λ s. length s.routes.items ≤ effort.routes) }
     ensures closed { IfOk result (λ s. now ≤ s.proved → length s.routes.items ≡ 0) }
     ensures pivots { IfOk result (λ s. s.pivots ≤ effort.pivots) }

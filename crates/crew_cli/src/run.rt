@@ -41,7 +41,9 @@ fn asks_for(words: &[String], word: &str) -> bool
 impl Command {
     /// What the words ask for; None exactly where they are none of the forms.
     fn of(words: &[String]) -> Option<Command>
-        ensures { MatchOption result ((command : Command) → AskFor command (map (λ w. string_bytes w) words.now) → ⊥) (λ command. AskFor command (map (λ w. string_bytes w) words.now)) }
+        ensures { MatchOption result
+            ((command : Command) → AskFor command (map (λ w. string_bytes w) words.now) → ⊥)
+            (λ command. AskFor command (map (λ w. string_bytes w) words.now)) }
     {
         if asks_for(words, "check") {
             return Some(Command::Check);
@@ -105,7 +107,8 @@ fn over_dossiers<S: Source, K: Sink>(
     src: &mut S,
     out: &mut K,
 ) -> Status
-    ensures { Answers S.Source K.Sink (DossiersSay (output_of output)) dossiers_end_with true AreDossiers
+    ensures { Answers S.Source K.Sink (DossiersSay (output_of output)) dossiers_end_with
+        true AreDossiers
         src.old src.new out.old out.new result }
 {
     of_dossiers(read_dossiers(alloc, output, src, out))
@@ -118,7 +121,8 @@ fn over_day<S: Source, K: Sink>(
     src: &mut S,
     out: &mut K,
 ) -> Status
-    ensures { Answers S.Source K.Sink (DaySays output) (day_ends_with output) true (IsFineDay change_stop (MayHave output))
+    ensures { Answers S.Source K.Sink (DaySays output) (day_ends_with output) true
+        (IsFineDay change_stop (MayHave output))
         src.old src.new out.old out.new result }
 {
     of_day(write_rounds(alloc, output, src, out))
@@ -127,7 +131,8 @@ fn over_day<S: Source, K: Sink>(
 /// Does what a command asks for, but for the flush.
 fn answer<S: Source, K: Sink>(alloc: Global, command: Command, src: &mut S, out: &mut K) -> Status
     requires { IsInRange command }
-    ensures { Answers S.Source K.Sink (StatusSays command) (ends_with command) (reads_input command) (IsFine command)
+    ensures { Answers S.Source K.Sink (StatusSays command) (ends_with command) (reads_input command)
+        (IsFine command)
         src.old src.new out.old out.new result }
 {
     match command {
@@ -149,21 +154,26 @@ fn answer<S: Source, K: Sink>(alloc: Global, command: Command, src: &mut S, out:
 pub fn run<S: Source, K: Sink>(alloc: Global, words: &[String], src: &mut S, out: &mut K) -> Status
     // Each status tells what the input is and what was written, also at a fault.
     ensures says { (command : Command) → AskFor command (map (λ w. string_bytes w) words.now)
-        → OfBytes (S.left src.old) (K.got out.old) (K.got out.new) (StatusSays command result (S.left src.new)) }
+        → OfBytes (S.left src.old) (K.got out.old) (K.got out.new)
+        (StatusSays command result (S.left src.new)) }
 
     // Each command ends with one of its own statuses, whatever the source and the sink tell.
-    ensures ends { (command : Command) → AskFor command (map (λ w. string_bytes w) words.now) → IsTrue (ends_with command result) }
+    ensures ends { (command : Command) → AskFor command (map (λ w. string_bytes w) words.now)
+        → IsTrue (ends_with command result) }
 
     // What is done was read to its end, but by a command that reads nothing: it leaves the source as it was.
-    ensures ended { (command : Command) → AskFor command (map (λ w. string_bytes w) words.now) → IsTrue (reads_input command)
+    ensures ended { (command : Command) → AskFor command (map (λ w. string_bytes w) words.now)
+        → IsTrue (reads_input command)
         → IsTrue (is_done result) → HasEnded (S.left src.new) }
-    ensures unread { (command : Command) → AskFor command (map (λ w. string_bytes w) words.now) → reads_input command ≡ false
+    ensures unread { (command : Command) → AskFor command (map (λ w. string_bytes w) words.now)
+        → reads_input command ≡ false
         → src.new ≡ src.old }
 
     // Without a write fault, all that was written is passed on.
     ensures flushed { result ≢ Status.Words → result ≢ Status.WriteFault → K.held out.new ≡ [] }
 
-    ensures words { (result ≡ Status.Words) ↔ ((command : Command) → AskFor command (map (λ w. string_bytes w) words.now) → ⊥) }
+    ensures words { (result ≡ Status.Words)
+        ↔ ((command : Command) → AskFor command (map (λ w. string_bytes w) words.now) → ⊥) }
     ensures untouched { result ≡ Status.Words → (src.new ≡ src.old) × (out.new ≡ out.old) }
 
     // A fault is answered only where its count rose in this call, and never of what does not fail.
@@ -176,14 +186,19 @@ pub fn run<S: Source, K: Sink>(alloc: Global, words: &[String], src: &mut S, out
 
     // Each fault that came is told; only that of a read gives way to that of the flush behind it. What was written is
     // then the same.
-    ensures read_told { result ≢ Status.ReadFault → result ≢ Status.WriteFault → S.faults src.new ≡ S.faults src.old }
+    ensures read_told { result ≢ Status.ReadFault → result ≢ Status.WriteFault
+        → S.faults src.new ≡ S.faults src.old }
     ensures write_told { result ≢ Status.WriteFault → K.faults out.new ≡ K.faults out.old }
-    ensures read_says { (command : Command) → AskFor command (map (λ w. string_bytes w) words.now) → S.faults src.new ≢ S.faults src.old
-        → OfBytes (S.left src.old) (K.got out.old) (K.got out.new) (StatusSays command Status.ReadFault (S.left src.new)) }
+    ensures read_says { (command : Command) → AskFor command (map (λ w. string_bytes w) words.now)
+        → S.faults src.new ≢ S.faults src.old
+        → OfBytes (S.left src.old) (K.got out.old) (K.got out.new)
+        (StatusSays command Status.ReadFault (S.left src.new)) }
 
     // Where no count of faults rises, each input that is fine is done, or memory was wanting.
-    ensures complete { (command : Command) → AskFor command (map (λ w. string_bytes w) words.now) → IfSome (S.left src.old) (λ input. IsFine command input
-        → (Rose (S.faults src.old) (S.faults src.new) → ⊥) → (Rose (K.faults out.old) (K.faults out.new) → ⊥)
+    ensures complete { (command : Command) → AskFor command (map (λ w. string_bytes w) words.now)
+        → IfSome (S.left src.old) (λ input. IsFine command input
+        → (Rose (S.faults src.old) (S.faults src.new) → ⊥)
+        → (Rose (K.faults out.old) (K.faults out.new) → ⊥)
         → IsTrue (is_done result) ⊎ (result ≡ Status.Memory)) }
 {
     let Some(command) = Command::of(words) else {

@@ -25,11 +25,14 @@ pub fn run_steady(
     ensures complete { (command : Command) → AskFor command (map (λ w. string_bytes w) words.now)
         → IsFine command src.old.left → IsTrue (is_done result) ⊎ (result ≡ Status.Memory) }
 
-    ensures words { (result ≡ Status.Words) ↔ ((command : Command) → AskFor command (map (λ w. string_bytes w) words.now) → ⊥) }
+    ensures words { (result ≡ Status.Words)
+        ↔ ((command : Command) → AskFor command (map (λ w. string_bytes w) words.now) → ⊥) }
     ensures untouched { result ≡ Status.Words → src.new ≡ src.old }
-    ensures ended { (command : Command) → AskFor command (map (λ w. string_bytes w) words.now) → IsTrue (reads_input command)
+    ensures ended { (command : Command) → AskFor command (map (λ w. string_bytes w) words.now)
+        → IsTrue (reads_input command)
         → IsTrue (is_done result) → src.new.left ≡ [] }
-    ensures unread { (command : Command) → AskFor command (map (λ w. string_bytes w) words.now) → reads_input command ≡ false
+    ensures unread { (command : Command) → AskFor command (map (λ w. string_bytes w) words.now)
+        → reads_input command ≡ false
         → src.new ≡ src.old }
     ensures reads { result ≢ Status.ReadFault }
     ensures writes { result ≢ Status.WriteFault }
@@ -47,32 +50,42 @@ pub fn run_in_memory(
 ) -> Status
     // Each status tells what the input is and what was written, also at a fault.
     ensures says { (command : Command) → AskFor command (map (λ w. string_bytes w) words.now)
-        → (written : List ℕ) × (out.new.got ≡ out.old.got ++ written) × StatusSays command result (Some src.new.left) src.old.left written }
+        → (written : List ℕ) × (out.new.got ≡ out.old.got ++ written)
+        × StatusSays command result (Some src.new.left) src.old.left written }
 
-    ensures words { (result ≡ Status.Words) ↔ ((command : Command) → AskFor command (map (λ w. string_bytes w) words.now) → ⊥) }
+    ensures words { (result ≡ Status.Words)
+        ↔ ((command : Command) → AskFor command (map (λ w. string_bytes w) words.now) → ⊥) }
     ensures untouched { result ≡ Status.Words → (src.new ≡ src.old) × (out.new ≡ out.old) }
-    ensures ended { (command : Command) → AskFor command (map (λ w. string_bytes w) words.now) → IsTrue (reads_input command)
+    ensures ended { (command : Command) → AskFor command (map (λ w. string_bytes w) words.now)
+        → IsTrue (reads_input command)
         → IsTrue (is_done result) → src.new.left ≡ [] }
-    ensures unread { (command : Command) → AskFor command (map (λ w. string_bytes w) words.now) → reads_input command ≡ false
+    ensures unread { (command : Command) → AskFor command (map (λ w. string_bytes w) words.now)
+        → reads_input command ≡ false
         → src.new ≡ src.old }
 
     // No fault is told where no call is due to fail, of the sink while room is left.
     ensures reads { src.old.fails ≡ [] → result ≢ Status.ReadFault }
-    ensures writes { out.old.fails ≡ [] → result ≡ Status.WriteFault → length out.new.got ≡ out.new.room }
+    ensures writes { out.old.fails ≡ [] → result ≡ Status.WriteFault
+        → length out.new.got ≡ out.new.room }
 
     // Then each input that is fine is done, if memory and room last.
-    ensures complete { (command : Command) → AskFor command (map (λ w. string_bytes w) words.now) → IsFine command src.old.left
+    ensures complete { (command : Command) → AskFor command (map (λ w. string_bytes w) words.now)
+        → IsFine command src.old.left
         → src.old.fails ≡ [] → out.old.fails ≡ []
-        → IsTrue (is_done result) ⊎ (result ≡ Status.Memory) ⊎ ((result ≡ Status.WriteFault) × (length out.new.got ≡ out.new.room)) }
+        → IsTrue (is_done result) ⊎ (result ≡ Status.Memory)
+        ⊎ ((result ≡ Status.WriteFault) × (length out.new.got ≡ out.new.room)) }
 
     // A fault is told only where its count rose in this call, and each that came is told; only that of a read gives way
     // to that of the flush behind it.
     ensures read_fault { result ≡ Status.ReadFault → Rose src.old.faults src.new.faults }
     ensures write_fault { result ≡ Status.WriteFault → Rose out.old.faults out.new.faults }
-    ensures read_told { result ≢ Status.ReadFault → result ≢ Status.WriteFault → src.new.faults ≡ src.old.faults }
+    ensures read_told { result ≢ Status.ReadFault → result ≢ Status.WriteFault
+        → src.new.faults ≡ src.old.faults }
     ensures write_told { result ≢ Status.WriteFault → out.new.faults ≡ out.old.faults }
-    ensures read_says { (command : Command) → AskFor command (map (λ w. string_bytes w) words.now) → src.new.faults ≢ src.old.faults
-        → (written : List ℕ) × (out.new.got ≡ out.old.got ++ written) × StatusSays command Status.ReadFault (Some src.new.left) src.old.left written }
+    ensures read_says { (command : Command) → AskFor command (map (λ w. string_bytes w) words.now)
+        → src.new.faults ≢ src.old.faults
+        → (written : List ℕ) × (out.new.got ≡ out.old.got ++ written)
+        × StatusSays command Status.ReadFault (Some src.new.left) src.old.left written }
     ensures source_later { src.old.faults ≤ src.new.faults }
     ensures sink_later { out.old.faults ≤ out.new.faults }
 {

@@ -36,7 +36,8 @@ pub enum Ended {
 /// Writes the line of the refused record of a day.
 pub(crate) fn refuse<K: Sink>(out: &mut K, number: u64, cause: DayFault) -> Ended
     requires { cause ≢ DayFault.Change ChangeFault.OutOfMemory }
-    ensures refused { result ≡ Ended.Refused → Appended (K.got out.old) (K.got out.new) (refused_line number cause) }
+    ensures refused { result ≡ Ended.Refused → Appended (K.got out.old) (K.got out.new)
+        (refused_line number cause) }
     ensures part { AppendedPart (K.got out.old) (K.got out.new) (refused_line number cause) }
     ensures others { IsTrue (is_refused_or_write_fault result) }
     ensures tells { TellsWrites K.Sink out.old out.new (result ≡ Ended.WriteFault) }

@@ -45,8 +45,10 @@ fn wants_memory(fault: &ChangeFault) -> bool
 
 /// Writes the instance of a round.
 fn put_round<K: Sink>(instance: &Instance, nodes: u32, out: &mut K) -> Taken
-    ensures taken { result ≡ Taken.Whole true → Appended (K.got out.old) (K.got out.new) (instance_text instance.now nodes) }
-    ensures part { result ≡ Taken.WriteFault → AppendedPart (K.got out.old) (K.got out.new) (instance_text instance.now nodes) }
+    ensures taken { result ≡ Taken.Whole true → Appended (K.got out.old) (K.got out.new)
+        (instance_text instance.now nodes) }
+    ensures part { result ≡ Taken.WriteFault → AppendedPart (K.got out.old) (K.got out.new)
+        (instance_text instance.now nodes) }
     ensures others { IsTrue (is_whole_or_write_fault result) }
     ensures tells { TellsWrites K.Sink out.old out.new (result ≡ Taken.WriteFault) }
 {
@@ -60,7 +62,8 @@ fn put_round<K: Sink>(instance: &Instance, nodes: u32, out: &mut K) -> Taken
 fn apply_entry<K: Sink>(desk: &mut Desk, entry: &Entry, out: &mut K) -> Result<Taken, AllocError>
     requires range { IsInRange entry.now }
     requires unknown { desk.old.plans ≡ [] }
-    ensures taken { IfOk result (λ taken. IsTakenSo DayOutput.Instances (of_desk desk.old) entry.now taken (of_desk desk.new) (K.got out.old) (K.got out.new)) }
+    ensures taken { IfOk result (λ taken. IsTakenSo DayOutput.Instances
+        (of_desk desk.old) entry.now taken (of_desk desk.new) (K.got out.old) (K.got out.new)) }
     ensures nothing { OnErr result (K.got out.new ≡ K.got out.old) }
     ensures tells { TellsWrites K.Sink out.old out.new (result ≡ Ok Taken.WriteFault) }
 {
@@ -88,7 +91,8 @@ fn plan_entry<K: Sink>(
     requires range { IsInRange entry.now }
     requires open_yet { session.old.failed ≡ None }
     requires unknown { session.old.day.plans ≡ [] }
-    ensures taken { IfOk result (λ taken. IsTakenSo DayOutput.Dossiers session.old entry.now taken session.new (K.got out.old) (K.got out.new)) }
+    ensures taken { IfOk result (λ taken. IsTakenSo DayOutput.Dossiers session.old entry.now taken
+        session.new (K.got out.old) (K.got out.new)) }
     ensures nothing { OnErr result (K.got out.new ≡ K.got out.old) }
     ensures tells { TellsWrites K.Sink out.old out.new (result ≡ Ok Taken.WriteFault) }
 {
@@ -120,7 +124,9 @@ impl Taker {
         requires range { IsInRange entry.now }
         requires open_yet { (planning_of self.old).failed ≡ None }
         requires unknown { (planning_of self.old).day.plans ≡ [] }
-        ensures taken { IfOk result (λ taken. IsTakenSo (output_of self.old) (planning_of self.old) entry.now taken (planning_of self.new) (K.got out.old) (K.got out.new)) }
+        ensures taken { IfOk result (λ taken. IsTakenSo (output_of self.old)
+            (planning_of self.old) entry.now taken (planning_of self.new) (K.got out.old)
+            (K.got out.new)) }
         ensures output { output_of self.new ≡ output_of self.old }
         ensures nothing { OnErr result (K.got out.new ≡ K.got out.old) }
         ensures tells { TellsWrites K.Sink out.old out.new (result ≡ Ok Taken.WriteFault) }

@@ -12,20 +12,25 @@ use day_records::one_reading;
 
 /// Entries of a day are taken exactly where none is stopped in the state that those before it come to.
 pub fn entries_are_taken_in_turn()
-    ensures { (stops : Stops) (plans : List Plan) (entries : List Entry) → AreTakenBy stops (start_with plans) entries
-        ↔ ((n : ℕ) (entry : Entry) → slice_get entries n ≡ Some entry → stops (state_after plans (take n entries)) entry ≡ None) }
+    ensures { (stops : Stops) (plans : List Plan) (entries : List Entry)
+        → AreTakenBy stops (start_with plans) entries
+        ↔ ((n : ℕ) (entry : Entry) → slice_get entries n ≡ Some entry
+        → stops (state_after plans (take n entries)) entry ≡ None) }
 {}
 
 /// Where only the day's state stops an entry, they are taken exactly where it takes them.
 pub fn state_takes_entries()
-    ensures { (plans : List Plan) (entries : List Entry) → AreTakenBy change_stop (start_with plans) entries
+    ensures { (plans : List Plan) (entries : List Entry)
+        → AreTakenBy change_stop (start_with plans) entries
         ↔ AreTaken (start_with plans) entries }
 {}
 
 /// Where its rounds have these plans, a day's text comes to one list of rounds, and to one refusal or none.
 pub fn one_coming()
-    ensures { (stops : Stops) (plans : List Plan) (text : List ℕ) (rounds others : List Round) (stop other : Option DayStop)
-        → ComesTo stops plans text rounds stop → ComesTo stops plans text others other → (rounds ≡ others) × (stop ≡ other) }
+    ensures { (stops : Stops) (plans : List Plan) (text : List ℕ) (rounds others : List Round)
+        (stop other : Option DayStop)
+        → ComesTo stops plans text rounds stop → ComesTo stops plans text others other
+        → (rounds ≡ others) × (stop ≡ other) }
 {
     one_reading();
 }

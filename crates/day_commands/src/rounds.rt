@@ -32,9 +32,11 @@ fn over_entries<K: Sink>(taker: &mut Taker, day: &Day, out: &mut K) -> Result<En
     requires range { All IsInRange day.now.entries }
     requires none_yet { planning_of taker.old ≡ no_entry_yet }
     ensures says { (text : List ℕ) → IsDay text day.now.entries day.now.stop
-        → IfOk result (λ ended. Wrote (K.got out.old) (K.got out.new) (SaysAt (output_of taker.old) ended None text)) }
+        → IfOk result (λ ended. Wrote (K.got out.old) (K.got out.new)
+        (SaysAt (output_of taker.old) ended None text)) }
     ensures memory { (text : List ℕ) → IsDay text day.now.entries day.now.stop
-        → OnErr result (Wrote (K.got out.old) (K.got out.new) (SaysFirstOf (output_of taker.old) text)) }
+        → OnErr result (Wrote (K.got out.old) (K.got out.new)
+        (SaysFirstOf (output_of taker.old) text)) }
     ensures others { IfOk result (λ ended. IsTrue (is_of_text (output_of taker.old) ended)) }
     ensures tells { TellsWrites K.Sink out.old out.new (result ≡ Ok Ended.WriteFault) }
 {
@@ -64,9 +66,12 @@ fn over_text<K: Sink>(
     out: &mut K,
 ) -> Result<Ended, AllocError>
     requires { length text.now ≤ LONGEST_DAY }
-    ensures says { IfOk result (λ ended. Wrote (K.got out.old) (K.got out.new) (SaysAt output ended None text.now)) }
-    ensures memory { OnErr result (Wrote (K.got out.old) (K.got out.new) (SaysFirstOf output text.now)) }
-    ensures refused { result ≡ Ok Ended.Refused → IsFineDay change_stop (MayHave output) text.now → ⊥ }
+    ensures says { IfOk result (λ ended. Wrote (K.got out.old) (K.got out.new)
+        (SaysAt output ended None text.now)) }
+    ensures memory { OnErr result (Wrote (K.got out.old) (K.got out.new)
+        (SaysFirstOf output text.now)) }
+    ensures refused { result ≡ Ok Ended.Refused → IsFineDay change_stop
+        (MayHave output) text.now → ⊥ }
     ensures others { IfOk result (λ ended. IsTrue (is_of_text output ended)) }
     ensures tells { TellsWrites K.Sink out.old out.new (result ≡ Ok Ended.WriteFault) }
 {

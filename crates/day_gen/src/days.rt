@@ -57,7 +57,8 @@ fn add_places(entries: &mut Vec<Entry>) -> Result<(), AllocError>
 
 /// A time for each two places.
 fn add_travels(generator: &mut Lcg64Xsh32, entries: &mut Vec<Entry>) -> Result<(), AllocError>
-    ensures entries { OnOk result (entries.new.items ≡ entries.old.items ++ travel_entries generator.old ways) }
+    ensures entries { OnOk result (entries.new.items
+        ≡ entries.old.items ++ travel_entries generator.old ways) }
     ensures draws { OnOk result (generator.new ≡ after 15 generator.old) }
 {
     for (a, b) in &WAYS {
@@ -100,7 +101,8 @@ fn add_teams(
     entries: &mut Vec<Entry>,
     teams: u32,
 ) -> Result<(), AllocError>
-    ensures entries { OnOk result (entries.new.items ≡ entries.old.items ++ team_entries generator.old 0 teams) }
+    ensures entries { OnOk result (entries.new.items
+        ≡ entries.old.items ++ team_entries generator.old 0 teams) }
     ensures draws { OnOk result (generator.new ≡ after (3 * teams) generator.old) }
 {
     for k in 0..teams {
@@ -111,8 +113,10 @@ fn add_teams(
 
 /// The skills of a task: none, or one.
 fn task_skills(generator: &mut Lcg64Xsh32) -> u64
-    ensures skills { result ≡ (if draw generator.old 2 == 0 then 0 else 2 ^ draw (after 1 generator.old) 3) }
-    ensures draws { generator.new ≡ after (if draw generator.old 2 == 0 then 1 else 2) generator.old }
+    ensures skills { result ≡ (if draw generator.old 2 == 0 then 0 else 2 ^ draw
+        (after 1 generator.old) 3) }
+    ensures draws { generator.new ≡ after (if draw generator.old 2 == 0 then 1 else 2)
+        generator.old }
 {
     if draw(generator, 2) == 0 {
         return 0;
@@ -146,7 +150,8 @@ fn add_tasks(
     entries: &mut Vec<Entry>,
     tasks: u32,
 ) -> Result<(), AllocError>
-    ensures { OnOk result (entries.new.items ≡ entries.old.items ++ task_entries generator.old 0 tasks) }
+    ensures { OnOk result (entries.new.items
+        ≡ entries.old.items ++ task_entries generator.old 0 tasks) }
 {
     for j in 0..tasks {
         entries.push(task(generator, j))?;

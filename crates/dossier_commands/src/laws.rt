@@ -18,7 +18,8 @@ use text_laws::{good_lines, lines_in_text, read_front, words_of_line};
 
 /// An input with a line that is refused is accepted as no list of dossiers.
 pub fn refused_is_not_accepted()
-    ensures { (input : List ℕ) (done : List Dossier) (number : ℕ) (reason : Reason) (dossiers : List Dossier)
+    ensures { (input : List ℕ) (done : List Dossier) (number : ℕ) (reason : Reason)
+        (dossiers : List Dossier)
         → IsRefusal input done number reason → IsAccepted input dossiers → ⊥ }
 {
     read_front();
@@ -32,8 +33,10 @@ pub fn refused_is_not_accepted()
 
 /// An input is refused at one line, behind one list of dossiers, for one reason.
 pub fn one_refusal()
-    ensures { (input : List ℕ) (done others : List Dossier) (number other : ℕ) (reason cause : Reason)
-        → IsRefusal input done number reason → IsRefusal input others other cause → (done ≡ others) × (number ≡ other) × (reason ≡ cause) }
+    ensures { (input : List ℕ) (done others : List Dossier) (number other : ℕ)
+        (reason cause : Reason)
+        → IsRefusal input done number reason → IsRefusal input others other cause
+        → (done ≡ others) × (number ≡ other) × (reason ≡ cause) }
 {
     lines_in_text();
     read_front();

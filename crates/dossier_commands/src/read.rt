@@ -38,7 +38,8 @@ pub fn read_dossiers<S: Source, K: Sink>(
     src: &mut S,
     out: &mut K,
 ) -> Result<Ended, AllocError>
-    ensures { ReadsDossiers S.Source K.Sink (output_of output) src.old src.new out.old out.new result }
+    ensures { ReadsDossiers S.Source K.Sink
+        (output_of output) src.old src.new out.old out.new result }
 {
     let mut reader = LineReader::open(alloc, LONGEST_INPUT)?;
     let mut checker = Checker::open(alloc)?;
@@ -58,7 +59,8 @@ fn read_all<S: Source, K: Sink>(
 ) -> Result<Ended, AllocError>
     requires reader { reader.old ≡ fresh_reader LONGEST_INPUT }
     requires checker { checker.old ≡ fresh_checker }
-    ensures { ReadsDossiers S.Source K.Sink (output_of output) src.old src.new out.old out.new result }
+    ensures { ReadsDossiers S.Source K.Sink
+        (output_of output) src.old src.new out.old out.new result }
 {
     refused_is_not_accepted();
     'dossiers: loop {

@@ -17,7 +17,8 @@ use roster_print::rosters;
 
 /// Writes the yes line of a good dossier, of which the verdict tells what it says. A fault leaves a front of it.
 pub fn put_yes<K: Sink>(out: &mut K, verdict: Verdict) -> Result<(), WriteFault>
-    ensures { (d : Dossier) → verdict ≡ verdict_of d → Puts K.Sink (yes_line d) out.old out.new result }
+    ensures { (d : Dossier) → verdict ≡ verdict_of d
+        → Puts K.Sink (yes_line d) out.old out.new result }
 {
     let parts = [
         Part::Word(b"yes"),

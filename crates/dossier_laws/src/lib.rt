@@ -34,7 +34,8 @@ pub fn good_is_read()
 
 /// No lines of a good dossier begin those of another.
 pub fn one_dossier()
-    ensures { (d e : Dossier) (more : List Words) → IsGood d → IsGood e → lines_of e ≡ lines_of d ++ more → (more ≡ []) × (d ≡ e) }
+    ensures { (d e : Dossier) (more : List Words) → IsGood d → IsGood e
+        → lines_of e ≡ lines_of d ++ more → (more ≡ []) × (d ≡ e) }
 {
     one_verdict();
 }
@@ -42,7 +43,8 @@ pub fn one_dossier()
 /// The table says one thing of a line, where lines have led from the start to a state: one next state, one
 /// dossier or one reason.
 pub fn says_one_thing()
-    ensures { (lines : List Words) (s : Reading) (ws : Words) (a b : Answer) → Reaches Form lines s → Says s ws a → Says s ws b → a ≡ b }
+    ensures { (lines : List Words) (s : Reading) (ws : Words) (a b : Answer) → Reaches Form lines s
+        → Says s ws a → Says s ws b → a ≡ b }
 {
     one_verdict();
 }
@@ -50,7 +52,8 @@ pub fn says_one_thing()
 /// Where lines have led from the start to a state and a good dossier's lines begin with them, the rest of its
 /// lines end it from there.
 pub fn rest_is_read()
-    ensures { (lines more : List Words) (s : Reading) (d : Dossier) → Reaches Form lines s → IsGood d → lines_of d ≡ lines ++ more → Ended s more d }
+    ensures { (lines more : List Words) (s : Reading) (d : Dossier) → Reaches Form lines s
+        → IsGood d → lines_of d ≡ lines ++ more → Ended s more d }
 {
     one_verdict();
 }
@@ -58,14 +61,16 @@ pub fn rest_is_read()
 /// Where the table refuses a line, no good dossier's lines begin with those so far and this one.
 pub fn refused_is_not_good()
     ensures { (lines more : List Words) (s : Reading) (ws : Words) (reason : Reason) (d : Dossier) →
-        Reaches Form lines s → Says s ws (No reason) → IsGood d → lines_of d ≡ lines ++ ws ∷ more → ⊥ }
+        Reaches Form lines s → Says s ws (No reason) → IsGood d
+        → lines_of d ≡ lines ++ ws ∷ more → ⊥ }
 {
     one_verdict();
 }
 
 /// Lines that lead to a state, where one more is due, are not those of a good dossier.
 pub fn unended_is_not_good()
-    ensures { (lines : List Words) (s : Reading) (d : Dossier) → Reaches Form lines s → IsGood d → lines_of d ≡ lines → ⊥ }
+    ensures { (lines : List Words) (s : Reading) (d : Dossier) → Reaches Form lines s → IsGood d
+        → lines_of d ≡ lines → ⊥ }
 {
     one_verdict();
 }
@@ -84,7 +89,8 @@ pub fn reading_ends()
 
 /// Every legal plan of a good dossier's instance leaves at least its bound unassigned.
 pub fn good_bounds()
-    ensures { (d : Dossier) (p : Plan) → IsGood d → IsLegal d.instance p → d.bound ≤ unassigned_count p }
+    ensures { (d : Dossier) (p : Plan) → IsGood d → IsLegal d.instance p
+        → d.bound ≤ unassigned_count p }
 {
     tree_proves();
     root_is_limits();
@@ -93,7 +99,8 @@ pub fn good_bounds()
 
 /// Where the plan of a good dossier leaves as many unassigned as its bound, no legal plan leaves fewer.
 pub fn met_bound_is_best()
-    ensures { (d : Dossier) (p : Plan) → IsGood d → d.bound ≡ unassigned_count d.plan → IsLegal d.instance p → unassigned_count d.plan ≤ unassigned_count p }
+    ensures { (d : Dossier) (p : Plan) → IsGood d → d.bound ≡ unassigned_count d.plan
+        → IsLegal d.instance p → unassigned_count d.plan ≤ unassigned_count p }
 {
     good_bounds();
 }
@@ -111,17 +118,20 @@ pub fn tree_numbers_fit()
 /// The prices of a leaf that has the numbers that its node wants lie in their range, and only required pairs
 /// have one.
 pub fn written_prices_are_in_range()
-    ensures { (n : Limits) (leaf : Leaf) → IsWritten n leaf → AreInRange (prices_of n leaf) × IsOnRequired n (prices_of n leaf) }
+    ensures { (n : Limits) (leaf : Leaf) → IsWritten n leaf → AreInRange (prices_of n leaf)
+        × IsOnRequired n (prices_of n leaf) }
 {}
 
 /// A set of skills is spelled by a list of skills, and that list is of this set.
 pub fn set_is_spelled()
-    ensures { (mask : ℕ) → mask < 2 ^ 64 → IsSkillList (skills_of mask) × (mask_of (skills_of mask) ≡ mask) }
+    ensures { (mask : ℕ) → mask < 2 ^ 64 → IsSkillList (skills_of mask)
+        × (mask_of (skills_of mask) ≡ mask) }
 {}
 
 /// A list of skills is of a set, which is spelled by this list.
 pub fn skills_are_a_set()
-    ensures { (skills : List ℕ) → IsSkillList skills → (mask_of skills < 2 ^ 64) × (skills_of (mask_of skills) ≡ skills) }
+    ensures { (skills : List ℕ) → IsSkillList skills → (mask_of skills < 2 ^ 64)
+        × (skills_of (mask_of skills) ≡ skills) }
 {}
 
 /// The list of a set has the skills of the set, rising.
@@ -134,13 +144,17 @@ pub fn skills_are_listed()
 pub fn extra_is_written()
     ensures { (n : Limits) (leaf : Leaf) (a b : ℕ) → IsWritten n leaf → a < length (priced n) →
         (let j = slice_index (priced n) a in b < length (required_teams n j) →
-        rho_of (prices_of n leaf) (slice_index (required_teams n j) b) j ≡ slice_index_or (slice_index_or leaf.extras a []) b (pos 0)) }
+        rho_of (prices_of n leaf) (slice_index (required_teams n j) b) j
+        ≡ slice_index_or (slice_index_or leaf.extras a []) b (pos 0)) }
 {}
 
 /// The number that a leaf writes at the place m of a team's row a of potentials is the potential of the task
 /// that is the open one at a, m minutes after the first minute of the team at it.
 pub fn potential_is_written()
-    ensures { (n : Limits) (leaf : Leaf) (k a m : ℕ) → IsWritten n leaf → k < teams_in n → a < length (open_tasks n k) →
+    ensures { (n : Limits) (leaf : Leaf) (k a m : ℕ) → IsWritten n leaf → k < teams_in n
+        → a < length (open_tasks n k) →
         (let j = slice_index (open_tasks n k) a in
-        phi_of n leaf k j (first_minute n k j + m) ≡ slice_index_or (slice_index_or (slice_index_or leaf.tables k no_potentials).phi a []) m (pos 0)) }
+        phi_of n leaf k j (first_minute n k j + m)
+        ≡ slice_index_or (slice_index_or (slice_index_or leaf.tables k no_potentials).phi a [])
+        m (pos 0)) }
 {}

@@ -13,7 +13,8 @@ use std::cmp::Ordering;
 
 /// The place of the lowest variable of negative reduced cost.
 pub fn entering(value: &[i128]) -> Option<usize>
-    ensures { (t : Rows) → value_row t ≡ value.now → MatchOption result (IsOptimal t) (IsEntering t) }
+    ensures { (t : Rows) → value_row t ≡ value.now
+        → MatchOption result (IsOptimal t) (IsEntering t) }
 {
     for v in VALUE + 1..value.len() {
         if value[v] > 0 {
@@ -27,7 +28,8 @@ pub fn entering(value: &[i128]) -> Option<usize>
 fn is_before(a: i128, b: i128, x: usize, c: i128, d: i128, y: usize) -> Result<bool, Overflow>
     requires b_positive { pos 0 <ℤ b }
     requires d_positive { pos 0 <ℤ d }
-    ensures { MatchResult result (λ r. MatchBool r (IsBefore a b x c d y) (IsBehind a b x c d y)) (IsFirstProduct a b c d) }
+    ensures { MatchResult result (λ r. MatchBool r (IsBefore a b x c d y) (IsBehind a b x c d y))
+        (IsFirstProduct a b c d) }
 {
     match cmp_ratio(a, b, c, d)? {
         Ordering::Less => Ok(true),
@@ -55,9 +57,11 @@ fn best_with(
     requires row { h + 1 < length rows.now }
     requires count { length basis.now ≡ length rows.now }
     requires place { 0 < v }
-    requires known { (i : ℕ) → i < length rows.now → v < length (row_of (table rows.now basis.now) i) }
+    requires known { (i : ℕ) → i < length rows.now
+        → v < length (row_of (table rows.now basis.now) i) }
     requires best { IsBest (table rows.now basis.now) v h best }
-    ensures { MatchResult result (IsBest (table rows.now basis.now) v (h + 1)) (IsRatioFault (table rows.now basis.now) v) }
+    ensures { MatchResult result (IsBest (table rows.now basis.now) v (h + 1))
+        (IsRatioFault (table rows.now basis.now) v) }
 {
     let row = row_at(rows, h);
     let number = row[v];
@@ -87,7 +91,8 @@ pub fn leaving(rows: &[Vec<i128>], basis: &[usize], v: usize) -> Result<Option<u
     requires some { 0 < length rows.now }
     requires count { length basis.now ≡ length rows.now }
     requires place { 0 < v }
-    requires known { (i : ℕ) → i < length rows.now → v < length (row_of (table rows.now basis.now) i) }
+    requires known { (i : ℕ) → i < length rows.now
+        → v < length (row_of (table rows.now basis.now) i) }
     ensures { Leaves result (table rows.now basis.now) v }
 {
     let mut best: Option<usize> = None;

@@ -118,13 +118,18 @@ impl Master {
     ) -> Result<Added, AllocError>
         requires team { Contains self.old.places (Place.Unused team) }
         requires rising { All (λ id. id < column) self.old.columns }
-        ensures adds { MatchResult result (λ a. Adds self.old column (route_of team visits.now) a self.new) (λ _. self.new ≡ self.old) }
+        ensures adds { MatchResult result (λ a. Adds self.old column
+            (route_of team visits.now) a self.new) (λ _. self.new ≡ self.old) }
 
         // Along a run of the node.
-        ensures run { (n : NodeLimits) (routes : List Route) (made : ℕ) → FollowsRun n routes made self.old →
-            IfOk result (λ a. a ≡ Added.Done → FollowsRun n (routes ++ route_of team visits.now ∷ []) made self.new) }
-        ensures list { (n : NodeLimits) (routes : List Route) (made : ℕ) → FollowsList n routes made self.old → IsOptimal self.old.rows →
-            IfOk result (λ a. AddsAlong n routes made self.old (route_of team visits.now) a self.new) }
+        ensures run { (n : NodeLimits) (routes : List Route) (made : ℕ)
+            → FollowsRun n routes made self.old →
+            IfOk result (λ a. a ≡ Added.Done
+            → FollowsRun n (routes ++ route_of team visits.now ∷ []) made self.new) }
+        ensures list { (n : NodeLimits) (routes : List Route) (made : ℕ)
+            → FollowsList n routes made self.old → IsOptimal self.old.rows →
+            IfOk result (λ a. AddsAlong n routes made self.old
+            (route_of team visits.now) a self.new) }
         ensures duals { IfOk result (λ a. a ≡ Added.Done → HaveSameDuals self.old self.new) }
     {
         if let Some(fault) = self.ended {
@@ -159,9 +164,11 @@ impl Master {
         ensures solves { Solves self.old pivots result self.new }
 
         // Along a run of the node.
-        ensures run { (n : NodeLimits) (routes : List Route) (before : ℕ) → FollowsRun n routes before self.old →
+        ensures run { (n : NodeLimits) (routes : List Route) (before : ℕ)
+            → FollowsRun n routes before self.old →
             self.new.ended ≡ None → FollowsRun n routes (before + self.new.made) self.new }
-        ensures list { (n : NodeLimits) (routes : List Route) (before : ℕ) → FollowsList n routes before self.old →
+        ensures list { (n : NodeLimits) (routes : List Route) (before : ℕ)
+            → FollowsList n routes before self.old →
             SolvesAlong n routes before pivots result self.new }
     {
         if let Some(fault) = self.ended {
@@ -186,8 +193,10 @@ impl Master {
 
         // Strong duality: at an optimum of a run over routes of the node, at the prices and extras that `price` and `extra`
         // give, all of them numerators over one denominator.
-        ensures dual { (n : NodeLimits) (routes : List Route) (made : ℕ) (prices : Prices) → FollowsRun n routes made self.now →
-            IsOptimal self.now.rows → All (IsRouteIn n) routes → AreDuals n (value_row self.now.rows) prices →
+        ensures dual { (n : NodeLimits) (routes : List Route) (made : ℕ) (prices : Prices)
+            → FollowsRun n routes made self.now →
+            IsOptimal self.now.rows → All (IsRouteIn n) routes
+            → AreDuals n (value_row self.now.rows) prices →
             IfOk result (λ z. IsSumOf n routes prices z.0 z.1) }
     {
         if let Some(fault) = self.ended {
@@ -211,15 +220,23 @@ impl Master {
             IfOk result (λ r. GivesShares n self.now r out.new.items left_open.new.items) }
 
         // At the rows of a run: the shares are those of the basic solution, and an overflow of theirs belongs to the rows.
-        ensures parts { (n : NodeLimits) (routes : List Route) (made : ℕ) → FollowsRun n routes made self.now →
-            IfOk result (λ r. IfOk r (λ den. AreWholeParts n routes self.now.rows (unsigned_abs den) (parts_at self.now.rows (unsigned_abs den)))) }
-        ensures belongs { (n : NodeLimits) (routes : List Route) (made : ℕ) → FollowsRun n routes made self.now → IsOptimal self.now.rows →
-            IfOk result (λ r. IfErr r (λ f. (coming : List Route) → OverflowAt n self.now.rows coming f)) }
+        ensures parts { (n : NodeLimits) (routes : List Route) (made : ℕ)
+            → FollowsRun n routes made self.now →
+            IfOk result (λ r. IfOk r (λ den.
+            AreWholeParts n routes self.now.rows (unsigned_abs den)
+            (parts_at self.now.rows (unsigned_abs den)))) }
+        ensures belongs { (n : NodeLimits) (routes : List Route) (made : ℕ)
+            → FollowsRun n routes made self.now → IsOptimal self.now.rows →
+            IfOk result (λ r. IfErr r (λ f. (coming : List Route)
+            → OverflowAt n self.now.rows coming f)) }
 
         // At an optimum of a run over routes of the node they are a fractional choice of the master's value.
-        ensures optimum { (n : NodeLimits) (routes : List Route) (made : ℕ) → FollowsRun n routes made self.now →
+        ensures optimum { (n : NodeLimits) (routes : List Route) (made : ℕ)
+            → FollowsRun n routes made self.now →
             IsOptimal self.now.rows → All (IsRouteIn n) routes →
-            IfOk result (λ r. IfOk r (λ den. IsOptimalChoice n self.now.rows (basic_choice n routes self.now.rows (unsigned_abs den)))) }
+            IfOk result (λ r. IfOk r (λ den.
+            IsOptimalChoice n self.now.rows
+            (basic_choice n routes self.now.rows (unsigned_abs den)))) }
     {
         out.clear();
         left_open.clear();
@@ -256,7 +273,8 @@ impl Master {
         requires opens { opens p ≡ true }
         requires costs { cost p ≡ pos BIG_M }
         ensures dual { GivesDual self.now p result }
-        ensures belongs { (n : NodeLimits) (routes : List Route) (made : ℕ) → FollowsRun n routes made self.now → IsOptimal self.now.rows →
+        ensures belongs { (n : NodeLimits) (routes : List Route) (made : ℕ)
+            → FollowsRun n routes made self.now → IsOptimal self.now.rows →
             IfErr result (λ f. (coming : List Route) → OverflowAt n self.now.rows coming f) }
     {
         if let Some(fault) = self.ended {
@@ -274,9 +292,11 @@ impl Master {
     pub fn price(&self, i: u32) -> Result<(i128, i128), Overflow>
         requires { Contains self.now.places (Place.Shortage i) }
         ensures price { GivesDual self.now (Place.Shortage i) result }
-        ensures belongs { (n : NodeLimits) (routes : List Route) (made : ℕ) → FollowsRun n routes made self.now → IsOptimal self.now.rows →
+        ensures belongs { (n : NodeLimits) (routes : List Route) (made : ℕ)
+            → FollowsRun n routes made self.now → IsOptimal self.now.rows →
             IfErr result (λ f. (coming : List Route) → OverflowAt n self.now.rows coming f) }
-        ensures near { (n : NodeLimits) (routes : List Route) (made : ℕ) → FollowsRun n routes made self.now → IsOptimal self.now.rows →
+        ensures near { (n : NodeLimits) (routes : List Route) (made : ℕ)
+            → FollowsRun n routes made self.now → IsOptimal self.now.rows →
             IfOk result (λ z. IsUpTo (z.1 *ℤ pos BIG_M) z.0) }
     {
         optimal_prices();
@@ -289,9 +309,11 @@ impl Master {
     pub fn extra(&self, k: u32, i: u32) -> Result<(i128, i128), Overflow>
         requires { Contains self.now.places (Place.Missed k i) }
         ensures extra { GivesDual self.now (Place.Missed k i) result }
-        ensures belongs { (n : NodeLimits) (routes : List Route) (made : ℕ) → FollowsRun n routes made self.now → IsOptimal self.now.rows →
+        ensures belongs { (n : NodeLimits) (routes : List Route) (made : ℕ)
+            → FollowsRun n routes made self.now → IsOptimal self.now.rows →
             IfErr result (λ f. (coming : List Route) → OverflowAt n self.now.rows coming f) }
-        ensures near { (n : NodeLimits) (routes : List Route) (made : ℕ) → FollowsRun n routes made self.now → IsOptimal self.now.rows →
+        ensures near { (n : NodeLimits) (routes : List Route) (made : ℕ)
+            → FollowsRun n routes made self.now → IsOptimal self.now.rows →
             IfOk result (λ z. IsUpTo (z.1 *ℤ pos BIG_M) z.0) }
     {
         optimal_prices();

@@ -15,7 +15,8 @@ use std::alloc::{AllocError, Global};
 
 /// Puts the unused shares of the teams behind these places.
 fn push_teams(places: &mut Vec<Place>, limits: &Limits<'_>) -> Result<(), AllocError>
-    ensures places { IfOk result (λ _. places.new.items ≡ places.old.items ++ map Place.Unused (range_with_len 0 (teams_in limits.now.limits))) }
+    ensures places { IfOk result (λ _. places.new.items
+        ≡ places.old.items ++ map Place.Unused (range_with_len 0 (teams_in limits.now.limits))) }
     ensures few { length places.new.items ≤ length places.old.items + MOST_TEAMS }
 {
     for k in 0..limits.instance().teams() as u32 {
@@ -27,7 +28,8 @@ fn push_teams(places: &mut Vec<Place>, limits: &Limits<'_>) -> Result<(), AllocE
 /// Puts the unassigned shares of the tasks without a required pair behind these places.
 fn push_open_tasks(places: &mut Vec<Place>, limits: &Limits<'_>) -> Result<(), AllocError>
     ensures places { IfOk result (λ _. places.new.items ≡ places.old.items
-        ++ map Place.Unassigned (filter (λ j. not (has_required limits.now.limits j)) (range_with_len 0 (tasks_in limits.now.limits)))) }
+        ++ map Place.Unassigned (filter (λ j. not (has_required limits.now.limits j))
+        (range_with_len 0 (tasks_in limits.now.limits)))) }
     ensures few { length places.new.items ≤ length places.old.items + MOST_TASKS }
 {
     for j in 0..limits.instance().tasks() as u32 {
@@ -40,7 +42,9 @@ fn push_open_tasks(places: &mut Vec<Place>, limits: &Limits<'_>) -> Result<(), A
 
 /// Puts the shortages and the excesses of the tasks behind these places.
 fn push_tasks(places: &mut Vec<Place>, limits: &Limits<'_>) -> Result<(), AllocError>
-    ensures places { IfOk result (λ _. places.new.items ≡ places.old.items ++ flat_map both_of_task (range_with_len 0 (tasks_in limits.now.limits))) }
+    ensures places { IfOk result (λ _. places.new.items
+        ≡ places.old.items ++ flat_map both_of_task
+        (range_with_len 0 (tasks_in limits.now.limits))) }
     ensures few { length places.new.items ≤ length places.old.items + 2 * MOST_TASKS }
 {
     for j in 0..limits.instance().tasks() as u32 {
@@ -78,7 +82,8 @@ fn push_pairs_of(places: &mut Vec<Place>, limits: &Limits<'_>, j: u32) -> Result
 
 /// Puts the missed and the repeated parts of the required pairs behind these places.
 fn push_pairs(places: &mut Vec<Place>, limits: &Limits<'_>) -> Result<(), AllocError>
-    ensures places { IfOk result (λ _. places.new.items ≡ places.old.items ++ flat_map both_of_pair (required_pairs limits.now.limits)) }
+    ensures places { IfOk result (λ _. places.new.items
+        ≡ places.old.items ++ flat_map both_of_pair (required_pairs limits.now.limits)) }
     ensures few { length places.new.items ≤ length places.old.items + 2 * MOST_TEAMS * MOST_TASKS }
 {
     for j in 0..limits.instance().tasks() as u32 {

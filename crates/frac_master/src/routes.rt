@@ -54,7 +54,8 @@ pub fn column_of(
     visits: &[Visit],
 ) -> Result<Column, AllocError>
     requires { length places.now ≤ 2 ^ 32 }
-    ensures { IfOk result (λ c. IsColumn places.now (route_of team visits.now) c.at.items c.numbers.items) }
+    ensures { IfOk result (λ c. IsColumn places.now
+        (route_of team visits.now) c.at.items c.numbers.items) }
 {
     let mut at = Vec::new(alloc);
     let mut numbers = Vec::new(alloc);

@@ -72,7 +72,8 @@ fn common_multiple(m: u128, d: u128) -> Result<u128, Overflow>
 /// The least common multiple of the denominators, in lowest terms, of the shares at these places.
 fn common_denominator(rows: &[Vec<i128>], basis: &[usize], at: &[usize]) -> Result<u128, Overflow>
     requires { AreBasic (table rows.now basis.now) }
-    ensures { MatchResult result (IsCommonOf (table rows.now basis.now) at.now) (IsCommonFault (table rows.now basis.now) at.now) }
+    ensures { MatchResult result (IsCommonOf (table rows.now basis.now) at.now)
+        (IsCommonFault (table rows.now basis.now) at.now) }
 {
     let mut den: u128 = 1;
     for j in at {
@@ -94,8 +95,10 @@ pub fn denominator_of(
 ) -> Result<Result<u128, Overflow>, AllocError>
     requires basic { AreBasic (table rows.now basis.now) }
     requires room { length places.now + columns < 2 ^ 64 }
-    ensures { let at = range_with_len (length places.now) columns ++ places_where is_unassigned_place 0 places.now in
-        IfOk result (λ r. MatchResult r (IsCommonOf (table rows.now basis.now) at) (IsCommonFault (table rows.now basis.now) at)) }
+    ensures { let at = range_with_len (length places.now) columns
+        ++ places_where is_unassigned_place 0 places.now in
+        IfOk result (λ r. MatchResult r (IsCommonOf (table rows.now basis.now) at)
+        (IsCommonFault (table rows.now basis.now) at)) }
 {
     let mut at = Vec::new(alloc);
     push_route_places(&mut at, places.len(), columns)?;
@@ -133,7 +136,8 @@ fn is_unassigned(p: Place) -> bool
 
 /// Puts the places of the unassigned shares behind these places.
 fn push_open_places(at: &mut Vec<usize>, places: &[Place]) -> Result<(), AllocError>
-    ensures { OnOk result (at.new.items ≡ at.old.items ++ places_where is_unassigned_place 0 places.now) }
+    ensures { OnOk result (at.new.items ≡ at.old.items
+        ++ places_where is_unassigned_place 0 places.now) }
 {
     for (j, p) in places.iter().enumerate() {
         if is_unassigned(*p) {
@@ -154,8 +158,10 @@ pub fn push_shares(
 ) -> Result<(), AllocError>
     requires basic { AreBasic (table rows.now basis.now) }
     requires room { first + length columns.now < 2 ^ 64 }
-    requires whole { (i : ℕ) → i < length columns.now → IsWholeAt (table rows.now basis.now) whole (first + i) }
-    ensures { OnOk result (out.new.items ≡ out.old.items ++ column_shares (parts_at (table rows.now basis.now) whole) first columns.now) }
+    requires whole { (i : ℕ) → i < length columns.now
+        → IsWholeAt (table rows.now basis.now) whole (first + i) }
+    ensures { OnOk result (out.new.items ≡ out.old.items
+        ++ column_shares (parts_at (table rows.now basis.now) whole) first columns.now) }
 {
     for (i, column) in columns.iter().enumerate() {
         let num = parts_of(rows, basis, first + i, whole);
@@ -182,9 +188,13 @@ fn is_open_of(p: Place, j: usize) -> bool
 /// What is left unassigned of task `j`.
 fn open_parts(rows: &[Vec<i128>], basis: &[usize], places: &[Place], j: usize, whole: u128) -> u128
     requires basic { AreBasic (table rows.now basis.now) }
-    requires whole { (i : ℕ) → i < length places.now → is_unassigned_at j (place_at places.now i) ≡ true → IsWholeAt (table rows.now basis.now) whole i }
-    requires fits { sum_by (parts_at (table rows.now basis.now) whole) (places_where (is_unassigned_at j) 0 places.now) < 2 ^ 127 }
-    ensures { result ≡ sum_by (parts_at (table rows.now basis.now) whole) (places_where (is_unassigned_at j) 0 places.now) }
+    requires whole { (i : ℕ) → i < length places.now
+        → is_unassigned_at j (place_at places.now i) ≡ true
+        → IsWholeAt (table rows.now basis.now) whole i }
+    requires fits { sum_by (parts_at (table rows.now basis.now) whole)
+        (places_where (is_unassigned_at j) 0 places.now) < 2 ^ 127 }
+    ensures { result ≡ sum_by (parts_at (table rows.now basis.now) whole)
+        (places_where (is_unassigned_at j) 0 places.now) }
 {
     let mut sum: u128 = 0;
     for (i, p) in places.iter().enumerate() {
@@ -205,10 +215,14 @@ pub fn push_open(
     whole: u128,
 ) -> Result<(), AllocError>
     requires basic { AreBasic (table rows.now basis.now) }
-    requires whole { (j i : ℕ) → j < tasks → i < length places.now → is_unassigned_at j (place_at places.now i) ≡ true → IsWholeAt (table rows.now basis.now) whole i }
-    requires fits { (j : ℕ) → j < tasks → sum_by (parts_at (table rows.now basis.now) whole) (places_where (is_unassigned_at j) 0 places.now) < 2 ^ 127 }
+    requires whole { (j i : ℕ) → j < tasks → i < length places.now
+        → is_unassigned_at j (place_at places.now i) ≡ true
+        → IsWholeAt (table rows.now basis.now) whole i }
+    requires fits { (j : ℕ) → j < tasks → sum_by (parts_at (table rows.now basis.now) whole)
+        (places_where (is_unassigned_at j) 0 places.now) < 2 ^ 127 }
     ensures { OnOk result (left_open.new.items ≡ left_open.old.items
-        ++ map (λ j. pos (sum_by (parts_at (table rows.now basis.now) whole) (places_where (is_unassigned_at j) 0 places.now))) (range_with_len 0 tasks)) }
+        ++ map (λ j. pos (sum_by (parts_at (table rows.now basis.now) whole)
+        (places_where (is_unassigned_at j) 0 places.now))) (range_with_len 0 tasks)) }
 {
     for j in 0..tasks {
         left_open.push(open_parts(rows, basis, places, j, whole) as i128)?;

@@ -63,7 +63,8 @@ fn child_bounds(
     requires proved { PricesProve limits.old.limits prices.now 0 }
     requires room { HasRoom limits.old.limits.instance pricer.old }
     ensures first { DecidesProved (child limits.old.limits choice Side.First) prices.now result.0 }
-    ensures second { DecidesProved (child limits.old.limits choice Side.Second) prices.now result.1 }
+    ensures second { DecidesProved (child limits.old.limits choice Side.Second)
+        prices.now result.1 }
     ensures limits { limits.new ≡ limits.old }
     ensures room { pricer.new.places ≡ pricer.old.places }
 {

@@ -34,7 +34,8 @@ impl Model for KeptPrices {
 /// A row for each team.
 fn rows_of(alloc: Global, limits: &Limits<'_>, prices: &Prices) -> Result<Vec<Vec<i64>>, AllocError>
     requires { ArePricesOf limits.now.limits prices.now }
-    ensures rows { IfOk result (λ rows. rows_in (tasks_in limits.now.limits) rows.items ≡ prices.now.rho) }
+    ensures rows { IfOk result (λ rows. rows_in (tasks_in limits.now.limits) rows.items
+        ≡ prices.now.rho) }
     ensures are { IfOk result (λ rows. AreRows (tasks_in limits.now.limits) rows.items) }
 {
     let mut rows = Vec::with_capacity(alloc, limits.instance().teams())?;

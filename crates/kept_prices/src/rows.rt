@@ -15,7 +15,8 @@ use std::alloc::{AllocError, Global};
 fn is_idle(limits: &Limits<'_>, prices: &Prices, k: u32) -> bool
     requires team { k < teams_in limits.now.limits }
     requires prices { ArePricesOf limits.now.limits prices.now }
-    ensures { OnTrue result ((j : ℕ) → j < tasks_in limits.now.limits → rho_of prices.now k j ≡ pos 0) }
+    ensures { OnTrue result ((j : ℕ) → j < tasks_in limits.now.limits
+        → rho_of prices.now k j ≡ pos 0) }
 {
     for j in 0..limits.instance().tasks() as u32 {
         if prices.rho(k, j) != 0 {
@@ -29,7 +30,8 @@ fn is_idle(limits: &Limits<'_>, prices: &Prices, k: u32) -> bool
 fn team_prices(alloc: Global, prices: &Prices, k: u32, tasks: u32) -> Result<Vec<i64>, AllocError>
     requires team { k < length prices.now.rho }
     requires tasks { tasks ≤ length prices.now.pi }
-    ensures { IfOk result (λ row. row.items ≡ map (λ j. rho_of prices.now k j) (range_with_len 0 tasks)) }
+    ensures { IfOk result (λ row. row.items
+        ≡ map (λ j. rho_of prices.now k j) (range_with_len 0 tasks)) }
 {
     (0..tasks).map(|j| prices.rho(k, j)).collect(alloc)
 }
@@ -37,7 +39,8 @@ fn team_prices(alloc: Global, prices: &Prices, k: u32, tasks: u32) -> Result<Vec
 /// The price of each task.
 fn task_prices(alloc: Global, prices: &Prices, tasks: u32) -> Result<Vec<i64>, AllocError>
     requires { tasks ≤ length prices.now.pi }
-    ensures { IfOk result (λ row. row.items ≡ map (λ j. pi_of prices.now j) (range_with_len 0 tasks)) }
+    ensures { IfOk result (λ row. row.items
+        ≡ map (λ j. pi_of prices.now j) (range_with_len 0 tasks)) }
 {
     (0..tasks).map(|j| prices.pi(j)).collect(alloc)
 }
@@ -51,7 +54,8 @@ pub(crate) fn row_of(
 ) -> Result<Vec<i64>, AllocError>
     requires team { k < teams_in limits.now.limits }
     requires prices { ArePricesOf limits.now.limits prices.now }
-    ensures row { IfOk result (λ row. whole_row (tasks_in limits.now.limits) row.items ≡ slice_index_or prices.now.rho k []) }
+    ensures row { IfOk result (λ row. whole_row (tasks_in limits.now.limits) row.items
+        ≡ slice_index_or prices.now.rho k []) }
     ensures count { IfOk result (λ row. IsRowFor (tasks_in limits.now.limits) row.items) }
     ensures range { IfOk result (λ row. (j : ℕ) → IsPrice (slice_index_or row.items j (pos 0))) }
 {

@@ -60,7 +60,8 @@ fn put_both(
 ) -> Result<(usize, usize), AllocError>
     requires { first < 2 * MOST_NODES }
     ensures waits { IfOk result (λ keys. queue.new ≡
-        (queue.old ++ (keys.0, record { bound = bounds.0; item = first }) ∷ []) ++ (keys.1, record { bound = bounds.1; item = first + 1 }) ∷ []) }
+        (queue.old ++ (keys.0, record { bound = bounds.0; item = first }) ∷ [])
+        ++ (keys.1, record { bound = bounds.1; item = first + 1 }) ∷ []) }
     ensures fresh { IfOk result (λ keys. Contains (keys_of queue.old) keys.0 → ⊥) }
     ensures other { IfOk result (λ keys. Contains (keys_of queue.old) keys.1 → ⊥) }
     ensures differ { IfOk result (λ keys. keys.0 ≢ keys.1) }
@@ -163,7 +164,8 @@ impl KeyedTree {
     /// Closes the open leaf under the key, with the prices of this number. It takes no memory.
     pub fn close(&mut self, key: usize, prices: u32)
         requires { IsKey self.old key }
-        ensures { (n : ℕ) (bound : ℤ) → IsWaiting self.old key n bound → IsTaken self.old self.new key n prices }
+        ensures { (n : ℕ) (bound : ℤ) → IsWaiting self.old key n bound
+            → IsTaken self.old self.new key n prices }
     {
         let n = self.queue.item(key).unwrap();
         self.tree.close(n, prices);

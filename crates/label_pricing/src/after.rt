@@ -30,7 +30,8 @@ pub(crate) fn after(
     requires minute { t ≤ 2880 }
     requires end { end ≤ 2881 }
     requires grid { IsGrid (length instance.now.places) grid.now }
-    ensures { (n : NodeLimits) (k : ℕ) (p : NodePrices) → n.instance ≡ instance.now → IsTurn n k j turn → IsEnd n k end
+    ensures { (n : NodeLimits) (k : ℕ) (p : NodePrices) → n.instance ≡ instance.now
+        → IsTurn n k j turn → IsEnd n k end
         → AreCells n k p (t + 1) end grid.now → IsAfter n k p j t result }
 {
     let mut best = Label {
@@ -55,8 +56,10 @@ pub(crate) fn after(
 pub(crate) fn first(grid: &[Cell], places: u32, start: u32) -> Label
     requires grid { IsGrid places grid.now }
     requires minute { start < 2882 }
-    ensures { (n : NodeLimits) (k : ℕ) (p : NodePrices) (end : ℕ) → IsInstance n.instance → length n.instance.places ≡ places
-        → IsStart n k start → start ≤ end → AreCells n k p start end grid.now → IsFirst n k p result }
+    ensures { (n : NodeLimits) (k : ℕ) (p : NodePrices) (end : ℕ) → IsInstance n.instance
+        → length n.instance.places ≡ places
+        → IsStart n k start → start ≤ end → AreCells n k p start end grid.now
+        → IsFirst n k p result }
 {
     let mut best = Label {
         value: 0,

@@ -49,9 +49,12 @@ pub fn alike(limits: &Limits<'_>, k: u32, h: u32) -> bool
 
 /// Teams that are alike have the same routes, which earn both the same, so they have the same worth.
 pub fn alike_teams_earn_alike()
-    ensures routes { (n : NodeLimits) (k h : ℕ) (r : List TeamVisit) → AreAlike n k h → IsRoute n k r → IsRoute n h r }
-    ensures rewards { (n : NodeLimits) (k h : ℕ) (p : NodePrices) (r : List TeamVisit) → AreAlike n k h → IsOnRequired n p
+    ensures routes { (n : NodeLimits) (k h : ℕ) (r : List TeamVisit) → AreAlike n k h
+        → IsRoute n k r → IsRoute n h r }
+    ensures rewards { (n : NodeLimits) (k h : ℕ) (p : NodePrices) (r : List TeamVisit)
+        → AreAlike n k h → IsOnRequired n p
         → IsRoute n k r → rewards p k r ≡ rewards p h r }
-    ensures worths { (n : NodeLimits) (k h : ℕ) (p : NodePrices) (v : ℤ) → AreAlike n k h → IsOnRequired n p
+    ensures worths { (n : NodeLimits) (k h : ℕ) (p : NodePrices) (v : ℤ) → AreAlike n k h
+        → IsOnRequired n p
         → IsWorth n k p v → IsWorth n h p v }
 {}

@@ -90,7 +90,8 @@ impl Pricer {
         requires table { IsTableOf limits.now.limits.instance table.old }
         ensures table { IsTableOf limits.now.limits.instance table.new }
         ensures holds { HoldsLocally limits.now.limits k prices.now (phi table.new) result }
-        ensures best { (j t : ℕ) → IsPermittedVisit limits.now.limits k j t → IsBest limits.now.limits k prices.now j t (phi table.new j t) }
+        ensures best { (j t : ℕ) → IsPermittedVisit limits.now.limits k j t
+            → IsBest limits.now.limits k prices.now j t (phi table.new j t) }
         ensures worth { IsWorth limits.now.limits k prices.now result }
         ensures route { IsRoute limits.now.limits k self.new.route }
         ensures rewards { rewards prices.now k self.new.route ≡ result }
@@ -125,7 +126,8 @@ impl Pricer {
         ensures worths { AreWorths limits.now.limits prices.now self.new.worths }
         ensures bound { result.bound ≡ bound_of limits.now.limits prices.now self.new.worths }
         ensures count { IsProvedCount limits.now.limits prices.now result.count }
-        ensures decides { (l : ℕ) → l ≤ tasks_in limits.now.limits → PricesProve limits.now.limits prices.now l ↔ Proves result.bound l }
+        ensures decides { (l : ℕ) → l ≤ tasks_in limits.now.limits
+            → PricesProve limits.now.limits prices.now l ↔ Proves result.bound l }
         ensures room { self.new.places ≡ self.old.places }
     {
         worths_decide();
@@ -174,7 +176,8 @@ pub fn price_team(
     requires table { IsTableOf limits.now.limits.instance table.old }
     ensures table { IsTableOf limits.now.limits.instance table.new }
     ensures err { OnErr result (table.new ≡ table.old) }
-    ensures holds { IfOk result (λ found. HoldsLocally limits.now.limits k prices.now (phi table.new) found.worth) }
+    ensures holds { IfOk result (λ found. HoldsLocally limits.now.limits k prices.now
+        (phi table.new) found.worth) }
     ensures route { IfOk result (λ found. IsRoute limits.now.limits k found.route) }
     ensures rewards { IfOk result (λ found. rewards prices.now k found.route ≡ found.worth) }
     ensures worth { IfOk result (λ found. IsWorth limits.now.limits k prices.now found.worth) }

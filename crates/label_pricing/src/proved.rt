@@ -63,7 +63,8 @@ fn worth_after(
     requires priced { IsOnRequired limits.now.limits prices.now }
     requires work { HasWorkRoom (length limits.now.limits.instance.places) work.old }
     requires count { length worths.now ≡ k }
-    requires worths { (h : ℕ) → h < k → IsWorth limits.now.limits h prices.now (worth_of worths.now h) }
+    requires worths { (h : ℕ) → h < k → IsWorth limits.now.limits h prices.now
+        (worth_of worths.now h) }
     ensures worth { IsWorth limits.now.limits k prices.now result }
     ensures work { HasWorkRoom (length limits.now.limits.instance.places) work.new }
 {

@@ -119,8 +119,10 @@ impl Workspace {
         requires priced { HasPriced limits.now.limits k prices.now self.now }
         requires table { IsTableOf limits.now.limits.instance table.old }
         ensures table { IsTableOf limits.now.limits.instance table.new }
-        ensures best { (j t : ℕ) → IsPermittedVisit limits.now.limits k j t → IsBest limits.now.limits k prices.now j t (phi table.new j t) }
-        ensures holds { (worth : ℤ) → IsWorth limits.now.limits k prices.now worth → HoldsLocally limits.now.limits k prices.now (phi table.new) worth }
+        ensures best { (j t : ℕ) → IsPermittedVisit limits.now.limits k j t
+            → IsBest limits.now.limits k prices.now j t (phi table.new j t) }
+        ensures holds { (worth : ℤ) → IsWorth limits.now.limits k prices.now worth
+            → HoldsLocally limits.now.limits k prices.now (phi table.new) worth }
     {
         best_potentials_hold();
         fill(

@@ -11,7 +11,8 @@ use search_laws::{attained_worths_decide, prices_have_potentials};
 
 /// The worths of all teams decide what prices prove.
 pub fn worths_decide()
-    ensures { (n : NodeLimits) (p : NodePrices) (worths : List ℤ) (l : ℕ) → IsInstance n.instance → AreInRange p → IsOnRequired n p
+    ensures { (n : NodeLimits) (p : NodePrices) (worths : List ℤ) (l : ℕ) → IsInstance n.instance
+        → AreInRange p → IsOnRequired n p
         → AreWorths n p worths → PricesProve n p l ↔ Proves (bound_of n p worths) l }
 {
     worth_bounds_routes();

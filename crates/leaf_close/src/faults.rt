@@ -56,7 +56,8 @@ fn is_short(limits: &Limits<'_>, j: u32) -> bool
 
 /// The lowest task that has more required teams than it needs.
 fn crowded_task(limits: &Limits<'_>) -> Option<u32>
-    ensures { MatchOption result (NoneIsCrowded limits.now.limits) (IsFirstCrowded limits.now.limits) }
+    ensures { MatchOption result (NoneIsCrowded limits.now.limits)
+        (IsFirstCrowded limits.now.limits) }
 {
     for j in 0..limits.instance().tasks() as u32 {
         if is_crowded(limits, j) {
@@ -82,7 +83,8 @@ fn short_task(limits: &Limits<'_>) -> Option<u32>
 pub(crate) fn first_fault(limits: &Limits<'_>, plan: &Plan) -> Option<Fault>
     requires decided { IsDecided limits.now.limits }
     requires plan { plan.now ≡ required_plan limits.now.limits }
-    ensures { MatchOption result (HasNoFault limits.now.limits) (IsFirstNodeFault limits.now.limits) }
+    ensures { MatchOption result (HasNoFault limits.now.limits)
+        (IsFirstNodeFault limits.now.limits) }
 {
     if let Some(k) = stuck_team(limits, plan) {
         return Some(Fault::Stuck(k));

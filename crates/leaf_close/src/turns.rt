@@ -16,7 +16,8 @@ use plan_check::Plan;
 fn may_not_begin(limits: &Limits<'_>, k: u32, turns: &[Turn]) -> bool
     requires team { k < teams_in limits.now.limits }
     requires tasks { All (λ v. v.task < tasks_in limits.now.limits) turns.now }
-    ensures { MatchBool result (MayNotBegin limits.now.limits k turns.now) (MayBeginAll limits.now.limits k turns.now) }
+    ensures { MatchBool result (MayNotBegin limits.now.limits k turns.now)
+        (MayBeginAll limits.now.limits k turns.now) }
 {
     for v in turns {
         if !limits.may_visit(k, v.task, v.start) {
@@ -29,7 +30,8 @@ fn may_not_begin(limits: &Limits<'_>, k: u32, turns: &[Turn]) -> bool
 /// Whether there is a turn that can't follow the one before it.
 fn can_not_follow(limits: &Limits<'_>, turns: &[Turn]) -> bool
     requires { All (λ v. v.task < tasks_in limits.now.limits) turns.now }
-    ensures { MatchBool result (CanNotFollow limits.now.limits turns.now) (CanFollowAll limits.now.limits turns.now) }
+    ensures { MatchBool result (CanNotFollow limits.now.limits turns.now)
+        (CanFollowAll limits.now.limits turns.now) }
 {
     for i in 1..turns.len() {
         let before = turns[i - 1];

@@ -37,10 +37,13 @@ pub fn one_pivot()
 
 /// The rows of a run are feasible, and have the solutions of the opening rows with its routes.
 pub fn run_keeps()
-    ensures feasible { (n : Limits) (routes : List Route) (made : ℕ) (t : Rows) → IsMasterRun n routes made t → AreFeasible t }
-    ensures solutions { (n : Limits) (routes : List Route) (made : ℕ) (t : Rows) → IsMasterRun n routes made t →
+    ensures feasible { (n : Limits) (routes : List Route) (made : ℕ) (t : Rows)
+        → IsMasterRun n routes made t → AreFeasible t }
+    ensures solutions { (n : Limits) (routes : List Route) (made : ℕ) (t : Rows)
+        → IsMasterRun n routes made t →
         HaveSameSolutions t (with_routes n routes) }
-    ensures value { (n : Limits) (routes : List Route) (made : ℕ) (t : Rows) → IsMasterRun n routes made t →
+    ensures value { (n : Limits) (routes : List Route) (made : ℕ) (t : Rows)
+        → IsMasterRun n routes made t →
         pos 0 ≤ℤ number (value_row t) RIGHT }
 {}
 
@@ -59,7 +62,8 @@ pub fn some_row_bounds()
 /// Where no variable has a negative reduced cost, no entered route earns more by the duals than its team's worth.
 pub fn optimal_duals()
     ensures { (n : Limits) (routes : List Route) (made : ℕ) (t : Rows) (r : Route) →
-        IsMasterRun n routes made t → IsOptimal t → Contains routes r → dual_sum (places n) (value_row t) r ≤ℤ pos 0 }
+        IsMasterRun n routes made t → IsOptimal t → Contains routes r
+        → dual_sum (places n) (value_row t) r ≤ℤ pos 0 }
 {}
 
 /// Pivots keep the rows' length.
@@ -69,13 +73,15 @@ pub fn pivot_keeps_width()
 
 /// The basic variables of the opening rows are among the variables of any run's rows.
 pub fn openers_within()
-    ensures { (n : Limits) (routes : List Route) (made h : ℕ) (t : Rows) → IsMasterRun n routes made t →
+    ensures { (n : Limits) (routes : List Route) (made h : ℕ) (t : Rows)
+        → IsMasterRun n routes made t →
         h < length (openers (places n)) → slice_index_or (opening_basis (places n)) h 0 < width t }
 {}
 
 /// A route that enters changes no dual: no price, no extra and no worth.
 pub fn entering_keeps_duals()
-    ensures { (n : Limits) (routes : List Route) (made h : ℕ) (r : Route) (t : Rows) → IsMasterRun n routes made t →
+    ensures { (n : Limits) (routes : List Route) (made h : ℕ) (r : Route) (t : Rows)
+        → IsMasterRun n routes made t →
         h < length (openers (places n)) →
         dual (places n) (value_row (entered (places n) r t)) h ≡ dual (places n) (value_row t) h }
 {}
@@ -88,31 +94,40 @@ pub fn duals_stand()
 /// Where no variable has a negative reduced cost, prices and extras lie within the penalty of 0.
 pub fn optimal_prices()
     ensures { (n : Limits) (routes : List Route) (made : ℕ) (t : Rows) (prices : Prices) →
-        IsMasterRun n routes made t → IsOptimal t → AreDuals n (value_row t) prices → AreUpToPenalty n (value_row t) prices }
+        IsMasterRun n routes made t → IsOptimal t → AreDuals n (value_row t) prices
+        → AreUpToPenalty n (value_row t) prices }
 {}
 
 /// Strong duality: where no variable has a negative reduced cost, the value is the sum of the terms and the extras, less
 /// for each team the greater of 0 and the best reward among its entered routes. All is over the value's basic entry.
 pub fn strong_duality()
     ensures { (n : Limits) (routes : List Route) (made : ℕ) (t : Rows) (prices : Prices) →
-        IsMasterRun n routes made t → IsOptimal t → All (IsRouteIn n) routes → AreDuals n (value_row t) prices →
-        number (value_row t) RIGHT ≡ (total (tasks_in n) (term_over n (number (value_row t) VALUE) prices) +ℤ extras n prices)
+        IsMasterRun n routes made t → IsOptimal t → All (IsRouteIn n) routes
+        → AreDuals n (value_row t) prices →
+        number (value_row t) RIGHT ≡ (total (tasks_in n)
+        (term_over n (number (value_row t) VALUE) prices) +ℤ extras n prices)
         -ℤ total (teams_in n) (best_reward prices routes) }
 {}
 
 /// And the basic solution is a fractional choice of this value.
 pub fn optimal_choice()
-    ensures fractional { (n : Limits) (routes : List Route) (made : ℕ) (t : Rows) (whole : ℕ) (x : ℕ → ℕ) →
-        IsMasterRun n routes made t → IsOptimal t → All (IsRouteIn n) routes → AreWholeParts n routes t whole x →
+    ensures fractional { (n : Limits) (routes : List Route) (made : ℕ) (t : Rows) (whole : ℕ)
+        (x : ℕ → ℕ) →
+        IsMasterRun n routes made t → IsOptimal t → All (IsRouteIn n) routes
+        → AreWholeParts n routes t whole x →
         IsFractional n (choice_of n routes whole x) }
-    ensures value { (n : Limits) (routes : List Route) (made : ℕ) (t : Rows) (whole : ℕ) (x : ℕ → ℕ) →
-        IsMasterRun n routes made t → IsOptimal t → All (IsRouteIn n) routes → AreWholeParts n routes t whole x →
-        number (value_row t) VALUE *ℤ choice_value n (choice_of n routes whole x) ≡ number (value_row t) RIGHT *ℤ pos whole }
+    ensures value { (n : Limits) (routes : List Route) (made : ℕ) (t : Rows) (whole : ℕ)
+        (x : ℕ → ℕ) →
+        IsMasterRun n routes made t → IsOptimal t → All (IsRouteIn n) routes
+        → AreWholeParts n routes t whole x →
+        number (value_row t) VALUE *ℤ choice_value n (choice_of n routes whole x)
+        ≡ number (value_row t) RIGHT *ℤ pos whole }
 {}
 
 /// Some whole number of parts makes all these shares whole.
 pub fn parts_stand()
-    ensures { (n : Limits) (routes : List Route) (made : ℕ) (t : Rows) → IsMasterRun n routes made t →
+    ensures { (n : Limits) (routes : List Route) (made : ℕ) (t : Rows)
+        → IsMasterRun n routes made t →
         (whole : ℕ) × ((x : ℕ → ℕ) × AreWholeParts n routes t whole x) }
 {}
 
@@ -123,16 +138,20 @@ pub fn openers_differ()
 
 /// No number but 1 divides all numbers of a row of a run: rows are in lowest terms.
 pub fn rows_are_lowest()
-    ensures { (n : Limits) (routes : List Route) (made h d : ℕ) (t : Rows) → IsMasterRun n routes made t → h < length t.rows →
+    ensures { (n : Limits) (routes : List Route) (made h d : ℕ) (t : Rows)
+        → IsMasterRun n routes made t → h < length t.rows →
         ((j : ℕ) → j < length (row_of t h) → d ∣ unsigned_abs (number (row_of t h) j)) → d ≡ 1 }
 {}
 
 /// In a run over routes of known teams, no share of a route or of an unassigned task is more than a whole.
 pub fn shares_are_parts()
-    ensures routes { (n : Limits) (routes : List Route) (made whole i : ℕ) (t : Rows) (x : ℕ → ℕ) → IsMasterRun n routes made t →
-        All (λ (r : Route). r.team < teams_in n) routes → AreWholeParts n routes t whole x → i < length routes →
+    ensures routes { (n : Limits) (routes : List Route) (made whole i : ℕ) (t : Rows) (x : ℕ → ℕ)
+        → IsMasterRun n routes made t →
+        All (λ (r : Route). r.team < teams_in n) routes → AreWholeParts n routes t whole x
+        → i < length routes →
         x (length (places n) + i) ≤ whole }
-    ensures tasks { (n : Limits) (routes : List Route) (made whole j : ℕ) (t : Rows) (x : ℕ → ℕ) → IsMasterRun n routes made t →
+    ensures tasks { (n : Limits) (routes : List Route) (made whole j : ℕ) (t : Rows) (x : ℕ → ℕ)
+        → IsMasterRun n routes made t →
         All (λ (r : Route). r.team < teams_in n) routes → AreWholeParts n routes t whole x →
         unassigned_of (choice_of n routes whole x) j ≤ whole }
 {}
@@ -141,12 +160,14 @@ pub fn shares_are_parts()
 /// required pair.
 pub fn places_are()
     ensures teams { (n : Limits) (k : ℕ) → Contains (places n) (Place.Unused k) ↔ (k < teams_in n) }
-    ensures tasks { (n : Limits) (j : ℕ) → Contains (places n) (Place.Shortage j) ↔ (j < tasks_in n) }
+    ensures tasks { (n : Limits) (j : ℕ) → Contains (places n) (Place.Shortage j)
+        ↔ (j < tasks_in n) }
     ensures pairs { (n : Limits) (k j : ℕ) → Contains (places n) (Place.Missed k j) ↔
         ((k < teams_in n) × (j < tasks_in n) × (pair_of n k j ≡ Pair.Required)) }
 {}
 
 /// The run over a list is a run.
 pub fn lists_are_runs()
-    ensures { (n : Limits) (routes : List Route) (made : ℕ) (t : Rows) → IsRunOver n routes made t → IsMasterRun n routes made t }
+    ensures { (n : Limits) (routes : List Route) (made : ℕ) (t : Rows) → IsRunOver n routes made t
+        → IsMasterRun n routes made t }
 {}

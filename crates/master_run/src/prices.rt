@@ -34,7 +34,8 @@ impl Run {
         ensures range { IfOk result IsPrice }
         ensures rounded { (n : NodeLimits) → self.now.master.places ≡ places n →
             IfOk result (IsRoundedAt n self.now.master.rows (Place.Shortage j)) }
-        ensures halts { (n : NodeLimits) (columns : List Route) → IsOver n columns self.now → IfErr result (Halts n self.now.pivots columns) }
+        ensures halts { (n : NodeLimits) (columns : List Route) → IsOver n columns self.now
+            → IfErr result (Halts n self.now.pivots columns) }
     {
         lists_are_runs();
         let (num, den) = self.master.price(j)?;
@@ -47,7 +48,8 @@ impl Run {
         ensures range { IfOk result IsPrice }
         ensures rounded { (n : NodeLimits) → self.now.master.places ≡ places n →
             IfOk result (IsRoundedAt n self.now.master.rows (Place.Missed k j)) }
-        ensures halts { (n : NodeLimits) (columns : List Route) → IsOver n columns self.now → IfErr result (Halts n self.now.pivots columns) }
+        ensures halts { (n : NodeLimits) (columns : List Route) → IsOver n columns self.now
+            → IfErr result (Halts n self.now.pivots columns) }
     {
         lists_are_runs();
         let (num, den) = self.master.extra(k, j)?;
@@ -61,7 +63,8 @@ impl Run {
         requires required { IsOnRequired limits.now.limits prices.old }
         ensures shape { ArePricesOf limits.now.limits prices.new }
         ensures required { IsOnRequired limits.now.limits prices.new }
-        ensures rounded { OnOk result (AreTasksRounded limits.now.limits self.now.master.rows prices.new (tasks_in limits.now.limits)) }
+        ensures rounded { OnOk result (AreTasksRounded limits.now.limits self.now.master.rows
+            prices.new (tasks_in limits.now.limits)) }
         ensures halts { (columns : List Route) → IsOver limits.now.limits columns self.now →
             IfErr result (Halts limits.now.limits self.now.pivots columns) }
     {
@@ -88,7 +91,8 @@ impl Run {
         requires required { IsOnRequired limits.now.limits prices.old }
         ensures shape { ArePricesOf limits.now.limits prices.new }
         ensures required { IsOnRequired limits.now.limits prices.new }
-        ensures here { OnOk result (IsPairRounded limits.now.limits self.now.master.rows prices.new k j) }
+        ensures here { OnOk result (IsPairRounded limits.now.limits self.now.master.rows
+            prices.new k j) }
         ensures keeps { KeepsRounded limits.now.limits self.now.master.rows prices.old prices.new }
         ensures halts { (columns : List Route) → IsOver limits.now.limits columns self.now →
             IfErr result (Halts limits.now.limits self.now.pivots columns) }
@@ -112,7 +116,8 @@ impl Run {
         requires required { IsOnRequired limits.now.limits prices.old }
         ensures shape { ArePricesOf limits.now.limits prices.new }
         ensures required { IsOnRequired limits.now.limits prices.new }
-        ensures here { OnOk result ((j : ℕ) → j < tasks_in limits.now.limits → IsPairRounded limits.now.limits self.now.master.rows prices.new k j) }
+        ensures here { OnOk result ((j : ℕ) → j < tasks_in limits.now.limits
+            → IsPairRounded limits.now.limits self.now.master.rows prices.new k j) }
         ensures keeps { KeepsRounded limits.now.limits self.now.master.rows prices.old prices.new }
         ensures halts { (columns : List Route) → IsOver limits.now.limits columns self.now →
             IfErr result (Halts limits.now.limits self.now.pivots columns) }
@@ -130,7 +135,8 @@ impl Run {
         requires required { IsOnRequired limits.now.limits prices.old }
         ensures shape { ArePricesOf limits.now.limits prices.new }
         ensures required { IsOnRequired limits.now.limits prices.new }
-        ensures here { OnOk result ((k j : ℕ) → k < teams_in limits.now.limits → j < tasks_in limits.now.limits →
+        ensures here { OnOk result ((k j : ℕ) → k < teams_in limits.now.limits
+            → j < tasks_in limits.now.limits →
             IsPairRounded limits.now.limits self.now.master.rows prices.new k j) }
         ensures keeps { KeepsRounded limits.now.limits self.now.master.rows prices.old prices.new }
         ensures halts { (columns : List Route) → IsOver limits.now.limits columns self.now →

@@ -46,10 +46,12 @@ impl Run {
         ensures ids { self.new.ids ≡ self.old.ids }
         ensures pivots { self.new.pivots ≡ self.old.pivots }
         ensures left { self.new.left ≤ self.old.left }
-        ensures optimum { (n : NodeLimits) (columns : List Route) → IsAlong n columns self.old → OnOk result (IsAtOptimum n columns self.new) }
+        ensures optimum { (n : NodeLimits) (columns : List Route) → IsAlong n columns self.old
+            → OnOk result (IsAtOptimum n columns self.new) }
         ensures halts { (n : NodeLimits) (columns : List Route) → IsAlong n columns self.old →
             IfErr result (HaltsAfter n self.old.pivots (routes_of columns self.old.ids)) }
-        ensures same { OnOk result (self.new.left ≡ self.old.left → self.new.master.rows ≡ self.old.master.rows) }
+        ensures same { OnOk result (self.new.left ≡ self.old.left
+            → self.new.master.rows ≡ self.old.master.rows) }
     {
         let solved = self.master.solve(self.left);
         match solved {
@@ -66,16 +68,19 @@ impl Run {
     fn take<C: Columns>(&mut self, columns: &C, id: usize) -> Result<(), Halt>
         requires known { id < length (C.columns columns.now) }
         requires rising { All (λ other. other < id) self.old.master.columns }
-        requires team { Contains self.old.master.places (Place.Unused (column_of (C.columns columns.now) id).team) }
+        requires team { Contains self.old.master.places
+            (Place.Unused (column_of (C.columns columns.now) id).team) }
         ensures ids { OnOk result (self.new.ids ≡ self.old.ids ++ id ∷ []) }
         ensures pivots { self.new.pivots ≡ self.old.pivots }
         ensures left { self.new.left ≤ self.old.left }
         ensures optimum { (n : NodeLimits) → IsAtOptimum n (C.columns columns.now) self.old →
             OnOk result (IsAtOptimum n (C.columns columns.now) self.new) }
         ensures halts { (n : NodeLimits) → IsAtOptimum n (C.columns columns.now) self.old →
-            IfErr result (HaltsAfter n self.old.pivots (routes_of (C.columns columns.now) (self.old.ids ++ id ∷ []))) }
+            IfErr result (HaltsAfter n self.old.pivots
+            (routes_of (C.columns columns.now) (self.old.ids ++ id ∷ []))) }
         ensures duals { (n : NodeLimits) → IsAtOptimum n (C.columns columns.now) self.old →
-            OnOk result (self.new.left ≡ self.old.left → HaveSameDuals self.old.master self.new.master) }
+            OnOk result (self.new.left ≡ self.old.left
+            → HaveSameDuals self.old.master self.new.master) }
     {
         let added = self
             .master
@@ -91,7 +96,8 @@ impl Run {
     fn open(alloc: Global, limits: &Limits<'_>, pivots: u32) -> Result<Run, Halt>
         ensures ids { IfOk result (λ r. r.ids ≡ []) }
         ensures pivots { IfOk result (λ r. r.pivots ≡ pivots) }
-        ensures optimum { (columns : List Route) → IfOk result (IsAtOptimum limits.now.limits columns) }
+        ensures optimum { (columns : List Route) → IfOk result
+            (IsAtOptimum limits.now.limits columns) }
         ensures halts { IfErr result (HaltsAfter limits.now.limits pivots []) }
     {
         let mut run = Run {
@@ -140,9 +146,12 @@ impl Run {
         ensures held { OnOk result (Contains (C.columns columns.new) (route_of team visits.now)) }
         ensures pivots { self.new.pivots ≡ self.old.pivots }
         ensures left { self.new.left ≤ self.old.left }
-        ensures duals { OnOk result (self.new.left ≡ self.old.left → HaveSameDuals self.old.master self.new.master) }
-        ensures halts { IfErr result (Halts limits.now.limits self.old.pivots (C.columns columns.new)) }
-        ensures extends { Extends limits.now.limits (C.columns columns.old) (C.columns columns.new) }
+        ensures duals { OnOk result (self.new.left ≡ self.old.left
+            → HaveSameDuals self.old.master self.new.master) }
+        ensures halts { IfErr result (Halts limits.now.limits self.old.pivots
+            (C.columns columns.new)) }
+        ensures extends { Extends limits.now.limits (C.columns columns.old)
+            (C.columns columns.new) }
     {
         places_are();
         // No instance has more teams and tasks than columns can name.

@@ -33,13 +33,19 @@ impl Run {
         ensures rise { (n : NodeLimits) (columns : List Route) → IsOver n columns self.now →
             IfOk result (λ s. Rise 0 (map (λ share. share.column) s.shares.items)) }
         ensures choice { (n : NodeLimits) (columns : List Route) → IsOver n columns self.now →
-            IfOk result (λ s. IsOptimalChoice n self.now.master.rows (fractional_of columns s.den s.shares.items s.left_open.items)) }
-        ensures parts { (n : NodeLimits) (columns : List Route) → IsOver n columns self.now → IfOk result (λ s.
-            AreWholeParts n (routes_of columns self.now.ids) self.now.master.rows (unsigned_abs s.den) (parts_at self.now.master.rows (unsigned_abs s.den))) }
-        ensures basic { (n : NodeLimits) (columns : List Route) → IsOver n columns self.now → IfOk result (λ s.
+            IfOk result (λ s. IsOptimalChoice n self.now.master.rows
+            (fractional_of columns s.den s.shares.items s.left_open.items)) }
+        ensures parts { (n : NodeLimits) (columns : List Route) → IsOver n columns self.now
+            → IfOk result (λ s.
+            AreWholeParts n (routes_of columns self.now.ids) self.now.master.rows
+            (unsigned_abs s.den) (parts_at self.now.master.rows (unsigned_abs s.den))) }
+        ensures basic { (n : NodeLimits) (columns : List Route) → IsOver n columns self.now
+            → IfOk result (λ s.
             fractional_of columns s.den s.shares.items s.left_open.items ≡
-            basic_choice n (routes_of columns self.now.ids) self.now.master.rows (unsigned_abs s.den)) }
-        ensures halts { (n : NodeLimits) (columns : List Route) → IsOver n columns self.now → IfErr result (Halts n self.now.pivots columns) }
+            basic_choice n (routes_of columns self.now.ids) self.now.master.rows
+            (unsigned_abs s.den)) }
+        ensures halts { (n : NodeLimits) (columns : List Route) → IsOver n columns self.now
+            → IfErr result (Halts n self.now.pivots columns) }
     {
         lists_are_runs();
         let mut shares = Vec::new(alloc);

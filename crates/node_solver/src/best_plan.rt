@@ -38,7 +38,8 @@ impl BestPlan {
 
     /// Keeps the plan where it is better.
     pub(crate) fn offer(&mut self, plan: Plan)
-        ensures best { (i : Instance) (best : ℕ) → IsKeepable i plan → IsBestOf i best self.old → IsBestOf i best self.new }
+        ensures best { (i : Instance) (best : ℕ) → IsKeepable i plan → IsBestOf i best self.old
+            → IsBestOf i best self.new }
         ensures fewer { self.new.unassigned ≤ self.old.unassigned }
     {
         let count = unassigned(&plan);
@@ -64,7 +65,8 @@ impl BestPlan {
         uses: &[Use],
         effort: Effort<'_>,
     ) -> Result<(), AllocError>
-        ensures best { (best : ℕ) → IsBestOf instance.now best self.old → IsBestOf instance.now best self.new }
+        ensures best { (best : ℕ) → IsBestOf instance.now best self.old
+            → IsBestOf instance.now best self.new }
         ensures fewer { self.new.unassigned ≤ self.old.unassigned }
     {
         let plan = from_uses(alloc, instance, uses)?;

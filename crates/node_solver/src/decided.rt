@@ -33,7 +33,8 @@ pub(crate) fn close_node(
     requires decided { IsDecided limits.now.limits }
     requires best { best ≤ tasks_in limits.now.limits }
     ensures plan { IfOk result (λ c. IfSome c.plan (IsBetterPlan limits.now.limits.instance best)) }
-    ensures proved { IfOk result (λ c. PricesProve limits.now.limits c.prices (now_after best c.plan)) }
+    ensures proved { IfOk result (λ c. PricesProve limits.now.limits c.prices
+        (now_after best c.plan)) }
     ensures shape { IfOk result (λ c. ArePricesOf limits.now.limits c.prices) }
     ensures required { IfOk result (λ c. IsOnRequired limits.now.limits c.prices) }
 {

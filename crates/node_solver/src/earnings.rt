@@ -53,7 +53,8 @@ fn earns<C: Columns>(
     requires team { k < teams_in limits.now.limits }
     requires prices { ArePricesOf limits.now.limits prices.now }
     ensures team { IsTrue result → (column_of (C.columns columns.now) id).team ≡ k }
-    ensures enough { IsTrue result → worth ≤ℤ rewards prices.now k (column_of (C.columns columns.now) id).visits }
+    ensures enough { IsTrue result → worth ≤ℤ rewards prices.now k
+        (column_of (C.columns columns.now) id).visits }
 {
     // It is known from here on that these are limits over an instance.
     let _ = limits.instance();
@@ -75,7 +76,8 @@ pub(crate) fn is_met<C: Columns>(
     requires over { IsOver limits.now.limits (C.columns columns.now) run.now }
     requires team { k < teams_in limits.now.limits }
     requires prices { ArePricesOf limits.now.limits prices.now }
-    ensures met { IsTrue result → IsMet limits.now.limits (C.columns columns.now) k prices.now worth }
+    ensures met { IsTrue result → IsMet limits.now.limits
+        (C.columns columns.now) k prices.now worth }
     ensures some { result ≡ false → pos 0 <ℤ worth }
 {
     if worth <= 0 {

@@ -36,7 +36,8 @@ fn improve<C: Columns>(
     ensures met { OnOk result (IsMet limits.now.limits (C.columns columns.new) k prices.now worth) }
     ensures pivots { run.new.pivots ≡ run.old.pivots }
     ensures left { run.new.left ≤ run.old.left }
-    ensures duals { OnOk result (run.new.left ≡ run.old.left → HaveSameDuals run.old.master run.new.master) }
+    ensures duals { OnOk result (run.new.left ≡ run.old.left
+        → HaveSameDuals run.old.master run.new.master) }
     ensures halts { IfErr result (Halts limits.now.limits run.old.pivots (C.columns columns.new)) }
     ensures extends { Extends limits.now.limits (C.columns columns.old) (C.columns columns.new) }
     ensures room { pricer.new.places ≡ pricer.old.places }
@@ -62,10 +63,12 @@ pub(crate) fn improve_all<C: Columns>(
     requires worths { AreWorths limits.now.limits prices.now worths.now }
     requires room { HasRoom limits.now.limits.instance pricer.old }
     ensures over { OnOk result (IsOver limits.now.limits (C.columns columns.new) run.new) }
-    ensures met { OnOk result (AreMet limits.now.limits (C.columns columns.new) prices.now worths.now (teams_in limits.now.limits)) }
+    ensures met { OnOk result (AreMet limits.now.limits
+        (C.columns columns.new) prices.now worths.now (teams_in limits.now.limits)) }
     ensures pivots { run.new.pivots ≡ run.old.pivots }
     ensures left { run.new.left ≤ run.old.left }
-    ensures duals { OnOk result (run.new.left ≡ run.old.left → HaveSameDuals run.old.master run.new.master) }
+    ensures duals { OnOk result (run.new.left ≡ run.old.left
+        → HaveSameDuals run.old.master run.new.master) }
     ensures halts { IfErr result (Halts limits.now.limits run.old.pivots (C.columns columns.new)) }
     ensures extends { Extends limits.now.limits (C.columns columns.old) (C.columns columns.new) }
     ensures room { pricer.new.places ≡ pricer.old.places }

@@ -42,14 +42,17 @@ fn end_loose<C: Columns>(
     requires settled { IsSettled limits.now.limits (C.columns columns.now) run.now answer.prices }
     requires count { IsProvedCount limits.now.limits answer.prices answer.proved }
     requires shape { ArePricesOf limits.now.limits answer.prices }
-    ensures ends { IfOk result (Ends limits.now.limits best.new.unassigned run.now.pivots (C.columns columns.now)) }
+    ensures ends { IfOk result (Ends limits.now.limits best.new.unassigned run.now.pivots
+        (C.columns columns.now)) }
     ensures shape { IfOk result (λ e. ArePricesOf limits.now.limits (prices_of e)) }
     ensures required { IfOk result (λ e. IsOnRequired limits.now.limits (prices_of e)) }
-    ensures shown { IfOk result (IsShown limits.now.limits best.new.unassigned (C.columns columns.now)) }
+    ensures shown { IfOk result (IsShown limits.now.limits best.new.unassigned
+        (C.columns columns.now)) }
     ensures held { IfOk result (HasHeld limits.now.limits (C.columns columns.now)) }
     ensures keeps { (start : NodePrices) → IfOk result (KeepsProved limits.now.limits start) }
     ensures halts { IfErr result (Halts limits.now.limits run.now.pivots (C.columns columns.now)) }
-    ensures best { (b : ℕ) → IsBestOf limits.now.limits.instance b best.old → IsBestOf limits.now.limits.instance b best.new }
+    ensures best { (b : ℕ) → IsBestOf limits.now.limits.instance b best.old
+        → IsBestOf limits.now.limits.instance b best.new }
     ensures fewer { best.new.unassigned ≤ best.old.unassigned }
 {
     less_is_proved();
@@ -86,14 +89,17 @@ pub(crate) fn end_by_master<C: Columns>(
 ) -> Result<NodeEnd, Halt>
     requires open { IsDecided limits.now.limits → ⊥ }
     requires most { best.old.unassigned ≤ tasks_in limits.now.limits }
-    ensures ends { IfOk result (Ends limits.now.limits best.new.unassigned pivots (C.columns columns.new)) }
+    ensures ends { IfOk result (Ends limits.now.limits best.new.unassigned pivots
+        (C.columns columns.new)) }
     ensures shape { IfOk result (λ e. ArePricesOf limits.now.limits (prices_of e)) }
     ensures required { IfOk result (λ e. IsOnRequired limits.now.limits (prices_of e)) }
-    ensures shown { IfOk result (IsShown limits.now.limits best.new.unassigned (C.columns columns.new)) }
+    ensures shown { IfOk result (IsShown limits.now.limits best.new.unassigned
+        (C.columns columns.new)) }
     ensures held { IfOk result (HasHeld limits.now.limits (C.columns columns.new)) }
     ensures keeps { (start : NodePrices) → IfOk result (KeepsProved limits.now.limits start) }
     ensures halts { IfErr result (Halts limits.now.limits pivots (C.columns columns.new)) }
-    ensures best { (b : ℕ) → IsBestOf limits.now.limits.instance b best.old → IsBestOf limits.now.limits.instance b best.new }
+    ensures best { (b : ℕ) → IsBestOf limits.now.limits.instance b best.old
+        → IsBestOf limits.now.limits.instance b best.new }
     ensures fewer { best.new.unassigned ≤ best.old.unassigned }
     ensures extends { Extends limits.now.limits (C.columns columns.old) (C.columns columns.new) }
 {

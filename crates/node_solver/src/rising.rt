@@ -24,7 +24,8 @@ fn search_plan(
     best: &mut BestPlan,
 ) -> Result<(), AllocError>
     requires { ArePricesOf limits.now.limits found.now.prices }
-    ensures best { (b : ℕ) → IsBestOf limits.now.limits.instance b best.old → IsBestOf limits.now.limits.instance b best.new }
+    ensures best { (b : ℕ) → IsBestOf limits.now.limits.instance b best.old
+        → IsBestOf limits.now.limits.instance b best.new }
     ensures fewer { best.new.unassigned ≤ best.old.unassigned }
 {
     let instance = limits.instance();
@@ -54,7 +55,8 @@ pub(crate) fn rise(
     ensures proved { IfOk result (λ a. IsProvedCount limits.now.limits a.prices a.proved) }
     ensures as_much { IfOk result (λ a. ProveAsMuch limits.now.limits a.prices start) }
     ensures routes { IfOk result (λ a. All (IsFound limits.now.limits) a.routes.items) }
-    ensures best { (b : ℕ) → IsBestOf limits.now.limits.instance b best.old → IsBestOf limits.now.limits.instance b best.new }
+    ensures best { (b : ℕ) → IsBestOf limits.now.limits.instance b best.old
+        → IsBestOf limits.now.limits.instance b best.new }
     ensures fewer { best.new.unassigned ≤ best.old.unassigned }
 {
     let first = ascend(alloc, limits, start, best.unassigned, effort.ascent)?;

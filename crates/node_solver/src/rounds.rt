@@ -35,7 +35,8 @@ pub(crate) fn rounds<C: Columns>(
 ) -> Result<Answer, Halt>
     requires over { IsOver limits.now.limits (C.columns columns.old) run.old }
     requires room { HasRoom limits.now.limits.instance pricer.old }
-    ensures answered { IfOk result (λ a. IsAnswered limits.now.limits now (C.columns columns.new) run.new a.prices a.proved) }
+    ensures answered { IfOk result (λ a. IsAnswered limits.now.limits now
+        (C.columns columns.new) run.new a.prices a.proved) }
     ensures shape { IfOk result (λ a. ArePricesOf limits.now.limits a.prices) }
     ensures pivots { run.new.pivots ≡ run.old.pivots }
     ensures halts { IfErr result (Halts limits.now.limits run.old.pivots (C.columns columns.new)) }

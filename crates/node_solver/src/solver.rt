@@ -48,13 +48,15 @@ fn end_halted(
     requires count { IsProvedCount limits.now.limits known.prices known.proved }
     requires shape { ArePricesOf limits.now.limits known.prices }
     requires uses { All (IsPermittedUse limits.now.limits) uses.now }
-    ensures ends { (pivots : ℕ) (columns : List Route) → Halts limits.now.limits pivots columns halt →
+    ensures ends { (pivots : ℕ) (columns : List Route)
+        → Halts limits.now.limits pivots columns halt →
         IfOk result (Ends limits.now.limits now pivots columns) }
     ensures shape { IfOk result (λ e. ArePricesOf limits.now.limits (prices_of e)) }
     ensures required { IfOk result (λ e. IsOnRequired limits.now.limits (prices_of e)) }
     ensures shown { (columns : List Route) → IfOk result (IsShown limits.now.limits now columns) }
     ensures held { (columns : List Route) → IfOk result (HasHeld limits.now.limits columns) }
-    ensures keeps { (start : NodePrices) → ProveAsMuch limits.now.limits known.prices start → IfOk result (KeepsProved limits.now.limits start) }
+    ensures keeps { (start : NodePrices) → ProveAsMuch limits.now.limits known.prices start
+        → IfOk result (KeepsProved limits.now.limits start) }
 {
     less_is_proved();
     let why = match halt {
@@ -89,13 +91,16 @@ fn end_open<C: Columns>(
     requires most { best.old.unassigned ≤ tasks_in limits.now.limits }
     requires prices { ArePricesOf limits.now.limits start }
     requires required { IsOnRequired limits.now.limits start }
-    ensures ends { IfOk result (Ends limits.now.limits best.new.unassigned effort.now.pivots (C.columns columns.new)) }
+    ensures ends { IfOk result (Ends limits.now.limits best.new.unassigned effort.now.pivots
+        (C.columns columns.new)) }
     ensures shape { IfOk result (λ e. ArePricesOf limits.now.limits (prices_of e)) }
     ensures required { IfOk result (λ e. IsOnRequired limits.now.limits (prices_of e)) }
-    ensures shown { IfOk result (IsShown limits.now.limits best.new.unassigned (C.columns columns.new)) }
+    ensures shown { IfOk result (IsShown limits.now.limits best.new.unassigned
+        (C.columns columns.new)) }
     ensures held { IfOk result (HasHeld limits.now.limits (C.columns columns.new)) }
     ensures keeps { IfOk result (KeepsProved limits.now.limits start) }
-    ensures best { (b : ℕ) → IsBestOf limits.now.limits.instance b best.old → IsBestOf limits.now.limits.instance b best.new }
+    ensures best { (b : ℕ) → IsBestOf limits.now.limits.instance b best.old
+        → IsBestOf limits.now.limits.instance b best.new }
     ensures extends { Extends limits.now.limits (C.columns columns.old) (C.columns columns.new) }
 {
     less_is_proved();
@@ -145,10 +150,13 @@ pub fn process<C: Columns>(
     requires best { unassigned_count best.now ≤ tasks_in limits.now.limits }
     requires prices { ArePricesOf limits.now.limits start }
     requires required { IsOnRequired limits.now.limits start }
-    ensures plan { IfOk result (λ s. IfSome s.plan (IsBetterPlan limits.now.limits.instance (unassigned_count best.now))) }
-    ensures ends { IfOk result (λ s. Ends limits.now.limits (now_after (unassigned_count best.now) s.plan) effort.now.pivots
+    ensures plan { IfOk result (λ s. IfSome s.plan
+        (IsBetterPlan limits.now.limits.instance (unassigned_count best.now))) }
+    ensures ends { IfOk result (λ s. Ends limits.now.limits
+        (now_after (unassigned_count best.now) s.plan) effort.now.pivots
         (C.columns columns.new) s.end) }
-    ensures shown { IfOk result (λ s. IsShown limits.now.limits (now_after (unassigned_count best.now) s.plan)
+    ensures shown { IfOk result (λ s. IsShown limits.now.limits
+        (now_after (unassigned_count best.now) s.plan)
         (C.columns columns.new) s.end) }
     ensures held { IfOk result (λ s. HasHeld limits.now.limits (C.columns columns.new) s.end) }
     ensures shape { IfOk result (λ s. ArePricesOf limits.now.limits (prices_of s.end)) }

@@ -12,7 +12,8 @@ use std::alloc::{AllocError, Global};
 
 // Adds a use for each visit of the team's route.
 fn add_visits(uses: &mut Vec<Use>, team: u32, visits: &[Visit], num: i128) -> Result<(), AllocError>
-    ensures { (n : NodeLimits) → team < teams_in n → IsRoute n team visits.now → All (IsPermittedUse n) uses.old.items →
+    ensures { (n : NodeLimits) → team < teams_in n → IsRoute n team visits.now
+        → All (IsPermittedUse n) uses.old.items →
         OnOk result (All (IsPermittedUse n) uses.new.items) }
 {
     for visit in visits {
@@ -29,7 +30,8 @@ fn add_visits(uses: &mut Vec<Use>, team: u32, visits: &[Visit], num: i128) -> Re
 // Adds a use for each visit of the column.
 fn add_column<C: Columns>(uses: &mut Vec<Use>, columns: &C, share: &Share) -> Result<(), AllocError>
     requires { share.now.column < length (C.columns columns.now) }
-    ensures { (n : NodeLimits) → IsLegalColumn n (C.columns columns.now) share.now.column → All (IsPermittedUse n) uses.old.items →
+    ensures { (n : NodeLimits) → IsLegalColumn n (C.columns columns.now) share.now.column
+        → All (IsPermittedUse n) uses.old.items →
         OnOk result (All (IsPermittedUse n) uses.new.items) }
 {
     let id = share.column;
@@ -43,7 +45,8 @@ pub(crate) fn uses_of<C: Columns>(
     shares: &[Share],
 ) -> Result<Vec<Use>, AllocError>
     requires { All (λ s. s.column < length (C.columns columns.now)) shares.now }
-    ensures { (n : NodeLimits) → All (λ s. IsLegalColumn n (C.columns columns.now) s.column) shares.now →
+    ensures { (n : NodeLimits) → All (λ s. IsLegalColumn n (C.columns columns.now) s.column)
+        shares.now →
         IfOk result (λ uses. All (IsPermittedUse n) uses.items) }
 {
     let mut uses = Vec::new(alloc);

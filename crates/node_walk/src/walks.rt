@@ -45,7 +45,8 @@ pub fn descend(limits: &mut Limits<'_>, turns: &[Turn])
 /// Takes back as many changes: the limits are those from which as many turns led here.
 pub fn ascend(limits: &mut Limits<'_>, turns: usize)
     requires { turns ≤ length limits.old.past }
-    ensures { (from : Trail) (path : List TreeTurn) → length path ≡ turns → IsBack limits.old (walked from path) → IsBack limits.new from }
+    ensures { (from : Trail) (path : List TreeTurn) → length path ≡ turns
+        → IsBack limits.old (walked from path) → IsBack limits.new from }
 {
     for _ in 0..turns {
         limits.undo();

@@ -85,7 +85,8 @@ impl<'i> Schedule<'i> {
     /// The first minute at which there is room for task `j`, with the teams that are free then.
     fn first_minute(&self, j: u32) -> Option<(u32, Teams)>
         requires { j < length self.now.instance.tasks }
-        ensures { MatchOption result (FitsNowhere self.now.instance self.now.plan j) (λ room. HasRoomAt self.now j room.0 room.1.items) }
+        ensures { MatchOption result (FitsNowhere self.now.instance self.now.plan j)
+            (λ room. HasRoomAt self.now j room.0 room.1.items) }
     {
         let task = self.instance().task(j);
         for t in task.earliest..task.latest + 1 {
@@ -127,7 +128,8 @@ impl<'i> Schedule<'i> {
 
     /// Goes through all tasks once, and adds each where there is room for it.
     fn pass(&mut self) -> Result<(), AllocError>
-        ensures { OnOk result (IsFilled self.old self.new (λ h. h < length self.old.instance.tasks)) }
+        ensures { OnOk result (IsFilled self.old self.new
+            (λ h. h < length self.old.instance.tasks)) }
     {
         for j in 0..self.instance().tasks() as u32 {
             self.place(j)?;

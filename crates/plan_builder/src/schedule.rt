@@ -156,9 +156,12 @@ impl<'i> Schedule<'i> {
 
     /// Has these teams begin task `j` at minute `t`, each of which can take it into its day.
     pub(crate) fn add(&mut self, j: u32, t: u32, teams: &[u32]) -> Result<(), AllocError>
-        requires addition { let job : Job = record { start = t; teams = teams.now } in IsAddition self.old.instance self.old.plan j job }
-        requires free { let job : Job = record { start = t; teams = teams.now } in AreFree self.old.instance self.old.plan j job }
-        ensures ok { OnOk result (self.new ≡ with self.old j (record { start = t; teams = teams.now })) }
+        requires addition { let job : Job = record { start = t; teams = teams.now } in
+            IsAddition self.old.instance self.old.plan j job }
+        requires free { let job : Job = record { start = t; teams = teams.now } in
+            AreFree self.old.instance self.old.plan j job }
+        ensures ok { OnOk result (self.new ≡ with self.old j
+            (record { start = t; teams = teams.now })) }
         ensures err { OnErr result (self.new ≡ self.old) }
     {
         free_teams_may_begin();

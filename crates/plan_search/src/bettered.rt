@@ -47,7 +47,8 @@ pub fn better(
     ensures fewer { IfOk result (λ p. unassigned_count p ≤ unassigned_count plan.now) }
     // Where there is nothing to do, the jobs of the plan stay.
     ensures none { effort.entry.iterations ≡ 0 → IfOk result (λ p. Keeps plan.now p) }
-    ensures enough { unassigned_count plan.now ≤ effort.entry.enough → IfOk result (λ p. Keeps plan.now p) }
+    ensures enough { unassigned_count plan.now ≤ effort.entry.enough
+        → IfOk result (λ p. Keeps plan.now p) }
 {
     if effort.iterations == 0 || unassigned(plan) <= effort.enough {
         return pack(alloc, instance, plan);

@@ -30,7 +30,8 @@ fn is_plan_of(instance: &Instance, plan: &Plan) -> bool
 /// Whether the plan is legal and leaves no more tasks unassigned than the other.
 pub(crate) fn is_as_good(instance: &Instance, plan: &Plan, other: &Plan) -> bool
     ensures { IsTrue result
-        ↔ (IsLegal instance.now plan.now × (unassigned_count plan.now ≤ unassigned_count other.now)) }
+        ↔ (IsLegal instance.now plan.now
+        × (unassigned_count plan.now ≤ unassigned_count other.now)) }
 {
     if !is_plan_of(instance, plan) {
         return false;

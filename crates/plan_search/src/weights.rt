@@ -38,7 +38,8 @@ pub fn weights_of(
     requires { length prices.now.pi ≡ length instance.now.tasks }
     ensures count { IfOk result (λ weights. length weights.items ≡ length instance.now.tasks) }
     ensures weights { IfOk result (λ weights. (j : ℕ) → j < length instance.now.tasks
-        → slice_index weights.items j ≡ weight_at (task_of instance.now j).teams (pi_of prices.now j)) }
+        → slice_index weights.items j ≡ weight_at (task_of instance.now j).teams
+        (pi_of prices.now j)) }
 {
     let mut weights = Vec::with_capacity(alloc, instance.tasks())?;
     for j in 0..instance.tasks() as u32 {

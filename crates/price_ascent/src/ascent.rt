@@ -43,9 +43,11 @@ pub struct Ascended {
 
 // Of prices with their bounds those with the greater one prove as much.
 fn greater_bounds_prove_more()
-    ensures more { (n : NodeLimits) (p q : NodePrices) (b c : ℤ) → IsInstance n.instance → ArePricedAt n p b → ArePricedAt n q c
+    ensures more { (n : NodeLimits) (p q : NodePrices) (b c : ℤ) → IsInstance n.instance
+        → ArePricedAt n p b → ArePricedAt n q c
         → b ≤ℤ c → ProveAsMuch n q p }
-    ensures count { (n : NodeLimits) (p : NodePrices) (b : ℤ) (l : ℕ) → IsInstance n.instance → ArePricedAt n p b → IsMostProved n b l
+    ensures count { (n : NodeLimits) (p : NodePrices) (b : ℤ) (l : ℕ) → IsInstance n.instance
+        → ArePricedAt n p b → IsMostProved n b l
         → IsProvedCount n p l }
 {
     worths_decide();
@@ -53,8 +55,10 @@ fn greater_bounds_prove_more()
 
 // Puts the prices with the greater bound first, and gives their bound. The bounds are those of the first and of the second.
 fn keep_better(best: &mut Prices, trial: &mut Prices, most: i128, bound: i128) -> i128
-    ensures best { (n : NodeLimits) → ArePricedAt n best.old most → ArePricedAt n trial.old bound → ArePricedAt n best.new result }
-    ensures trial { (n : NodeLimits) → ArePricedAt n best.old most → ArePricedAt n trial.old bound → AreNodePrices n trial.new }
+    ensures best { (n : NodeLimits) → ArePricedAt n best.old most → ArePricedAt n trial.old bound
+        → ArePricedAt n best.new result }
+    ensures trial { (n : NodeLimits) → ArePricedAt n best.old most → ArePricedAt n trial.old bound
+        → AreNodePrices n trial.new }
     ensures rises { most ≤ℤ result }
 {
     if bound > most {

@@ -51,7 +51,8 @@ fn add_at_end(merged: &mut Vec<Use>, one: &Use, num: i128, ends: bool) -> Result
 
 // Puts uses of one team at one task and minute, which stand together, into one.
 fn merged(alloc: Global, uses: &[Use]) -> Result<Vec<Use>, AllocError>
-    ensures { (n : NodeLimits) → All (IsPermittedUse n) uses.now → IfOk result (λ merged. All (IsPermittedUse n) merged.items) }
+    ensures { (n : NodeLimits) → All (IsPermittedUse n) uses.now
+        → IfOk result (λ merged. All (IsPermittedUse n) merged.items) }
 {
     let mut merged: Vec<Use> = Vec::new(alloc);
     let mut sum = 0i128;
@@ -76,7 +77,8 @@ pub fn average_uses(
     routes: &VecDeque<FoundRoute>,
     last: u32,
 ) -> Result<Vec<Use>, AllocError>
-    ensures { (n : NodeLimits) → All (IsFound n) routes.now.items → IfOk result (λ uses. All (IsPermittedUse n) uses.items) }
+    ensures { (n : NodeLimits) → All (IsFound n) routes.now.items
+        → IfOk result (λ uses. All (IsPermittedUse n) uses.items) }
 {
     let mut uses = Vec::new(alloc);
     for n in 0..routes.len() {

@@ -80,7 +80,8 @@ impl Sight {
         ensures pricer { self.new.pricer ≡ self.old.pricer }
         ensures firsts { self.new.firsts ≡ self.old.firsts }
         ensures worths { self.new.worths.items ≡ slice_set self.old.worths.items k worth }
-        ensures routes { (n : NodeLimits) → k < teams_in n → IsRoute n k self.old.pricer.route → All (IsFound n) self.old.routes.items
+        ensures routes { (n : NodeLimits) → k < teams_in n → IsRoute n k self.old.pricer.route
+            → All (IsFound n) self.old.routes.items
             → OnOk result (All (IsFound n) self.new.routes.items) }
     {
         self.worths[k as usize] = worth;
@@ -104,9 +105,11 @@ impl Sight {
         requires required { IsOnRequired limits.now.limits prices.now }
         requires room { HasRoom limits.now.limits.instance self.old.pricer }
         requires firsts { AreFirsts limits.now.limits self.old.firsts.items }
-        requires worths { AreKnownBefore limits.now.limits prices.now self.old.firsts.items h self.old.worths.items }
+        requires worths { AreKnownBefore limits.now.limits prices.now self.old.firsts.items h
+            self.old.worths.items }
         requires routes { All (IsFound limits.now.limits) self.old.routes.items }
-        ensures worths { OnOk result (AreKnownBefore limits.now.limits prices.now self.old.firsts.items (h + 1) self.new.worths.items) }
+        ensures worths { OnOk result (AreKnownBefore limits.now.limits prices.now
+            self.old.firsts.items (h + 1) self.new.worths.items) }
         ensures count { length self.new.worths.items ≡ length self.old.worths.items }
         ensures firsts { self.new.firsts ≡ self.old.firsts }
         ensures room { self.new.pricer.places ≡ self.old.pricer.places }

@@ -28,7 +28,8 @@ fn begins_before(routes: &VecDeque<FoundRoute>, round: u32) -> bool {
 
 /// Drops the routes of rounds that are too long ago.
 pub(crate) fn forget(routes: &mut VecDeque<FoundRoute>, round: u32)
-    ensures { (n : NodeLimits) → All (IsFound n) routes.old.items → All (IsFound n) routes.new.items }
+    ensures { (n : NodeLimits) → All (IsFound n) routes.old.items
+        → All (IsFound n) routes.new.items }
 {
     for _ in 0..routes.len() {
         if !begins_before(routes, round.saturating_sub(ROUNDS_KEPT)) {
@@ -46,7 +47,8 @@ pub(crate) fn keep(
     team: u32,
     visits: &[Visit],
 ) -> Result<(), AllocError>
-    ensures { (n : NodeLimits) → team < teams_in n → IsRoute n team visits.now → All (IsFound n) routes.old.items → All (IsFound n) routes.new.items }
+    ensures { (n : NodeLimits) → team < teams_in n → IsRoute n team visits.now
+        → All (IsFound n) routes.old.items → All (IsFound n) routes.new.items }
 {
     if visits.is_empty() {
         return Ok(());

@@ -20,13 +20,23 @@ use text_laws::{instance_lines, words_of_line};
 /// line is due; of the line `size` this holds for a node budget of at most `MOST_NODES`, as a greater one is refused. And
 /// the skills that it reads make the set of the team or the task.
 pub fn instance_is_read_back()
-    ensures size { (i : Instance) (budget : ℕ) → IsInstance i → budget ≤ MOST_NODES → IsReadAs expected.Size (size_line (size_of i budget)) (size_kind (size_of i budget)) }
-    ensures places { (i : Instance) → IsInstance i → All (λ name. IsReadAs expected.Place (place_line name) (place_kind name)) i.places }
-    ensures travel { (i : Instance) → IsInstance i → All (λ row. IsReadAs (expected.Travel (length i.places)) (travel_line row) (travel_kind row)) i.travel }
-    ensures teams { (i : Instance) → IsInstance i → All (λ t. IsReadAs (expected.Team (length i.places)) (team_line t) (team_kind t)) i.teams }
-    ensures tasks { (i : Instance) → IsInstance i → All (λ t. IsReadAs (expected.Task (length i.places)) (task_line t) (task_kind t)) i.tasks }
-    ensures team_skills { (i : Instance) → IsInstance i → All (λ (t : Team). mask_of (skills_of t.skills) ≡ t.skills) i.teams }
-    ensures task_skills { (i : Instance) → IsInstance i → All (λ (t : Task). mask_of (skills_of t.skills) ≡ t.skills) i.tasks }
+    ensures size { (i : Instance) (budget : ℕ) → IsInstance i → budget ≤ MOST_NODES
+        → IsReadAs expected.Size (size_line (size_of i budget)) (size_kind (size_of i budget)) }
+    ensures places { (i : Instance) → IsInstance i
+        → All (λ name. IsReadAs expected.Place (place_line name) (place_kind name)) i.places }
+    ensures travel { (i : Instance) → IsInstance i
+        → All (λ row. IsReadAs (expected.Travel (length i.places)) (travel_line row)
+        (travel_kind row)) i.travel }
+    ensures teams { (i : Instance) → IsInstance i
+        → All (λ t. IsReadAs (expected.Team (length i.places)) (team_line t)
+        (team_kind t)) i.teams }
+    ensures tasks { (i : Instance) → IsInstance i
+        → All (λ t. IsReadAs (expected.Task (length i.places)) (task_line t)
+        (task_kind t)) i.tasks }
+    ensures team_skills { (i : Instance) → IsInstance i
+        → All (λ (t : Team). mask_of (skills_of t.skills) ≡ t.skills) i.teams }
+    ensures task_skills { (i : Instance) → IsInstance i
+        → All (λ (t : Task). mask_of (skills_of t.skills) ≡ t.skills) i.tasks }
 {
     line_has_one_answer();
     set_is_spelled();

@@ -28,12 +28,14 @@ use written_laws::{leaves_keep_their_prices, written_dossiers_are_good};
 /// A dossier of what the search comes to is one of the round that is handed the kept columns by names.
 pub(crate) fn outcomes_are_rounds()
     ensures writable { (g : Given) (o : Outcome) → IsOfOutcome g o → AreWritable g }
-    ensures dossier { (handed : List NamedRoute) (g : Given) (o : Outcome) (d : Dossier) → IsOfOutcome g o →
+    ensures dossier { (handed : List NamedRoute) (g : Given) (o : Outcome) (d : Dossier)
+        → IsOfOutcome g o →
         AreKeptIn (root_limits g.instance) handed (kept_in g) → IsDossierOf g d →
         IsRoundDossier handed (record { instance = g.instance; nodes = g.nodes }) d }
     ensures few { (g : Given) (o : Outcome) → IsOfOutcome g o → length g.causes ≤ g.nodes }
     ensures plan { (g : Given) (o : Outcome) → IsOfOutcome g o → IsPlanOf g.instance g.plan }
-    ensures counts { (g : Given) (o : Outcome) (d : Dossier) (counts : Counts) → IsOfOutcome g o → IsDossierOf g d →
+    ensures counts { (g : Given) (o : Outcome) (d : Dossier) (counts : Counts) → IsOfOutcome g o
+        → IsDossierOf g d →
         AreNumbersOf g o counts → counts ≡ counts_of d }
 {
     good_bounds();
@@ -50,7 +52,9 @@ pub(crate) fn outcomes_are_rounds()
 
 /// Columns that are kept by names may stand in the instance's pool, and those of its pool have its teams and tasks.
 pub(crate) fn pools_are_of_instances()
-    ensures kept { (i : Instance) (handed : List NamedRoute) (kept : List Route) → AreKeptIn (root_limits i) handed kept →
+    ensures kept { (i : Instance) (handed : List NamedRoute) (kept : List Route)
+        → AreKeptIn (root_limits i) handed kept →
         AreColumns kept → All (IsPooled i) kept }
-    ensures known { (i : Instance) (pool : List Route) → All (IsPooled i) pool → All (IsOfInstance i) pool }
+    ensures known { (i : Instance) (pool : List Route) → All (IsPooled i) pool
+        → All (IsOfInstance i) pool }
 {}

@@ -49,7 +49,8 @@ fn place_kept<C: Columns>(
     columns: &mut C,
 ) -> Result<usize, AllocError>
     requires { C.columns columns.old ≡ [] }
-    ensures kept { OnOk result (AreKeptIn (root_limits instance.now) (handed_in carry.now) (C.columns columns.new)) }
+    ensures kept { OnOk result (AreKeptIn (root_limits instance.now) (handed_in carry.now)
+        (C.columns columns.new)) }
     ensures count { IfOk result (λ count. count ≡ length (C.columns columns.new)) }
 {
     let Some(carried) = carry else {
@@ -111,9 +112,12 @@ fn put_outcome<K: Sink, C: Columns>(
     requires few { nodes ≤ MOST_NODES }
     requires kept { kept ≤ length (C.columns columns.now) }
     requires pooled { All (IsPooled instance.now) (take kept (C.columns columns.now)) }
-    requires solved { IsSolved instance.now nodes (take kept (C.columns columns.now)) (C.columns columns.now) outcome.now }
-    ensures put { (handed : List NamedRoute) → AreKeptIn (root_limits instance.now) handed (take kept (C.columns columns.now)) →
-        IsRoundPut handed (record { instance = instance.now; nodes = nodes }) result (K.got sink.old) (K.got sink.new) }
+    requires solved { IsSolved instance.now nodes (take kept (C.columns columns.now))
+        (C.columns columns.now) outcome.now }
+    ensures put { (handed : List NamedRoute) → AreKeptIn (root_limits instance.now) handed
+        (take kept (C.columns columns.now)) →
+        IsRoundPut handed (record { instance = instance.now; nodes = nodes }) result
+        (K.got sink.old) (K.got sink.new) }
     ensures tells { TellsWrites K.Sink sink.old sink.new (result ≡ Err SessionFault.WriteFault) }
 {
     outcomes_are_rounds();
@@ -155,7 +159,8 @@ pub(crate) fn put_round<K: Sink>(
     sink: &mut K,
 ) -> Result<Planned, SessionFault>
     requires { nodes ≤ MOST_NODES }
-    ensures put { IsRoundPut (handed_in carry.now) (record { instance = instance.now; nodes = nodes }) result
+    ensures put { IsRoundPut (handed_in carry.now)
+        (record { instance = instance.now; nodes = nodes }) result
         (K.got sink.old) (K.got sink.new) }
     ensures tells { TellsWrites K.Sink sink.old sink.new (result ≡ Err SessionFault.WriteFault) }
 {

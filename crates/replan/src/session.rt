@@ -86,8 +86,10 @@ impl Session {
     pub fn entry<K: Sink>(&mut self, entry: &Entry, sink: &mut K) -> Result<Done, SessionFault>
         requires { IsInRange entry.now }
         ensures failed { (failure : Failure) → self.old.failed ≡ Some failure
-            → (result ≡ Err (fault_told failure)) × (self.new ≡ self.old) × (K.got sink.new ≡ K.got sink.old) }
-        ensures entered { self.old.failed ≡ None → IsEntered self.old entry.now result self.new (K.got sink.old) (K.got sink.new) }
+            → (result ≡ Err (fault_told failure)) × (self.new ≡ self.old)
+            × (K.got sink.new ≡ K.got sink.old) }
+        ensures entered { self.old.failed ≡ None → IsEntered self.old entry.now result self.new
+            (K.got sink.old) (K.got sink.new) }
         // A write fault comes only where the sink's count of faults rose, or after an earlier one.
         ensures tells { TellsWrites K.Sink sink.old sink.new (IsNewWriteFault self.old result) }
     {
@@ -103,8 +105,10 @@ impl Session {
     fn step<K: Sink>(&mut self, entry: &Entry, sink: &mut K) -> Result<Done, SessionFault>
         requires range { IsInRange entry.now }
         requires open_yet { self.old.failed ≡ None }
-        ensures entered { IsEntered self.old entry.now result (record self.new { failed = failure_of result }) (K.got sink.old) (K.got sink.new) }
-        ensures tells { TellsWrites K.Sink sink.old sink.new (result ≡ Err SessionFault.WriteFault) }
+        ensures entered { IsEntered self.old entry.now result
+            (record self.new { failed = failure_of result }) (K.got sink.old) (K.got sink.new) }
+        ensures tells { TellsWrites K.Sink sink.old sink.new
+            (result ≡ Err SessionFault.WriteFault) }
     {
         if let Err(fault) = self.desk.apply(entry) {
             return Err(refusal(fault));

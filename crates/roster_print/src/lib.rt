@@ -69,7 +69,8 @@ fn push_partners<'a>(line: &mut Line<'a>, instance: &'a Instance, k: u32, teams:
     requires room { array_vec_len line.old + 1 + MOST_TEAMS_PER_TASK ≤ MOST_PARTS }
     requires few { length teams.now ≤ MOST_TEAMS_PER_TASK }
     requires known { All (λ g. g < length instance.now.teams) teams.now }
-    ensures { map part_word line.new.items ≡ map part_word line.old.items ++ partner_words instance.now k teams.now }
+    ensures { map part_word line.new.items
+        ≡ map part_word line.old.items ++ partner_words instance.now k teams.now }
 {
     if teams.len() <= 1 {
         return;
@@ -119,7 +120,8 @@ fn put_turns<K: Sink>(
 ) -> Result<(), WriteFault>
     requires limits { IsInstance instance.now }
     requires legal { IsLegal instance.now plan.now }
-    ensures { Puts K.Sink (flat_map line_text (map (turn_line instance.now plan.now k) (tasks_in_turn plan.now k)))
+    ensures { Puts K.Sink (flat_map line_text
+        (map (turn_line instance.now plan.now k) (tasks_in_turn plan.now k)))
         out.old out.new result }
 {
     let mut turns = ArrayVec::new();
@@ -148,7 +150,9 @@ fn put_team<K: Sink>(
 
 fn put_teams<K: Sink>(out: &mut K, instance: &Instance, plan: &Plan) -> Result<(), WriteFault>
     requires { IsLegal instance.now plan.now }
-    ensures { Puts K.Sink (flat_map line_text (flat_map (team_lines instance.now plan.now) (range_with_len 0 (length instance.now.teams))))
+    ensures { Puts K.Sink (flat_map line_text
+        (flat_map (team_lines instance.now plan.now)
+        (range_with_len 0 (length instance.now.teams))))
         out.old out.new result }
 {
     for k in 0..instance.teams() as u32 {
@@ -166,7 +170,8 @@ fn put_if_open<K: Sink>(
 ) -> Result<(), WriteFault>
     requires task { j < length instance.now.tasks }
     requires plan { j < length plan.now }
-    ensures { Puts K.Sink (flat_map line_text (map (open_line instance.now) (filter (is_unassigned plan.now) (j ∷ []))))
+    ensures { Puts K.Sink (flat_map line_text
+        (map (open_line instance.now) (filter (is_unassigned plan.now) (j ∷ []))))
         out.old out.new result }
 {
     if plan.start(j).is_some() {
@@ -178,7 +183,8 @@ fn put_if_open<K: Sink>(
 
 fn put_open<K: Sink>(out: &mut K, instance: &Instance, plan: &Plan) -> Result<(), WriteFault>
     requires { length plan.now ≡ length instance.now.tasks }
-    ensures { Puts K.Sink (flat_map line_text (map (open_line instance.now) (unassigned_tasks plan.now)))
+    ensures { Puts K.Sink (flat_map line_text
+        (map (open_line instance.now) (unassigned_tasks plan.now)))
         out.old out.new result }
 {
     for j in 0..plan.len() as u32 {

@@ -26,10 +26,13 @@ pub const MOST_LOSS: u32 = 28_800;
 /// Where no variable has a negative reduced cost, and no team has a route that improves, the bound of the rows' prices,
 /// rounded down, is at least the rows' value less this loss. The value is over the value's basic entry.
 pub fn rounding_loses_little()
-    ensures { (n : Limits) (routes : List Route) (made : ℕ) (t : Rows) (prices : Prices) (worths : List ℤ) →
-        IsMasterRun n routes made t → IsOptimal t → All (IsRouteIn n) routes → AreRounded n t prices → AreWorths n prices worths →
+    ensures { (n : Limits) (routes : List Route) (made : ℕ) (t : Rows) (prices : Prices)
+        (worths : List ℤ) →
+        IsMasterRun n routes made t → IsOptimal t → All (IsRouteIn n) routes → AreRounded n t prices
+        → AreWorths n prices worths →
         ((k : ℕ) → k < teams_in n → BeatsRoutes routes k prices (worth_of worths k) → ⊥) →
-        (pos D *ℤ number (value_row t) RIGHT) ≤ℤ (number (value_row t) VALUE *ℤ (bound_of n prices worths +ℤ rounding_loss n)) }
+        (pos D *ℤ number (value_row t) RIGHT) ≤ℤ
+        (number (value_row t) VALUE *ℤ (bound_of n prices worths +ℤ rounding_loss n)) }
 {
     duals_stand();
     optimal_prices();
@@ -45,11 +48,15 @@ pub fn little_is_lost()
 
 /// So the bound is within this loss of the value of the shares, in their parts.
 pub fn rounded_prices_are_near()
-    ensures { (n : Limits) (routes : List Route) (made : ℕ) (t : Rows) (prices : Prices) (worths : List ℤ) (whole : ℕ) (x : ℕ → ℕ) →
-        IsInstance n.instance → IsMasterRun n routes made t → IsOptimal t → All (IsRouteIn n) routes → AreRounded n t prices →
-        AreWorths n prices worths → ((k : ℕ) → k < teams_in n → BeatsRoutes routes k prices (worth_of worths k) → ⊥) →
+    ensures { (n : Limits) (routes : List Route) (made : ℕ) (t : Rows) (prices : Prices)
+        (worths : List ℤ) (whole : ℕ) (x : ℕ → ℕ) →
+        IsInstance n.instance → IsMasterRun n routes made t → IsOptimal t → All (IsRouteIn n) routes
+        → AreRounded n t prices →
+        AreWorths n prices worths → ((k : ℕ) → k < teams_in n
+        → BeatsRoutes routes k prices (worth_of worths k) → ⊥) →
         AreWholeParts n routes t whole x →
-        (pos D *ℤ choice_value n (choice_of n routes whole x)) ≤ℤ (pos whole *ℤ (bound_of n prices worths +ℤ pos MOST_LOSS)) }
+        (pos D *ℤ choice_value n (choice_of n routes whole x)) ≤ℤ
+        (pos whole *ℤ (bound_of n prices worths +ℤ pos MOST_LOSS)) }
 {
     rounding_loses_little();
     little_is_lost();
@@ -60,9 +67,12 @@ pub fn rounded_prices_are_near()
 /// And where these prices don't prove that so many tasks stay unassigned, the shares are loose: their value is at most one
 /// less and a thousandth.
 pub fn unproved_shares_are_loose()
-    ensures { (n : Limits) (routes : List Route) (made : ℕ) (t : Rows) (prices : Prices) (worths : List ℤ) (whole : ℕ) (x : ℕ → ℕ) (now : ℕ) →
-        IsInstance n.instance → IsMasterRun n routes made t → IsOptimal t → All (IsRouteIn n) routes → AreRounded n t prices →
-        AreWorths n prices worths → ((k : ℕ) → k < teams_in n → BeatsRoutes routes k prices (worth_of worths k) → ⊥) →
+    ensures { (n : Limits) (routes : List Route) (made : ℕ) (t : Rows) (prices : Prices)
+        (worths : List ℤ) (whole : ℕ) (x : ℕ → ℕ) (now : ℕ) →
+        IsInstance n.instance → IsMasterRun n routes made t → IsOptimal t → All (IsRouteIn n) routes
+        → AreRounded n t prices →
+        AreWorths n prices worths → ((k : ℕ) → k < teams_in n
+        → BeatsRoutes routes k prices (worth_of worths k) → ⊥) →
         AreWholeParts n routes t whole x → 1 ≤ now → (Proves (bound_of n prices worths) now → ⊥) →
         IsLoose n (choice_of n routes whole x) (1000 * (now - 1) + 1) 1000 }
 {

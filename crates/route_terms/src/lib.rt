@@ -14,11 +14,13 @@ pub use routes::Route;
 
 /// Routes of an instance that have the same names are equal.
 pub fn names_mean_one_route()
-    ensures { (i : Instance) (r s : TeamRoute) → IsInstance i → IsOfInstance i r → IsOfInstance i s → by_names i r ≡ by_names i s → r ≡ s }
+    ensures { (i : Instance) (r s : TeamRoute) → IsInstance i → IsOfInstance i r → IsOfInstance i s
+        → by_names i r ≡ by_names i s → r ≡ s }
 {}
 
 /// The routes that are kept in the limits of an instance are one list.
 pub fn kept_routes_are_one()
-    ensures { (n : Limits) (carried : List NamedRoute) (kept more : List TeamRoute) → IsInstance n.instance →
+    ensures { (n : Limits) (carried : List NamedRoute) (kept more : List TeamRoute)
+        → IsInstance n.instance →
         AreKeptIn n carried kept → AreKeptIn n carried more → kept ≡ more }
 {}

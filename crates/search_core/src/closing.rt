@@ -15,7 +15,8 @@ impl<'i> Search<'i> {
     /// Ends the search: its best plan, its bound, its tree with the prices of its leaves, and the causes of its splits, both in
     /// preorder. A root that no step took is bare where the plan leaves no task unassigned. AllocError where there is no memory.
     pub fn close(self) -> Result<Outcome, AllocError>
-        ensures outcome { (columns : List TeamRoute) → IfOk result (IsOutcome self.entry.instance columns (state_of columns self.entry)) }
+        ensures outcome { (columns : List TeamRoute)
+            → IfOk result (IsOutcome self.entry.instance columns (state_of columns self.entry)) }
         ensures shown { (columns : List TeamRoute) → AreShown columns self.entry →
             IfOk result (IsShownOutcome self.entry.instance columns (state_of columns self.entry)) }
     {

@@ -60,7 +60,8 @@ fn examine<C: Columns>(
     requires bound { DecidesProved limits.old.limits own.now bound }
     requires best { unassigned_count best.now ≤ tasks_in limits.old.limits }
     requires room { HasRoom limits.old.limits.instance pricer.old }
-    ensures found { IfOk result (IsFinding limits.old.limits (unassigned_count best.now) effort.now.pivots
+    ensures found { IfOk result (IsFinding limits.old.limits
+        (unassigned_count best.now) effort.now.pivots
         (C.columns columns.old) (C.columns columns.new) own.now) }
     ensures extends { Extends limits.old.limits (C.columns columns.old) (C.columns columns.new) }
     ensures limits { limits.new ≡ limits.old }
@@ -111,11 +112,14 @@ pub(crate) fn explore<C: Columns>(
     requires own { ArePricesOf (limits_after limits.old.limits turns.now) own.now }
     requires required { IsOnRequired (limits_after limits.old.limits turns.now) own.now }
     requires bound { DecidesProved (limits_after limits.old.limits turns.now) own.now bound }
-    requires best { unassigned_count best.now ≤ tasks_in (limits_after limits.old.limits turns.now) }
+    requires best { unassigned_count best.now ≤ tasks_in
+        (limits_after limits.old.limits turns.now) }
     requires room { HasRoom limits.old.limits.instance pricer.old }
-    ensures found { IfOk result (IsFinding (limits_after limits.old.limits turns.now) (unassigned_count best.now) effort.now.pivots
+    ensures found { IfOk result (IsFinding (limits_after limits.old.limits turns.now)
+        (unassigned_count best.now) effort.now.pivots
         (C.columns columns.old) (C.columns columns.new) own.now) }
-    ensures extends { Extends (limits_after limits.old.limits turns.now) (C.columns columns.old) (C.columns columns.new) }
+    ensures extends { Extends (limits_after limits.old.limits turns.now) (C.columns columns.old)
+        (C.columns columns.new) }
     ensures back { IsBack limits.new limits.old }
     ensures room { pricer.new.places ≡ pricer.old.places }
 {

@@ -15,12 +15,16 @@ use search_laws::{decided_nodes_are_closed, steps_improve};
 
 /// In a step by a key the bound does not fall and the plan gets no worse, and a decided node is closed.
 pub fn key_steps_improve()
-    ensures bound { (s t : Searching) (key pivots b c : ℕ) (columns more held : List TeamRoute) → IsInstance s.instance →
-        IsSearching s → IsKeyStep key pivots columns more s t → IsBound s.instance (state_of held s) b →
+    ensures bound { (s t : Searching) (key pivots b c : ℕ) (columns more held : List TeamRoute)
+        → IsInstance s.instance →
+        IsSearching s → IsKeyStep key pivots columns more s t
+        → IsBound s.instance (state_of held s) b →
         IsBound s.instance (state_of held t) c → b ≤ c }
-    ensures best { (s t : Searching) (key pivots : ℕ) (columns more held : List TeamRoute) → IsKeyStep key pivots columns more s t →
+    ensures best { (s t : Searching) (key pivots : ℕ) (columns more held : List TeamRoute)
+        → IsKeyStep key pivots columns more s t →
         best (state_of held t) ≤ best (state_of held s) }
-    ensures decided { (s t : Searching) (key pivots : ℕ) (columns more held : List TeamRoute) → IsKeyStep key pivots columns more s t →
+    ensures decided { (s t : Searching) (key pivots : ℕ) (columns more held : List TeamRoute)
+        → IsKeyStep key pivots columns more s t →
         IsDecided (limits_of_key held s key) → IsClosed held key s t }
 {
     steps_improve();
@@ -29,7 +33,8 @@ pub fn key_steps_improve()
 
 /// What a search comes to is one that it hands out, with any worths and potentials beside the prices of its tree.
 pub fn outcomes_are_searched()
-    ensures { (i : Instance) (budget : ℕ) (kept pool : List TeamRoute) (s : SearchState) (o : Outcome) (t : Tree) →
+    ensures { (i : Instance) (budget : ℕ) (kept pool : List TeamRoute) (s : SearchState)
+        (o : Outcome) (t : Tree) →
         IsSearchRun i budget kept pool s → IsOutcome i pool s o → IsPricedAs (handed_out s) t →
         IsSearched i budget kept (record { plan = o.plan; tree = t; pool = pool }) s }
 {}

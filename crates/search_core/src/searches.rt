@@ -79,7 +79,8 @@ impl<'i> Search<'i> {
         effort: Effort,
     ) -> Result<Search<'i>, AllocError>
         requires { nodes ≤ MOST_NODES }
-        ensures start { (columns : List TeamRoute) → IfOk result (λ s. IsStart instance.now nodes (state_of columns s)) }
+        ensures start { (columns : List TeamRoute)
+            → IfOk result (λ s. IsStart instance.now nodes (state_of columns s)) }
         ensures instance { IfOk result (λ s. s.instance ≡ instance.now) }
         ensures budget { IfOk result (λ s. s.budget ≡ nodes) }
     {
@@ -125,7 +126,8 @@ impl<'i> Search<'i> {
     /// How many steps are left.
     pub fn left(&self) -> u32
         ensures left { result ≡ self.now.left }
-        ensures count { (columns : List TeamRoute) → IsCounted self.now.budget (state_of columns self.now) }
+        ensures count { (columns : List TeamRoute)
+            → IsCounted self.now.budget (state_of columns self.now) }
     {
         run_keeps();
         self.left
@@ -140,7 +142,8 @@ impl<'i> Search<'i> {
 
     /// The least of what the best plan leaves unassigned and what the open leaves prove. It looks at the leaf of least bound.
     pub fn bound(&self) -> u32
-        ensures { (columns : List TeamRoute) → IsBound self.now.instance (state_of columns self.now) result }
+        ensures { (columns : List TeamRoute) → IsBound self.now.instance
+            (state_of columns self.now) result }
     {
         run_keeps();
         least_bounds();

@@ -72,7 +72,8 @@ fn put_split(
     requires few_prices { length prices.old.items < 2 ^ 32 }
     requires few_causes { length causes.old.items < 2 ^ 32 }
     ensures put { (n : ℕ) (bound : ℤ) → IsWaiting keyed.old key n bound →
-        OnOk result (IsPutSplit keyed.old keyed.new prices.old.items prices.new.items causes.old.items causes.new.items key n own choice cause handed) }
+        OnOk result (IsPutSplit keyed.old keyed.new prices.old.items prices.new.items
+        causes.old.items causes.new.items key n own choice cause handed) }
     ensures keyed { OnOk result (IsKeyed keyed.new) }
     ensures err_keyed { OnErr result (keyed.new ≡ keyed.old) }
     ensures err_prices { OnErr result (prices.new.items ≡ prices.old.items) }
@@ -107,7 +108,8 @@ pub(crate) fn put_ending(
     requires few_prices { length prices.old.items < 2 ^ 32 }
     requires few_causes { length causes.old.items < 2 ^ 32 }
     ensures put { (n : ℕ) (bound : ℤ) → IsWaiting keyed.old key n bound →
-        OnOk result (IsPut keyed.old keyed.new prices.old.items prices.new.items causes.old.items causes.new.items key n own now ending) }
+        OnOk result (IsPut keyed.old keyed.new prices.old.items prices.new.items causes.old.items
+        causes.new.items key n own now ending) }
     ensures keyed { OnOk result (IsKeyed keyed.new) }
     ensures err_keyed { OnErr result (keyed.new ≡ keyed.old) }
     ensures err_prices { OnErr result (prices.new.items ≡ prices.old.items) }

@@ -22,8 +22,10 @@ impl<'i> Search<'i> {
         ensures leaf { IfSome result (IsOpenKey self.now) }
         ensures least { IfSome result (IsLeast self.now.keyed.waits) }
         ensures left { IfSome result (λ _. 0 < self.now.left) }
-        ensures better { (columns : List TeamRoute) → IfSome result (λ _. IsDone self.now.instance (state_of columns self.now) → ⊥) }
-        ensures done { (columns : List TeamRoute) → IfNone result (IsDone self.now.instance (state_of columns self.now)) }
+        ensures better { (columns : List TeamRoute)
+            → IfSome result (λ _. IsDone self.now.instance (state_of columns self.now) → ⊥) }
+        ensures done { (columns : List TeamRoute)
+            → IfNone result (IsDone self.now.instance (state_of columns self.now)) }
     {
         least_bounds();
         // What always holds of the tree is known from here on.
@@ -49,7 +51,8 @@ pub fn solve<C: Columns>(
     effort: Effort,
 ) -> Result<Outcome, AllocError>
     requires { nodes ≤ MOST_NODES }
-    ensures outcome { IfOk result (IsSolved instance.now nodes (C.columns columns.old) (C.columns columns.new)) }
+    ensures outcome { IfOk result (IsSolved instance.now nodes (C.columns columns.old)
+        (C.columns columns.new)) }
     ensures columns { IsGrown (C.columns columns.old) (C.columns columns.new) }
 {
     let mut search = Search::new(alloc, instance, nodes, effort)?;

@@ -26,13 +26,19 @@ use search_laws::{loose_splits_stay_shown, run_keeps};
 
 /// Where the prices that were found close the leaf under a key, that is a step, and what always holds goes on to hold.
 pub(crate) fn closings_are_steps()
-    ensures { (s : Searching) (key n own pivots : ℕ) (bound : ℤ) (columns more : List TeamRoute) (found : Option TaskPlan)
-        (kept : LeafPrices) (keyed : Keyed) (prices : List LeafPrices) → IsInstance s.instance → IsKeptSearch s → 0 < s.left →
-        IsKeyed s.keyed → IsKeyed keyed → IsWaiting s.keyed key n bound → Extends (limits_of s.instance s.keyed n) columns more →
-        IfSome found (IsBetterPlan (limits_of s.instance s.keyed n).instance (unassigned_count s.plan)) →
-        IsClosing (limits_of s.instance s.keyed n) (now_after (unassigned_count s.plan) found) kept →
+    ensures { (s : Searching) (key n own pivots : ℕ) (bound : ℤ) (columns more : List TeamRoute)
+        (found : Option TaskPlan)
+        (kept : LeafPrices) (keyed : Keyed) (prices : List LeafPrices) → IsInstance s.instance
+        → IsKeptSearch s → 0 < s.left →
+        IsKeyed s.keyed → IsKeyed keyed → IsWaiting s.keyed key n bound
+        → Extends (limits_of s.instance s.keyed n) columns more →
+        IfSome found (IsBetterPlan (limits_of s.instance s.keyed n).instance
+        (unassigned_count s.plan)) →
+        IsClosing (limits_of s.instance s.keyed n)
+        (now_after (unassigned_count s.plan) found) kept →
         IsPutClosed s.keyed keyed s.prices prices key n kept →
-        IsKeptSearch (after_step s found keyed prices s.causes) × IsKeyStep key pivots columns more s (after_step s found keyed prices s.causes) }
+        IsKeptSearch (after_step s found keyed prices s.causes)
+        × IsKeyStep key pivots columns more s (after_step s found keyed prices s.causes) }
 {
     loose_splits_stay_shown();
     run_leaves();
@@ -43,15 +49,23 @@ pub(crate) fn closings_are_steps()
 
 /// Where the leaf under a key is split for a cause that the columns earn, that is a step, and what always holds goes on to hold.
 pub(crate) fn splits_are_steps()
-    ensures { (s : Searching) (key n own pivots : ℕ) (bound : ℤ) (columns more : List TeamRoute) (found : Option TaskPlan)
-        (choice : Choice) (why : Why) (handed : Handed) (keyed : Keyed) (prices : List LeafPrices) (causes : List Cause) →
-        IsInstance s.instance → IsKeptSearch s → 0 < s.left → IsKeyed s.keyed → IsKeyed keyed → IsWaiting s.keyed key n bound →
-        (node_of s.keyed.nodes n).content ≡ content.Open own → Extends (limits_of s.instance s.keyed n) columns more →
-        IfSome found (IsBetterPlan (limits_of s.instance s.keyed n).instance (unassigned_count s.plan)) →
-        IsHandedSplit (limits_of s.instance s.keyed n) (now_after (unassigned_count s.plan) found) pivots more (price_at s.prices own) choice why handed →
+    ensures { (s : Searching) (key n own pivots : ℕ) (bound : ℤ) (columns more : List TeamRoute)
+        (found : Option TaskPlan)
+        (choice : Choice) (why : Why) (handed : Handed) (keyed : Keyed) (prices : List LeafPrices)
+        (causes : List Cause) →
+        IsInstance s.instance → IsKeptSearch s → 0 < s.left → IsKeyed s.keyed → IsKeyed keyed
+        → IsWaiting s.keyed key n bound →
+        (node_of s.keyed.nodes n).content ≡ content.Open own
+        → Extends (limits_of s.instance s.keyed n) columns more →
+        IfSome found (IsBetterPlan (limits_of s.instance s.keyed n).instance
+        (unassigned_count s.plan)) →
+        IsHandedSplit (limits_of s.instance s.keyed n)
+        (now_after (unassigned_count s.plan) found) pivots more
+        (price_at s.prices own) choice why handed →
         IsPutSplit s.keyed keyed s.prices prices s.causes causes key n own choice
         (record { now = now_after (unassigned_count s.plan) found; why = why }) handed →
-        IsKeptSearch (after_step s found keyed prices causes) × IsKeyStep key pivots columns more s (after_step s found keyed prices causes) }
+        IsKeptSearch (after_step s found keyed prices causes)
+        × IsKeyStep key pivots columns more s (after_step s found keyed prices causes) }
 {
     run_keeps();
     loose_splits_stay_shown();

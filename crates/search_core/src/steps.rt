@@ -27,9 +27,11 @@ impl<'i> Search<'i> {
     ) -> Result<(), AllocError>
         requires leaf { IsOpenKey self.old key }
         requires left { 0 < self.old.left }
-        ensures ok { OnOk result (IsKeyStep key pivots (C.columns columns.old) (C.columns columns.new) self.old self.new) }
+        ensures ok { OnOk result (IsKeyStep key pivots (C.columns columns.old)
+            (C.columns columns.new) self.old self.new) }
         ensures err { OnErr result (self.new ≡ self.old) }
-        ensures columns { Extends (limits_of_key [] self.old key) (C.columns columns.old) (C.columns columns.new) }
+        ensures columns { Extends (limits_of_key [] self.old key) (C.columns columns.old)
+            (C.columns columns.new) }
     {
         run_keeps();
         run_leaves();
@@ -73,9 +75,11 @@ impl<'i> Search<'i> {
     pub fn step<C: Columns>(&mut self, key: usize, columns: &mut C) -> Result<(), AllocError>
         requires leaf { IsOpenKey self.old key }
         requires left { 0 < self.old.left }
-        ensures ok { OnOk result (IsKeyStep key PIVOTS (C.columns columns.old) (C.columns columns.new) self.old self.new) }
+        ensures ok { OnOk result (IsKeyStep key PIVOTS (C.columns columns.old)
+            (C.columns columns.new) self.old self.new) }
         ensures err { OnErr result (self.new ≡ self.old) }
-        ensures columns { Extends (limits_of_key [] self.old key) (C.columns columns.old) (C.columns columns.new) }
+        ensures columns { Extends (limits_of_key [] self.old key) (C.columns columns.old)
+            (C.columns columns.new) }
     {
         self.step_with(key, columns, PIVOTS)
     }

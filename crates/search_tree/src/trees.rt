@@ -121,7 +121,8 @@ impl NumberedTree {
         requires leaf { IsOpenNode self.old n }
         ensures nodes { self.new ≡ with_content self.old n (Content.Closed prices) }
         ensures tree { (p : ℕ → Prices) (c : ℕ → SplitCause) →
-            tree_of p c self.new ≡ replaced (tree_of p c self.old) (way_of self.old n) (LeafNode (ClosedLeaf (p prices))) }
+            tree_of p c self.new ≡ replaced (tree_of p c self.old) (way_of self.old n)
+            (LeafNode (ClosedLeaf (p prices))) }
         ensures ways { (m : ℕ) → m < length self.old → way_of self.new m ≡ way_of self.old m }
     {
         put_content(&mut self.nodes, n as usize, Content::Closed { prices });
@@ -142,8 +143,10 @@ impl NumberedTree {
         ensures nodes { OnOk result (self.new ≡ split_at self.old n choice cause prices) }
         ensures tree { (p : ℕ → Prices) (c : ℕ → SplitCause) → OnOk result (
             tree_of p c self.new ≡ replaced (tree_of p c self.old) (way_of self.old n)
-            (SplitNode (record { choice = choice; cause = c cause }) (LeafNode (OpenLeaf (p prices))) (LeafNode (OpenLeaf (p prices))))) }
-        ensures ways { (m : ℕ) → m < length self.old → OnOk result (way_of self.new m ≡ way_of self.old m) }
+            (SplitNode (record { choice = choice; cause = c cause })
+            (LeafNode (OpenLeaf (p prices))) (LeafNode (OpenLeaf (p prices))))) }
+        ensures ways { (m : ℕ) → m < length self.old
+            → OnOk result (way_of self.new m ≡ way_of self.old m) }
         ensures err { OnErr result (self.new ≡ self.old) }
     {
         let first = self.nodes.len() as u32;

@@ -35,7 +35,8 @@ pub(crate) fn with_share(sum: Mixed, share: Mixed, whole: u128) -> Mixed
     requires whole { whole < 2 ^ 127 }
     requires sum { (n : ℕ) × IsSum whole sum n }
     requires share { IsMixed share whole (pos 1) }
-    ensures { (n k : ℕ) → IsSum whole sum n → value share whole ≡ pos k → IsSum whole result (n + k) }
+    ensures { (n k : ℕ) → IsSum whole sum n → value share whole ≡ pos k
+        → IsSum whole result (n + k) }
 {
     if sum.whole >= MANY {
         return sum;
@@ -60,7 +61,8 @@ fn add_at(sums: &mut [Mixed], place: usize, share: Mixed, whole: u128)
 pub(crate) fn add_visits(sums: &mut [Mixed], visits: &[Visit], share: Mixed, whole: u128)
     requires whole { whole < 2 ^ 127 }
     requires sums { (f : ℕ → ℕ) × AreSums whole sums.old f }
-    requires known { (i : ℕ) → i < length visits.now → (visit_at visits.now i).task < length sums.old }
+    requires known { (i : ℕ) → i < length visits.now
+        → (visit_at visits.now i).task < length sums.old }
     requires share { IsMixed share whole (pos 1) }
     ensures count { length sums.new ≡ length sums.old }
     ensures sums { (f : ℕ → ℕ) (k : ℕ) → AreSums whole sums.old f → value share whole ≡ pos k

@@ -19,8 +19,10 @@ fn task_gap(limits: &Limits<'_>, j: u32, sum: Mixed, spare: u128, whole: u128) -
     requires whole { whole < 2 ^ 127 }
     requires spare { spare ≤ whole }
     requires sum { (n : ℕ) × IsSum whole sum n }
-    ensures exact { (c : FractionalChoice) → c.whole ≡ whole → unassigned_of c j ≡ spare → IsSum whole sum (weighed_visits c.shares j)
-        → MatchOption result (1000 * whole ≤ weighed_visits c.shares j) (λ gap. value gap whole ≡ task_gap limits.now.limits c j) }
+    ensures exact { (c : FractionalChoice) → c.whole ≡ whole → unassigned_of c j ≡ spare
+        → IsSum whole sum (weighed_visits c.shares j)
+        → MatchOption result (1000 * whole ≤ weighed_visits c.shares j)
+        (λ gap. value gap whole ≡ task_gap limits.now.limits c j) }
     ensures mixed { IfSome result (λ gap. IsMixed gap whole (pos 1001)) }
 {
     gap_of(sum, limits.instance().task(j).teams, whole - spare, whole)
@@ -39,9 +41,12 @@ pub(crate) fn task_gaps(
     requires count { length spare.now ≡ tasks_in limits.now.limits }
     requires tasks { length sums.now ≡ tasks_in limits.now.limits }
     requires sums { (f : ℕ → ℕ) × AreSums whole sums.now f }
-    ensures exact { (c : FractionalChoice) → c.whole ≡ whole → c.unassigned ≡ spare.now → AreSums whole sums.now (weighed_visits c.shares)
-        → MatchOption result ((j : ℕ) × (j < tasks_in limits.now.limits) × (1000 * whole ≤ weighed_visits c.shares j))
-        (λ gaps. value gaps whole ≡ total (tasks_in limits.now.limits) (task_gap limits.now.limits c)) }
+    ensures exact { (c : FractionalChoice) → c.whole ≡ whole → c.unassigned ≡ spare.now
+        → AreSums whole sums.now (weighed_visits c.shares)
+        → MatchOption result ((j : ℕ) × (j < tasks_in limits.now.limits)
+        × (1000 * whole ≤ weighed_visits c.shares j))
+        (λ gaps. value gaps whole ≡ total (tasks_in limits.now.limits)
+        (task_gap limits.now.limits c)) }
     ensures mixed { IfSome result (λ gaps. IsMixed gaps whole (pos 1000000)) }
 {
     let mut gaps = NOTHING;
@@ -60,7 +65,8 @@ pub(crate) fn spare_sum(spare: &WideNumbers<'_>, whole: u128) -> Mixed
     requires whole { whole < 2 ^ 127 }
     requires spares { (j : ℕ) → slice_index_or spare.now j 0 ≤ whole }
     requires count { length spare.now ≤ 400 }
-    ensures value { (c : FractionalChoice) → c.unassigned ≡ spare.now → value result whole ≡ total (length spare.now) (λ j. pos (unassigned_of c j)) }
+    ensures value { (c : FractionalChoice) → c.unassigned ≡ spare.now
+        → value result whole ≡ total (length spare.now) (λ j. pos (unassigned_of c j)) }
     ensures mixed { IsMixed result whole (pos 1000000) }
 {
     let mut sum = NOTHING;

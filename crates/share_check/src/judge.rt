@@ -18,8 +18,10 @@ use node_limits::Limits;
 /// Whether each task with a required pair has no unassigned share.
 pub(crate) fn spares_fit(limits: &Limits<'_>, spare: &WideNumbers<'_>) -> bool
     requires { length spare.now ≡ tasks_in limits.now.limits }
-    ensures { MatchBool result ((j : ℕ) → j < tasks_in limits.now.limits → has_required limits.now.limits j ≡ true → slice_index_or spare.now j 0 ≡ 0)
-        (((j : ℕ) → j < tasks_in limits.now.limits → has_required limits.now.limits j ≡ true → slice_index_or spare.now j 0 ≡ 0) → ⊥) }
+    ensures { MatchBool result ((j : ℕ) → j < tasks_in limits.now.limits
+        → has_required limits.now.limits j ≡ true → slice_index_or spare.now j 0 ≡ 0)
+        (((j : ℕ) → j < tasks_in limits.now.limits → has_required limits.now.limits j ≡ true
+        → slice_index_or spare.now j 0 ≡ 0) → ⊥) }
 {
     for j in 0..limits.instance().tasks() {
         if spare.get(j) > 0 && limits.required(j as u32) > 0 {
@@ -34,7 +36,8 @@ impl ShareSums {
     fn teams_fit(&self, whole: u128) -> bool
         requires { 1 ≤ whole }
         ensures { (n : NodeLimits) (shares : List Share) → IsSharesOf n whole shares self.now
-            → MatchBool result ((k : ℕ) → k < teams_in n → parts_of (shares_of shares k) ≤ whole) (((k : ℕ) → k < teams_in n → parts_of (shares_of shares k) ≤ whole) → ⊥) }
+            → MatchBool result ((k : ℕ) → k < teams_in n → parts_of (shares_of shares k) ≤ whole)
+            (((k : ℕ) → k < teams_in n → parts_of (shares_of shares k) ≤ whole) → ⊥) }
     {
         for k in 0..self.teams.len() {
             if !is_one_at_most(self.teams[k].share) {
@@ -49,9 +52,12 @@ impl ShareSums {
         requires some { 1 ≤ whole }
         requires whole { whole < 2 ^ 127 }
         requires sums { (shares : List Share) × IsSharesOf limits.now.limits whole shares self.now }
-        ensures exact { (c : FractionalChoice) → c.whole ≡ whole → IsSharesOf limits.now.limits whole c.shares self.now
-            → MatchOption result ((k : ℕ) × (j : ℕ) × (j < tasks_in limits.now.limits) × (1000 * whole ≤ weighed_visits (shares_of c.shares k) j))
-            (λ gaps. value gaps whole ≡ total (teams_in limits.now.limits) (λ k. total (tasks_in limits.now.limits) (pair_gap limits.now.limits c k))) }
+        ensures exact { (c : FractionalChoice) → c.whole ≡ whole
+            → IsSharesOf limits.now.limits whole c.shares self.now
+            → MatchOption result ((k : ℕ) × (j : ℕ) × (j < tasks_in limits.now.limits)
+            × (1000 * whole ≤ weighed_visits (shares_of c.shares k) j))
+            (λ gaps. value gaps whole ≡ total (teams_in limits.now.limits)
+            (λ k. total (tasks_in limits.now.limits) (pair_gap limits.now.limits c k))) }
         ensures mixed { IfSome result (λ gaps. IsMixed gaps whole (pos 90000000)) }
     {
         let mut gaps = NOTHING;
@@ -80,8 +86,11 @@ impl ShareSums {
         requires spares { (j : ℕ) → slice_index_or spare.now j 0 ≤ whole }
         requires count { length spare.now ≡ tasks_in limits.now.limits }
         requires sums { (shares : List Share) × IsSharesOf limits.now.limits whole shares self.now }
-        ensures { (c : FractionalChoice) → c.whole ≡ whole → c.unassigned ≡ spare.now → All (λ (s : Share). IsRouteIn limits.now.limits s.route) c.shares
-            → IsSharesOf limits.now.limits whole c.shares self.now → MatchBool result (IsLooseChoice limits.now.limits c now) (IsLooseChoice limits.now.limits c now → ⊥) }
+        ensures { (c : FractionalChoice) → c.whole ≡ whole → c.unassigned ≡ spare.now
+            → All (λ (s : Share). IsRouteIn limits.now.limits s.route) c.shares
+            → IsSharesOf limits.now.limits whole c.shares self.now
+            → MatchBool result (IsLooseChoice limits.now.limits c now)
+            (IsLooseChoice limits.now.limits c now → ⊥) }
     {
         // What holds of its tasks: there are few, and each needs few teams.
         let _instance = limits.instance();

@@ -19,8 +19,10 @@ fn pair_gap(limits: &Limits<'_>, k: u32, j: u32, sum: Mixed, whole: u128) -> Opt
     requires some { 1 ≤ whole }
     requires whole { whole < 2 ^ 127 }
     requires sum { (n : ℕ) × IsSum whole sum n }
-    ensures exact { (c : FractionalChoice) → c.whole ≡ whole → IsSum whole sum (weighed_visits (shares_of c.shares k) j)
-        → MatchOption result (1000 * whole ≤ weighed_visits (shares_of c.shares k) j) (λ gap. value gap whole ≡ pair_gap limits.now.limits c k j) }
+    ensures exact { (c : FractionalChoice) → c.whole ≡ whole
+        → IsSum whole sum (weighed_visits (shares_of c.shares k) j)
+        → MatchOption result (1000 * whole ≤ weighed_visits (shares_of c.shares k) j)
+        (λ gap. value gap whole ≡ pair_gap limits.now.limits c k j) }
     ensures mixed { IfSome result (λ gap. IsMixed gap whole (pos 1001)) }
 {
     match limits.pair(k, j) {
@@ -36,9 +38,12 @@ pub(crate) fn team_gaps(limits: &Limits<'_>, k: u32, sums: &[Mixed], whole: u128
     requires whole { whole < 2 ^ 127 }
     requires tasks { length sums.now ≡ tasks_in limits.now.limits }
     requires sums { (f : ℕ → ℕ) × AreSums whole sums.now f }
-    ensures exact { (c : FractionalChoice) → c.whole ≡ whole → AreSums whole sums.now (weighed_visits (shares_of c.shares k))
-        → MatchOption result ((j : ℕ) × (j < tasks_in limits.now.limits) × (1000 * whole ≤ weighed_visits (shares_of c.shares k) j))
-        (λ gaps. value gaps whole ≡ total (tasks_in limits.now.limits) (pair_gap limits.now.limits c k)) }
+    ensures exact { (c : FractionalChoice) → c.whole ≡ whole
+        → AreSums whole sums.now (weighed_visits (shares_of c.shares k))
+        → MatchOption result ((j : ℕ) × (j < tasks_in limits.now.limits)
+        × (1000 * whole ≤ weighed_visits (shares_of c.shares k) j))
+        (λ gaps. value gaps whole ≡ total (tasks_in limits.now.limits)
+        (pair_gap limits.now.limits c k)) }
     ensures mixed { IfSome result (λ gaps. IsMixed gaps whole (pos 1000000)) }
 {
     let mut gaps = NOTHING;

@@ -34,7 +34,8 @@ impl Sums {
 
     /// Makes them the sums of no shares.
     fn clear(&mut self)
-        ensures none { (n whole : ℕ) → 1 ≤ whole → length self.old.visits.items ≡ n → IsSumsOf n whole [] self.new }
+        ensures none { (n whole : ℕ) → 1 ≤ whole → length self.old.visits.items ≡ n
+            → IsSumsOf n whole [] self.new }
     {
         self.share = NOTHING;
         clear(&mut self.visits);
@@ -44,9 +45,11 @@ impl Sums {
     fn add(&mut self, visits: &[Visit], share: Mixed, whole: u128)
         requires whole { whole < 2 ^ 127 }
         requires sums { (n : ℕ) × (shares : List Share) × IsSumsOf n whole shares self.old }
-        requires known { (i : ℕ) → i < length visits.now → (visit_at visits.now i).task < length self.old.visits.items }
+        requires known { (i : ℕ) → i < length visits.now
+            → (visit_at visits.now i).task < length self.old.visits.items }
         requires share { IsMixed share whole (pos 1) }
-        ensures sums { (n : ℕ) (shares : List Share) (r : Share) → IsSumsOf n whole shares self.old → r.route.visits ≡ visits.now
+        ensures sums { (n : ℕ) (shares : List Share) (r : Share) → IsSumsOf n whole shares self.old
+            → r.route.visits ≡ visits.now
             → value share whole ≡ pos r.parts → IsSumsOf n whole (shares ++ r ∷ []) self.new }
     {
         self.share = with_share(self.share, share, whole);
@@ -77,7 +80,8 @@ impl ShareSums {
 
     /// Makes them the sums of no shares.
     pub fn begin(&mut self)
-        ensures none { (n : NodeLimits) (whole : ℕ) → 1 ≤ whole → HasRoom n self.old → IsSharesOf n whole [] self.new }
+        ensures none { (n : NodeLimits) (whole : ℕ) → 1 ≤ whole → HasRoom n self.old
+            → IsSharesOf n whole [] self.new }
     {
         self.all.clear();
         for k in 0..self.teams.len() {
@@ -90,9 +94,11 @@ impl ShareSums {
         requires some { 1 ≤ whole }
         requires whole { whole < 2 ^ 127 }
         requires parts { parts ≤ whole }
-        requires sums { (n : NodeLimits) × (shares : List Share) × IsSharesOf n whole shares self.old × IsRouteIn n route.now }
+        requires sums { (n : NodeLimits) × (shares : List Share)
+            × IsSharesOf n whole shares self.old × IsRouteIn n route.now }
         ensures sums { (n : NodeLimits) (shares : List Share) → IsSharesOf n whole shares self.old
-            → IsSharesOf n whole (shares ++ record { route = route.now; parts = parts } ∷ []) self.new }
+            → IsSharesOf n whole
+            (shares ++ record { route = route.now; parts = parts } ∷ []) self.new }
     {
         let share = share_of(parts, whole);
         self.all.add(route.visits(), share, whole);

@@ -9,7 +9,8 @@ use crew_num::{Mixed, mixed_add, mixed_gap, mixed_times};
 
 /// Whether a sum is at most one whole.
 pub(crate) fn is_one_at_most(sum: Mixed) -> bool
-    ensures { (whole n : ℕ) → 1 ≤ whole → IsSum whole sum n → MatchBool result (n ≤ whole) (n ≤ whole → ⊥) }
+    ensures { (whole n : ℕ) → 1 ≤ whole → IsSum whole sum n
+        → MatchBool result (n ≤ whole) (n ≤ whole → ⊥) }
 {
     sum.whole < 1 || (sum.whole == 1 && sum.part == 0)
 }
@@ -18,7 +19,8 @@ pub(crate) fn is_one_at_most(sum: Mixed) -> bool
 fn is_at_most(parts: Mixed, most: u32, whole: u128) -> bool
     requires some { 1 ≤ whole }
     requires parts { IsMixed parts whole (pos 1000000000000) }
-    ensures { (n : ℕ) → value parts whole ≡ pos n → MatchBool result (n ≤ most * whole) (n ≤ most * whole → ⊥) }
+    ensures { (n : ℕ) → value parts whole ≡ pos n
+        → MatchBool result (n ≤ most * whole) (n ≤ most * whole → ⊥) }
 {
     if parts.whole < most as i64 {
         return true;
@@ -33,7 +35,9 @@ pub(crate) fn gap_of(sum: Mixed, needed: u32, share: u128, whole: u128) -> Optio
     requires share { share ≤ whole }
     requires needed { needed ≤ 8 }
     requires sum { (n : ℕ) × IsSum whole sum n }
-    ensures exact { (n : ℕ) → IsSum whole sum n → MatchOption result (1000 * whole ≤ n) (λ gap. value gap whole ≡ pos (distance (needed * share) n)) }
+    ensures exact { (n : ℕ) → IsSum whole sum n
+        → MatchOption result (1000 * whole ≤ n)
+        (λ gap. value gap whole ≡ pos (distance (needed * share) n)) }
     ensures mixed { IfSome result (λ gap. IsMixed gap whole (pos 1001)) }
 {
     if sum.whole >= MANY {
@@ -52,7 +56,8 @@ pub(crate) fn is_within(gaps: Mixed, spares: Mixed, now: u32, whole: u128) -> bo
     requires gaps { IsMixed gaps whole (pos 100000000) }
     requires spares { IsMixed spares whole (pos 100000000) }
     ensures { (g s : ℕ) → value gaps whole ≡ pos g → value spares whole ≡ pos s
-        → MatchBool result (1000 * (s + 1000000 * g) ≤ ((now - 1) * 1000 + 1) * whole) (1000 * (s + 1000000 * g) ≤ ((now - 1) * 1000 + 1) * whole → ⊥) }
+        → MatchBool result (1000 * (s + 1000000 * g) ≤ ((now - 1) * 1000 + 1) * whole)
+        (1000 * (s + 1000000 * g) ≤ ((now - 1) * 1000 + 1) * whole → ⊥) }
 {
     if gaps.whole > 0 {
         return false;

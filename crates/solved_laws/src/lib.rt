@@ -30,7 +30,8 @@ pub use telling::told_causes;
 
 /// What a search comes to is proved at the root, within its budget.
 pub fn solved_trees_are_proved()
-    ensures { (i : Instance) (nodes : ℕ) (kept pool : List Route) (o : Outcome) → IsSolved i nodes kept pool o →
+    ensures { (i : Instance) (nodes : ℕ) (kept pool : List Route) (o : Outcome)
+        → IsSolved i nodes kept pool o →
         IsProvedOutcome i nodes o }
 {
     run_is_sound();
@@ -41,9 +42,11 @@ pub fn solved_trees_are_proved()
 /// What a search comes to after any steps can be written: each split is one of its node, and has a cause, and each leaf has prices
 /// of its node.
 pub fn run_outcomes_are_writable()
-    ensures tree { (i : Instance) (budget : ℕ) (pool : List Route) (s : SearchState) (o : Outcome) → IsRun i budget s →
+    ensures tree { (i : Instance) (budget : ℕ) (pool : List Route) (s : SearchState) (o : Outcome)
+        → IsRun i budget s →
         IsOutcome i pool s o → IsWritable (root_limits i) (handed_out s) }
-    ensures causes { (i : Instance) (pool : List Route) (s : SearchState) (o : Outcome) → IsOutcome i pool s o →
+    ensures causes { (i : Instance) (pool : List Route) (s : SearchState) (o : Outcome)
+        → IsOutcome i pool s o →
         length o.causes.items ≡ splits (handed_out s) }
 {
     run_is_sound();
@@ -51,7 +54,8 @@ pub fn run_outcomes_are_writable()
 
 /// A pool that the steps of a search leave is one of the instance, where the kept routes are.
 pub fn solved_pools_are_of_the_instance()
-    ensures { (i : Instance) (nodes : ℕ) (kept pool : List Route) (s : SearchState) → IsInstance i → IsSearchRun i nodes kept pool s →
+    ensures { (i : Instance) (nodes : ℕ) (kept pool : List Route) (s : SearchState) → IsInstance i
+        → IsSearchRun i nodes kept pool s →
         All (IsPooled i) kept → All (IsPooled i) pool }
 {
     search_nodes();
@@ -60,16 +64,20 @@ pub fn solved_pools_are_of_the_instance()
 
 /// The causes of a search, as a dossier tells them, may be told of the nodes of its tree.
 pub fn solved_causes_may_be_told()
-    ensures causes { (i : Instance) (nodes : ℕ) (kept pool : List Route) (o : Outcome) (tree : BranchTree) (told : List ToldCause) →
-        IsSolved i nodes kept pool o → length pool ≤ 9223372036854775807 → o.tree ≡ preorder tree → AreTold o.causes.items told →
+    ensures causes { (i : Instance) (nodes : ℕ) (kept pool : List Route) (o : Outcome)
+        (tree : BranchTree) (told : List ToldCause) →
+        IsSolved i nodes kept pool o → length pool ≤ 9223372036854775807 → o.tree ≡ preorder tree
+        → AreTold o.causes.items told →
         AreCauses pool (unassigned_count o.plan) (root_limits i) tree told }
-    ensures count { (o : Outcome) (told : List ToldCause) → AreTold o.causes.items told → length told ≡ length o.causes.items }
+    ensures count { (o : Outcome) (told : List ToldCause) → AreTold o.causes.items told
+        → length told ≡ length o.causes.items }
 {
     one_tree();
 }
 
 /// What a dossier tells of the causes of a search is what the search has of them, with the columns of the dossier's pool.
 pub fn told_causes_tell()
-    ensures { (pool : List Route) (causes : List Cause) (told : List ToldCause) → AreTold causes told →
+    ensures { (pool : List Route) (causes : List Cause) (told : List ToldCause)
+        → AreTold causes told →
         Tell pool told (map (split_cause pool) causes) }
 {}

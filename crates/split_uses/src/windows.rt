@@ -18,7 +18,8 @@ pub(crate) struct Gap {
 
 // A use of the same task that begins it next after this one.
 fn next_after(uses: &[Use], one: &Use) -> Option<Use>
-    ensures { (n : NodeLimits) → All (IsPermittedUse n) uses.now → IfSome result (IsPermittedUse n) }
+    ensures { (n : NodeLimits) → All (IsPermittedUse n) uses.now
+        → IfSome result (IsPermittedUse n) }
 {
     let mut next: Option<Use> = None;
     for other in uses {

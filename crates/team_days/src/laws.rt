@@ -11,22 +11,27 @@ ghost use Rattle.team_days.specs.Adding.{AreFree, FitsNowhere, IsAddition, Keeps
 /// A plan stays feasible, and legal, with a job of an unassigned task exactly where each of the job's teams can take it
 /// into its day. So a legal plan is packed exactly where no unassigned task has enough such teams at any minute.
 pub fn free_teams_may_begin()
-    ensures feasible { (i : Instance) (p : Plan) (j : ℕ) (job : Job) → IsFeasible i p → IsAddition i p j job →
+    ensures feasible { (i : Instance) (p : Plan) (j : ℕ) (job : Job) → IsFeasible i p
+        → IsAddition i p j job →
         IsFeasible i (with_job p j job) ↔ AreFree i p j job }
-    ensures legal { (i : Instance) (p : Plan) (j : ℕ) (job : Job) → IsLegal i p → IsAddition i p j job →
+    ensures legal { (i : Instance) (p : Plan) (j : ℕ) (job : Job) → IsLegal i p
+        → IsAddition i p j job →
         IsLegal i (with_job p j job) ↔ AreFree i p j job }
-    ensures packed { (i : Instance) (p : Plan) → IsLegal i p → IsPacked i p ↔ ((j : ℕ) → FitsNowhere i p j) }
+    ensures packed { (i : Instance) (p : Plan) → IsLegal i p → IsPacked i p
+        ↔ ((j : ℕ) → FitsNowhere i p j) }
 {}
 
 /// A job of an unassigned task changes what its own teams do alone.
 pub fn other_days_stay()
-    ensures { (p : Plan) (j : ℕ) (job : Job) (k n : ℕ) (turns : List Turn) → j < length p → job_of p j ≡ None →
+    ensures { (p : Plan) (j : ℕ) (job : Job) (k n : ℕ) (turns : List Turn) → j < length p
+        → job_of p j ≡ None →
         ¬ (Contains job.teams k) → AreTurns p k n turns → AreTurns (with_job p j job) k n turns }
 {}
 
 /// A plan keeps its jobs where a job of an unassigned task is added, and one task less is unassigned then.
 pub fn jobs_stay()
-    ensures keeps { (p : Plan) (j : ℕ) (job : Job) → j < length p → job_of p j ≡ None → Keeps p (with_job p j job) }
+    ensures keeps { (p : Plan) (j : ℕ) (job : Job) → j < length p → job_of p j ≡ None
+        → Keeps p (with_job p j job) }
     ensures count { (p : Plan) (j : ℕ) (job : Job) → j < length p → job_of p j ≡ None →
         unassigned_count (with_job p j job) + 1 ≡ unassigned_count p }
 {}

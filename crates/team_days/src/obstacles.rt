@@ -37,7 +37,8 @@ impl Obstacle {
 
 /// How many of a team's turns begin before the minute.
 fn turns_before(turns: &[Turn], t: u32) -> usize
-    ensures cut { (p : Jobs) (k n : ℕ) → AreTurns p k n turns.now → IsCountBefore turns.now t result }
+    ensures cut { (p : Jobs) (k n : ℕ) → AreTurns p k n turns.now
+        → IsCountBefore turns.now t result }
     ensures bound { result ≤ length turns.now }
 {
     turns.partition_point(|v| v.start < t)
@@ -46,7 +47,8 @@ fn turns_before(turns: &[Turn], t: u32) -> usize
 /// The last of a team's turns before the minute, and the first at the minute or after it.
 pub(crate) fn neighbours(turns: &[Turn], t: u32) -> (Option<Turn>, Option<Turn>)
     ensures before { (p : Jobs) (k : ℕ) → AreTurns p k (length p) turns.now →
-        MatchOption result.0 ((h s : ℕ) → Does p k h s → t ≤ s) (λ v. IsLastBefore p k t v.task v.start) }
+        MatchOption result.0 ((h s : ℕ) → Does p k h s → t ≤ s)
+        (λ v. IsLastBefore p k t v.task v.start) }
     ensures next { (p : Jobs) (k : ℕ) → AreTurns p k (length p) turns.now →
         MatchOption result.1 ((h s : ℕ) → Does p k h s → s < t) (IsNextFrom p k t) }
     ensures listed { IfSome result.0 (Contains turns.now) }
@@ -64,7 +66,8 @@ pub(crate) fn neighbours(turns: &[Turn], t: u32) -> (Option<Turn>, Option<Turn>)
 
 /// The task of the turn, if it begins at the minute.
 fn begins_then(next: Option<Turn>, t: u32) -> Option<u32>
-    ensures { MatchOption result (IfSome next (λ v. v.start ≢ t)) (λ h. next ≡ Some (record { start = t; task = h })) }
+    ensures { MatchOption result (IfSome next (λ v. v.start ≢ t))
+        (λ h. next ≡ Some (record { start = t; task = h })) }
 {
     let turn = next?;
     if turn.start == t {
@@ -78,8 +81,10 @@ fn begins_then(next: Option<Turn>, t: u32) -> Option<u32>
 fn comes_late(instance: &Instance, before: Option<Turn>, turn: Turn) -> Option<u32>
     requires before { IfSome before (IsTurnOf instance.now) }
     requires turn { IsTurnOf instance.now turn }
-    ensures { MatchOption result (IfSome before (λ v. CanFollow instance.now v.task v.start turn.task turn.start))
-        (λ h. (s : ℕ) × (before ≡ Some (record { start = s; task = h })) × ¬ (CanFollow instance.now h s turn.task turn.start)) }
+    ensures { MatchOption result (IfSome before
+        (λ v. CanFollow instance.now v.task v.start turn.task turn.start))
+        (λ h. (s : ℕ) × (before ≡ Some (record { start = s; task = h }))
+        × ¬ (CanFollow instance.now h s turn.task turn.start)) }
 {
     let before = before?;
     if instance.can_follow(before.task, before.start, turn.task, turn.start) {
@@ -93,8 +98,10 @@ fn comes_late(instance: &Instance, before: Option<Turn>, turn: Turn) -> Option<u
 fn goes_on_late(instance: &Instance, turn: Turn, next: Option<Turn>) -> Option<u32>
     requires turn { IsTurnOf instance.now turn }
     requires next { IfSome next (IsTurnOf instance.now) }
-    ensures { MatchOption result (IfSome next (λ v. CanFollow instance.now turn.task turn.start v.task v.start))
-        (λ h. (u : ℕ) × (next ≡ Some (record { start = u; task = h })) × ¬ (CanFollow instance.now turn.task turn.start h u)) }
+    ensures { MatchOption result (IfSome next
+        (λ v. CanFollow instance.now turn.task turn.start v.task v.start))
+        (λ h. (u : ℕ) × (next ≡ Some (record { start = u; task = h }))
+        × ¬ (CanFollow instance.now turn.task turn.start h u)) }
 {
     let next = next?;
     if instance.can_follow(turn.task, turn.start, next.task, next.start) {
@@ -111,7 +118,8 @@ pub fn obstacle_in(instance: &Instance, turns: &[Turn], k: u32, j: u32, t: u32) 
     requires task { j < length instance.now.tasks }
     requires window { t ≤ (task_of instance.now j).latest }
     requires day { IsTeamDay instance.now k turns.now }
-    ensures { (p : Jobs) → IsFeasible instance.now p → AreTurns p k (length p) turns.now → IsObstacle instance.now p k j t result }
+    ensures { (p : Jobs) → IsFeasible instance.now p → AreTurns p k (length p) turns.now
+        → IsObstacle instance.now p k j t result }
 {
     if !instance.qualified(k, j) {
         return Obstacle::Skill;
@@ -140,7 +148,8 @@ pub fn is_free_in(instance: &Instance, turns: &[Turn], k: u32, j: u32, t: u32) -
     requires task { j < length instance.now.tasks }
     requires window { t ≤ (task_of instance.now j).latest }
     requires day { IsTeamDay instance.now k turns.now }
-    ensures { (p : Jobs) → IsFeasible instance.now p → AreTurns p k (length p) turns.now → IsTrue result ↔ IsFreeFor instance.now p k j t }
+    ensures { (p : Jobs) → IsFeasible instance.now p → AreTurns p k (length p) turns.now
+        → IsTrue result ↔ IsFreeFor instance.now p k j t }
 {
     obstacle_in(instance, turns, k, j, t).is_free()
 }

@@ -57,9 +57,11 @@ fn visit(
     requires number { (most : ℕ) × HasNumber (length prices.now) most content }
     requires shapes { All (ArePricesOf limits.now.limits) prices.now }
     requires children { HasChildren content }
-    ensures visited { OnOk result (IsVisited (price_at prices.now) content due.old.items due.new.items nodes.old.items nodes.new.items
+    ensures visited { OnOk result (IsVisited (price_at prices.now) content due.old.items
+        due.new.items nodes.old.items nodes.new.items
         causes.old.items causes.new.items) }
-    ensures prices { OnOk result (HasPricesOf limits.now.limits (node_in (price_at prices.now) content)) }
+    ensures prices { OnOk result (HasPricesOf limits.now.limits
+        (node_in (price_at prices.now) content)) }
 {
     match content {
         Content::Open { prices: number } => {
@@ -91,10 +93,14 @@ fn outline_of(
 ) -> Result<Outline, AllocError>
     requires numbers { (most : ℕ) × HaveNumbers (length prices.now) most keyed.now.nodes }
     requires shapes { All (ArePricesOf limits.now.limits) prices.now }
-    requires few { (p : ℕ → LeafPrices) (c : ℕ → SplitCause) → splits (tree_of p c keyed.now.nodes) ≤ MOST_NODES }
-    ensures tree { (c : ℕ → SplitCause) → IfOk result (λ o. o.tree ≡ preorder (outline (tree_of (price_at prices.now) c keyed.now.nodes))) }
-    ensures causes { (p : ℕ → LeafPrices) (c : ℕ → SplitCause) → IfOk result (λ o. map c o.causes.items ≡ causes (tree_of p c keyed.now.nodes)) }
-    ensures known { (most : ℕ) → HaveNumbers (length prices.now) most keyed.now.nodes → IfOk result (λ o. All (λ k. k < most) o.causes.items) }
+    requires few { (p : ℕ → LeafPrices) (c : ℕ → SplitCause)
+        → splits (tree_of p c keyed.now.nodes) ≤ MOST_NODES }
+    ensures tree { (c : ℕ → SplitCause) → IfOk result
+        (λ o. o.tree ≡ preorder (outline (tree_of (price_at prices.now) c keyed.now.nodes))) }
+    ensures causes { (p : ℕ → LeafPrices) (c : ℕ → SplitCause)
+        → IfOk result (λ o. map c o.causes.items ≡ causes (tree_of p c keyed.now.nodes)) }
+    ensures known { (most : ℕ) → HaveNumbers (length prices.now) most keyed.now.nodes
+        → IfOk result (λ o. All (λ k. k < most) o.causes.items) }
     ensures prices { IfOk result (λ o. All (HasPricesOf limits.now.limits) o.tree) }
 {
     subtrees_are_grown();
@@ -140,10 +146,15 @@ pub fn outline_with(
 ) -> Result<Outline, AllocError>
     requires numbers { (most : ℕ) × HaveNumbers (length prices.now) most keyed.now.nodes }
     requires shapes { All (ArePricesOf limits.now.limits) prices.now }
-    requires few { (p : ℕ → LeafPrices) (c : ℕ → SplitCause) → splits (tree_of p c keyed.now.nodes) ≤ MOST_NODES }
-    ensures tree { (c : ℕ → SplitCause) → IfOk result (λ o. o.tree ≡ preorder (outline_with bare (tree_of (price_at prices.now) c keyed.now.nodes))) }
-    ensures causes { (p : ℕ → LeafPrices) (c : ℕ → SplitCause) → IfOk result (λ o. map c o.causes.items ≡ causes (tree_of p c keyed.now.nodes)) }
-    ensures known { (most : ℕ) → HaveNumbers (length prices.now) most keyed.now.nodes → IfOk result (λ o. All (λ k. k < most) o.causes.items) }
+    requires few { (p : ℕ → LeafPrices) (c : ℕ → SplitCause)
+        → splits (tree_of p c keyed.now.nodes) ≤ MOST_NODES }
+    ensures tree { (c : ℕ → SplitCause) → IfOk result
+        (λ o. o.tree ≡ preorder (outline_with bare
+        (tree_of (price_at prices.now) c keyed.now.nodes))) }
+    ensures causes { (p : ℕ → LeafPrices) (c : ℕ → SplitCause)
+        → IfOk result (λ o. map c o.causes.items ≡ causes (tree_of p c keyed.now.nodes)) }
+    ensures known { (most : ℕ) → HaveNumbers (length prices.now) most keyed.now.nodes
+        → IfOk result (λ o. All (λ k. k < most) o.causes.items) }
     ensures prices { IfOk result (λ o. All (HasPricesOf limits.now.limits) o.tree) }
 {
     subtrees_are_grown();

@@ -58,7 +58,8 @@ fn plan_entries(
 ) -> Result<Counts, AllocError>
     requires range { All IsInRange entries.now }
     requires none_yet { session.old ≡ no_entry_yet }
-    ensures { IfOk result (λ counts. (d : Dossier) × AreRoundDossiers [] (rounds_of [] entries.now) (d ∷ [])
+    ensures { IfOk result (λ counts. (d : Dossier)
+        × AreRoundDossiers [] (rounds_of [] entries.now) (d ∷ [])
         × (counts ≡ counts_of d)) }
 {
     let Some((last, front)) = entries.split_last() else {
@@ -78,7 +79,8 @@ fn plan_entries(
 /// AllocError where memory is wanting, or the checker does not agree.
 pub(crate) fn plan_trial(alloc: Global, trial: Trial) -> Result<Counts, AllocError>
     requires { IsTrial trial }
-    ensures { IfOk result (λ counts. (d : Dossier) × IsTrialDossier trial d × (counts ≡ counts_of d)) }
+    ensures { IfOk result (λ counts. (d : Dossier) × IsTrialDossier trial d
+        × (counts ≡ counts_of d)) }
 {
     let entries = make(alloc, trial.number, trial.teams, trial.tasks, trial.nodes)?;
     let mut sink = CheckSink::open(alloc)?;

@@ -26,7 +26,8 @@ pub enum TrialEnded {
 
 /// Writes the line of a trial, whose dossier has these numbers. A fault leaves a front of it.
 fn put_trial<K: Sink>(out: &mut K, trial: Trial, counts: Counts) -> Result<(), WriteFault>
-    ensures { (d : Dossier) → counts ≡ counts_of d → Puts K.Sink (trial_line trial d) out.old out.new result }
+    ensures { (d : Dossier) → counts ≡ counts_of d
+        → Puts K.Sink (trial_line trial d) out.old out.new result }
 {
     let parts = [
         Part::Word(b"trial"),

@@ -53,7 +53,9 @@ impl Trial {
     /// The trial that the words ask for: the word `trial`, and behind it its number, its teams, its tasks and its nodes, each a
     /// canonical decimal in its range. None exactly where the words ask for none.
     pub fn of(words: &[String]) -> Option<Trial>
-        ensures { MatchOption result ((trial : Trial) → AsksForTrial trial (map (λ w. string_bytes w) words.now) → ⊥) (λ trial. AsksForTrial trial (map (λ w. string_bytes w) words.now)) }
+        ensures { MatchOption result ((trial : Trial)
+            → AsksForTrial trial (map (λ w. string_bytes w) words.now) → ⊥)
+            (λ trial. AsksForTrial trial (map (λ w. string_bytes w) words.now)) }
     {
         let [word, number, teams, tasks, nodes] = words else {
             return None;

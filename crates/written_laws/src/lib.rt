@@ -25,7 +25,8 @@ use search_laws::prices_have_potentials;
 
 /// A leaf is written with its prices.
 pub fn leaves_keep_their_prices()
-    ensures { (n : Limits) (p : Prices) (leaf : Leaf) → IsInstance n.instance → IsPriced n p → IsPricedLeaf n p leaf → prices_of n leaf ≡ p }
+    ensures { (n : Limits) (p : Prices) (leaf : Leaf) → IsInstance n.instance → IsPriced n p
+        → IsPricedLeaf n p leaf → prices_of n leaf ≡ p }
 {
     earnings_fit();
     extra_is_written();
@@ -53,7 +54,8 @@ pub fn written_dossiers_are_good()
 
 /// The tree of a round that makes no step is proved: a bare leaf, or an open leaf at prices that are all 0, with bound 0.
 pub fn first_trees_are_proved()
-    ensures bare { (n : Limits) (p : Prices) (u : ℕ) → IsPriced n p → IsProvedTree n 0 u (LeafNode (record { state = states.Bare; prices = p })) }
+    ensures bare { (n : Limits) (p : Prices) (u : ℕ) → IsPriced n p
+        → IsProvedTree n 0 u (LeafNode (record { state = states.Bare; prices = p })) }
     ensures open_one { (n : Limits) (u : ℕ) → IsInstance n.instance → IsPriced n (zero_prices n) →
         IsProvedTree n 0 u (LeafNode (record { state = states.Open; prices = zero_prices n })) }
 {
