@@ -7,7 +7,8 @@ use Rattle.crew_terms.specs.Plan.{Plan, Job, empty_plan}
 use Rattle.crew_terms.specs.Legal.{IsFeasible, IsFit, IsInWindow, IsJob, IsTeamList}
 use Rattle.crew_terms.specs.Verdict.{BadJob, BadTeam, Feasible, IsFeasibility, IsFirstClash, IsJobFault, IsVisitFault, Miscounted, OffShift, OfTeam, Outside, Unskilled}
 use Rattle.crew_terms.specs.declared.PlanVerdict.{PlanVerdict}
-use Rattle.crew_instance.specs.Draft.{Draft, FirstFaultNames, IsBadFrozen, IsMissing, instance_of}
+use Rattle.crew_instance.specs.Draft.{Draft, FirstFaultNames, IsBadFrozen, instance_of, known_times}
+use Rattle.crew_instance.specs.Times.{IsMissing}
 
 -- the instance with these frozen jobs
 abbrev freezing : Instance → Plan → Instance
@@ -70,7 +71,7 @@ module _ (d : Draft) (i : Instance) (p : Plan) (same : i ≡ record (instance_of
       (names_still (instance_of d) d.frozen (empty_plan (length d.tasks)) d.frozen j is))
 
   -- what is told of the plan is told of the draft
-  pub told_of_draft : (j : ℕ) (Told Other : Type 0) → ((a b : ℕ) → ¬ (IsMissing d a b)) → Told ↔ (FirstFaultNames i p j × Other) → Told ↔ (IsBadFrozen d j × Other)
+  pub told_of_draft : (j : ℕ) (Told Other : Type 0) → ((a b : ℕ) → ¬ (IsMissing (known_times d) a b)) → Told ↔ (FirstFaultNames i p j × Other) → Told ↔ (IsBadFrozen d j × Other)
   told_of_draft j Told Other times told = (
     (λ t. let f = told.0 t in (record { times = times; fault = names_in_draft j f.0 }, f.1)),
     (λ (bad, other). told.1 (names_of_draft j bad.fault, other)),

@@ -4,7 +4,8 @@ pub mod States
 pub mod Accepted
 pub mod Known
 pub mod Skills
-pub mod Missing
+pub mod FindAt
+pub mod ByNumber
 pub mod Instances
 pub mod NamedJobs
 pub mod ByPlace

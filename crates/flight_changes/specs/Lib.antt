@@ -1,4 +1,5 @@
 pub mod Faults
 pub mod Limits
+pub mod Times
 pub mod Kept
 pub mod Named

@@ -1,31 +1,44 @@
 // Which entries are refused.
-ghost use Rattle.std.specs.Prelude.{◌≡◌, ℕ};
-ghost use Rattle.day_terms.specs.Refusal.{is_bad_count, is_bad_window};
+ghost use Rattle.std.specs.Prelude.{◌≡◌, ◌≤◌, ℕ};
+ghost use Rattle.crew_terms.specs.declared.TheConstants.{LAST_MINUTE};
+ghost use Rattle.day_terms.specs.Ranges.{IsInRange};
+ghost use Rattle.day_terms.specs.Refusal.{is_bad_count, is_bad_shift, is_bad_window};
 ghost use Rattle.day_terms.specs.State.{has_place, has_task, has_team};
 ghost use Rattle.flight_changes.specs.Faults.{answer_by_lists};
 
 use crate::faults::ChangeFault;
 use crate::lists::Lists;
-use crew_terms::{MOST_PLACES, MOST_TASKS, MOST_TEAMS, MOST_TEAMS_PER_TASK, Name, WIDEST_WINDOW};
+use crew_instance::{is_shift, is_span, is_team_count};
+use crew_terms::{MOST_PLACES, MOST_TASKS, MOST_TEAMS, Name};
 use day_terms::Entry;
+
+/// Whether the shift does not end after it begins.
+fn is_bad_shift(from: u32, until: u32) -> bool
+    requires { until ≤ LAST_MINUTE }
+    ensures { result ≡ is_bad_shift from until }
+{
+    !is_shift(from, until)
+}
 
 /// Whether the window ends before it begins, or is too wide.
 fn is_bad_window(earliest: u32, latest: u32) -> bool
+    requires { latest ≤ LAST_MINUTE }
     ensures { result ≡ is_bad_window earliest latest }
 {
-    latest < earliest || latest - earliest > WIDEST_WINDOW
+    !is_span(earliest, latest)
 }
 
 /// Whether no task may need so many teams.
 fn is_bad_count(teams: u32) -> bool
     ensures { result ≡ is_bad_count teams }
 {
-    teams < 1 || teams as usize > MOST_TEAMS_PER_TASK
+    !is_team_count(teams)
 }
 
 impl Lists {
     /// Refuses an entry where a condition of its kind holds, by the first that does.
     pub(crate) fn check(&self, entry: &Entry) -> Result<(), ChangeFault>
+        requires { IsInRange entry.now }
         ensures { result ≡ answer_by_lists self.now entry.now }
     {
         match *entry {
@@ -109,6 +122,7 @@ impl Lists {
     }
 
     fn check_team(&self, name: &Name, home: &Name, from: u32, until: u32) -> Result<(), ChangeFault>
+        requires { until ≤ LAST_MINUTE }
         ensures { (skills : ℕ) →
             result ≡ answer_by_lists self.now (Entry.Team name.now home.now from until skills) }
     {
@@ -121,7 +135,7 @@ impl Lists {
         if !self.has_place(home) {
             return Err(ChangeFault::NoPlace);
         }
-        if from >= until {
+        if is_bad_shift(from, until) {
             return Err(ChangeFault::BadShift);
         }
         Ok(())
@@ -135,6 +149,7 @@ impl Lists {
         latest: u32,
         teams: u32,
     ) -> Result<(), ChangeFault>
+        requires { latest ≤ LAST_MINUTE }
         ensures { (minutes skills : ℕ) →
             let task = Entry.Task name.now place.now earliest latest minutes teams skills in
             result ≡ answer_by_lists self.now task }
@@ -168,6 +183,7 @@ impl Lists {
     }
 
     fn check_move(&self, task: &Name, earliest: u32, latest: u32) -> Result<(), ChangeFault>
+        requires { latest ≤ LAST_MINUTE }
         ensures { result ≡ answer_by_lists self.now (Entry.Move task.now earliest latest) }
     {
         if !self.has_task(task) {
@@ -202,12 +218,13 @@ impl Lists {
     }
 
     fn check_shift(&self, team: &Name, from: u32, until: u32) -> Result<(), ChangeFault>
+        requires { until ≤ LAST_MINUTE }
         ensures { result ≡ answer_by_lists self.now (Entry.Shift team.now from until) }
     {
         if !self.has_team(team) {
             return Err(ChangeFault::NoTeam);
         }
-        if from >= until {
+        if is_bad_shift(from, until) {
             return Err(ChangeFault::BadShift);
         }
         Ok(())

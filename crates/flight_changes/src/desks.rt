@@ -90,7 +90,8 @@ impl Desk {
 
     /// Has these jobs, those of a legal plan of the state's instance, in the place of the last plan. It takes no memory.
     pub fn planned(&mut self, jobs: PlannedJobs)
-        requires legal { (p : Plan) × IsLegal (day_instance self.old) p × (jobs ≡ jobs_by_names (day_instance self.old) p) }
+        requires legal { (p : Plan) × IsLegal (day_instance self.old) p
+            × (jobs ≡ jobs_by_names (day_instance self.old) p) }
         ensures { self.new ≡ record self.old { last_plan = jobs } }
     {
         self.last_plan = jobs.into_jobs();
@@ -172,7 +173,8 @@ impl Desk {
         ensures ok { OnOk result (self.new ≡ after_entry self.old (Entry.Thaw task.now)) }
         ensures err { OnErr result (self.new ≡ self.old) }
         ensures told { IfErr result (λ fault. (fault ≡ ChangeFault.OutOfMemory)
-            ⊎ (option_map ChangeFault.FrozenWork (work_against self.old (Entry.Thaw task.now)) ≡ Some fault)) }
+            ⊎ (option_map ChangeFault.FrozenWork
+            (work_against self.old (Entry.Thaw task.now)) ≡ Some fault)) }
     {
         let mut frozen = copies(self.alloc, &self.frozen)?;
         end_jobs_of(&mut frozen, task);

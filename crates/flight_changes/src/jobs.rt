@@ -176,7 +176,8 @@ impl PlannedJobs {
 /// The names of teams.
 fn names_of(alloc: Global, instance: &Instance, teams: &[u32]) -> Result<Vec<Name>, AllocError>
     requires { (k : ℕ) → Contains teams.now k → k < length instance.now.teams }
-    ensures { IfOk result (λ names. names.items ≡ map (λ k. (team_of instance.now k).name) teams.now) }
+    ensures { IfOk result
+        (λ names. names.items ≡ map (λ k. (team_of instance.now k).name) teams.now) }
 {
     let mut names = Vec::with_capacity(alloc, teams.len())?;
     for k in teams {
@@ -194,7 +195,8 @@ fn add_jobs_at(
     jobs: &mut Vec<NamedJob>,
 ) -> Result<(), AllocError>
     requires { IsPlanOf instance.now plan.now }
-    ensures { OnOk result (jobs.new.items ≡ jobs.old.items ++ jobs_at instance.now plan.now minute) }
+    ensures { OnOk result
+        (jobs.new.items ≡ jobs.old.items ++ jobs_at instance.now plan.now minute) }
 {
     for j in 0..plan.len() as u32 {
         if plan.start(j) == Some(minute) {

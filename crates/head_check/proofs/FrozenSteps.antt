@@ -9,7 +9,8 @@ use Rattle.crew_terms.specs.Legal.{IsInWindow, IsTeamList, IsFeasible}
 use Rattle.crew_terms.specs.Verdict.{IsFeasibility, Feasible}
 use Rattle.crew_terms.specs.declared.PlanVerdict.{PlanVerdict}
 use Rattle.crew_terms.specs.declared.PlanVerdict.TheVariants.{Legal}
-use Rattle.crew_instance.specs.Draft.{Draft as Parts, AreTeamsFor, FirstFaultNames, IsBadFrozen, IsFirstMissing, instance_of, task_named, with_frozen}
+use Rattle.crew_instance.specs.Draft.{Draft as Parts, AreTeamsFor, FirstFaultNames, IsBadFrozen, instance_of, known_times, task_named, with_frozen}
+use Rattle.crew_instance.specs.Times.{IsFirstMissing}
 use Rattle.crew_instance.specs.Rules.{IsFinishFault, IsFreezeFault}
 use Rattle.crew_instance.specs.declared.faults.BuildFault.{BuildFault}
 use Rattle.crew_instance.specs.declared.faults.BuildFault.TheVariants.{OutOfMemory, BadWindow, BadTeams, MissingTravel, BadFrozen}
@@ -65,7 +66,7 @@ not_feasible one i p j fault feasible =
 
 -- where the builder gives no instance
 pub keeps_fault : (b : Head) (fault : BuildFault) → IsFull b → HaveOneFeasibility → IsFinishFault fault
-    → ((x y : ℕ) → fault ≡ MissingTravel x y → IsFirstMissing b.builder x y) → ((j : ℕ) → fault ≡ BadFrozen j → IsBadFrozen b.builder j)
+    → ((x y : ℕ) → fault ≡ MissingTravel x y → IsFirstMissing (known_times b.builder) x y) → ((j : ℕ) → fault ≡ BadFrozen j → IsBadFrozen b.builder j)
     → HeadTells (AfterLast (opening_of b) (read_of b)) (Err (refusal_for fault))
 keeps_fault b OutOfMemory full one is missing bad = tt
 keeps_fault b (MissingTravel x y) full one is missing bad =

@@ -15,7 +15,8 @@ use Rattle.crew_terms.specs.Instance.{Instance}
 use Rattle.crew_terms.specs.Rules.{IsShift, IsWindow}
 use Rattle.crew_terms.specs.declared.Team.{Team}
 use Rattle.crew_terms.specs.declared.Task.{Task}
-use Rattle.crew_instance.specs.Draft.{Draft as Parts, time_of, with_row, minutes_of, minutes_from}
+use Rattle.crew_instance.specs.Draft.{Draft as Parts, known_times, time_of, with_row}
+use Rattle.crew_instance.specs.Times.{minutes_from, minutes_of}
 use Rattle.dossier_terms.specs.declared.DossierForm.{DossierForm}
 use Rattle.dossier_terms.specs.declared.Size.{Size}
 use Rattle.dossier_terms.specs.Dossier.{mask_of}
@@ -50,12 +51,12 @@ row_more f r = ext_get_or [] (map f (range_with_len 0 (suc r))) (map f (range_wi
         get_or-map-range_with_len f 0 (suc r) i r [] l (omega arith)
         ∙ sym (get_or-append_seam (map f (range_with_len 0 r)) (f r) [] []) ∙ ap (λ n. get_or (map f (range_with_len 0 r) ++ f r ∷ []) n []) e
 
-given_row : (d : Parts) (a : ℕ) (row : List ℕ) → length d.places ≡ length row → ((y : ℕ) → y < length row → time_of d a y ≡ Some (get_or row y 0)) → minutes_from d a ≡ row
-given_row d a row n h = ext_get_or 0 (minutes_from d a) row (length-map-range_with_len (λ b. minutes_of d a b) 0 (length d.places) ∙ n)
-    (λ i l. let b : i < length d.places = (let m = length-map-range_with_len (λ b. minutes_of d a b) 0 (length d.places) in omega arith) in
-    get_or-map-range_with_len (λ b. minutes_of d a b) 0 (length d.places) i i 0 b (omega arith) ∙ at i (omega arith))
+given_row : (d : Parts) (a : ℕ) (row : List ℕ) → length d.places ≡ length row → ((y : ℕ) → y < length row → time_of d a y ≡ Some (get_or row y 0)) → minutes_from (known_times d) a ≡ row
+given_row d a row n h = ext_get_or 0 (minutes_from (known_times d) a) row (length-map-range_with_len (λ b. minutes_of (known_times d) a b) 0 (length d.places) ∙ n)
+    (λ i l. let b : i < length d.places = (let m = length-map-range_with_len (λ b. minutes_of (known_times d) a b) 0 (length d.places) in omega arith) in
+    get_or-map-range_with_len (λ b. minutes_of (known_times d) a b) 0 (length d.places) i i 0 b (omega arith) ∙ at i (omega arith))
   where
-    at : (i : ℕ) → i < length row → minutes_of d a i ≡ get_or row i 0
+    at : (i : ℕ) → i < length row → minutes_of (known_times d) a i ≡ get_or row i 0
     at i l = rw (h i l)
 
 -- the parts after one row of travel times more
@@ -63,21 +64,21 @@ pub travel_parts : (d : Parts) (r : ℕ) (row : List ℕ) → r < length d.times
     → instance_so_far (with_row d r row) (suc r) ≡ record (instance_so_far d r) { travel = (instance_so_far d r).travel ++ row ∷ [] }
 travel_parts d r row below n =
     let new : Parts = with_row d r row in
-    let last : minutes_from new r ≡ row = given_row new r row n (λ y l. time_in_row d r y row below l) in
-    let before : map (minutes_from new) (range_with_len 0 r) ≡ map (minutes_from d) (range_with_len 0 r) =
-    rows_same (minutes_from new) (minutes_from d) r (λ a l. same_row a (λ y. time_elsewhere d r a y row (λ e. absurd (omega arith)))) in
-    let travel : map (minutes_from new) (range_with_len 0 (suc r)) ≡ map (minutes_from d) (range_with_len 0 r) ++ row ∷ [] =
-    row_more (minutes_from new) r ∙ ap (λ x. map (minutes_from new) (range_with_len 0 r) ++ x ∷ []) last ∙ ap (λ x. x ++ row ∷ []) before in
+    let last : minutes_from (known_times new) r ≡ row = given_row new r row n (λ y l. time_in_row d r y row below l) in
+    let before : map (minutes_from (known_times new)) (range_with_len 0 r) ≡ map (minutes_from (known_times d)) (range_with_len 0 r) =
+    rows_same (minutes_from (known_times new)) (minutes_from (known_times d)) r (λ a l. same_row a (λ y. time_elsewhere d r a y row (λ e. absurd (omega arith)))) in
+    let travel : map (minutes_from (known_times new)) (range_with_len 0 (suc r)) ≡ map (minutes_from (known_times d)) (range_with_len 0 r) ++ row ∷ [] =
+    row_more (minutes_from (known_times new)) r ∙ ap (λ x. map (minutes_from (known_times new)) (range_with_len 0 r) ++ x ∷ []) last ∙ ap (λ x. x ++ row ∷ []) before in
     ap (λ rows. record (instance_so_far d r) { travel = rows }) travel
   where
-    same_row : (a : ℕ) → ((y : ℕ) → time_of (with_row d r row) a y ≡ time_of d a y) → minutes_from (with_row d r row) a ≡ minutes_from d a
-    same_row a h = ext_get_or 0 (minutes_from (with_row d r row) a) (minutes_from d a)
-        (length-map-range_with_len (λ b. minutes_of (with_row d r row) a b) 0 (length d.places) ∙ sym (length-map-range_with_len (λ b. minutes_of d a b) 0 (length d.places)))
-        (λ i l. let b : i < length d.places = (let m = length-map-range_with_len (λ b. minutes_of (with_row d r row) a b) 0 (length d.places) in omega arith) in
-        get_or-map-range_with_len (λ b. minutes_of (with_row d r row) a b) 0 (length d.places) i i 0 b (omega arith)
-        ∙ minutes i ∙ sym (get_or-map-range_with_len (λ b. minutes_of d a b) 0 (length d.places) i i 0 b (omega arith)))
+    same_row : (a : ℕ) → ((y : ℕ) → time_of (with_row d r row) a y ≡ time_of d a y) → minutes_from (known_times (with_row d r row)) a ≡ minutes_from (known_times d) a
+    same_row a h = ext_get_or 0 (minutes_from (known_times (with_row d r row)) a) (minutes_from (known_times d) a)
+        (length-map-range_with_len (λ b. minutes_of (known_times (with_row d r row)) a b) 0 (length d.places) ∙ sym (length-map-range_with_len (λ b. minutes_of (known_times d) a b) 0 (length d.places)))
+        (λ i l. let b : i < length d.places = (let m = length-map-range_with_len (λ b. minutes_of (known_times (with_row d r row)) a b) 0 (length d.places) in omega arith) in
+        get_or-map-range_with_len (λ b. minutes_of (known_times (with_row d r row)) a b) 0 (length d.places) i i 0 b (omega arith)
+        ∙ minutes i ∙ sym (get_or-map-range_with_len (λ b. minutes_of (known_times d) a b) 0 (length d.places) i i 0 b (omega arith)))
       where
-        minutes : (y : ℕ) → minutes_of (with_row d r row) a y ≡ minutes_of d a y
+        minutes : (y : ℕ) → minutes_of (known_times (with_row d r row)) a y ≡ minutes_of (known_times d) a y
         minutes y = rw (h y)
 
 -- ---- one row after another, for the fields that the line spells

@@ -5,7 +5,8 @@ use Rattle.crew_terms.specs.Words.{Words}
 use Rattle.crew_terms.specs.Instance.{Instance}
 use Rattle.crew_terms.specs.Plan.{Job}
 use Rattle.crew_terms.specs.Rules.{HasNoFrozen}
-use Rattle.crew_instance.specs.Draft.{Draft as Parts, time_of, minutes_from}
+use Rattle.crew_instance.specs.Draft.{Draft as Parts, known_times, time_of}
+use Rattle.crew_instance.specs.Times.{minutes_from}
 use Rattle.crew_instance.specs.declared.faults.BuildFault.{BuildFault}
 use Rattle.crew_instance.specs.declared.faults.BuildFault.TheVariants as faults
 use Rattle.dossier_terms.specs.declared.Reason.TheVariants.{Name, Instance as BadInstance}
@@ -30,7 +31,7 @@ instance_so_far d rows = record {
   places = d.places;
   teams = d.teams;
   tasks = d.tasks;
-  travel = map (λ a. minutes_from d a) (range_with_len 0 rows);
+  travel = map (λ a. minutes_from (known_times d) a) (range_with_len 0 rows);
   frozen = d.frozen;
 }
 

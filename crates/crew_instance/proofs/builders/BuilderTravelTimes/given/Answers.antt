@@ -2,7 +2,7 @@ use Rattle.std.proofs.Common.{◌<◌, None, length, get_or, arith, ap, sym, ◌
 use Rattle.std.proofs.lemmas.List.{length-map}
 use Rattle.crew_instance.specs.Draft.{filled, time_of, times_in}
 use Rattle.crew_instance.proofs.Filled.{read_filled, row_of}
-use Rattle.crew_instance.proofs.builders.Builder.time.Goals as goal
+use Rattle.crew_instance.proofs.builders.BuilderTravelTimes.given.Goals as goal
 
 pub returns : goal.returns
 returns c =
