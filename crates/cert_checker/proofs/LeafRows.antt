@@ -118,19 +118,19 @@ pub compared : (seen : TreeCounts) (held tree : TreeDraft) (same answer : Bool) 
 compared seen held tree same answer read test is = ap (λ (t : TreeDraft). same_numbers seen t.claimed) (sym read) ∙ sym test ∙ is
 
 -- the line is read, and the numbers are those that were claimed
-pub ends_whole : (tree : Box TreeDraft) (seen : TreeCounts) (ws : Words) → ws ≡ end_line → same_numbers seen tree.value.claimed ≡ true
-    → (held : TreeDraft) → held ≡ tree.value → IsStep (EndLine tree seen) ws (Ok (Whole (record { draft = held.draft; counts = seen; unshown = held.unshown })))
-ends_whole tree seen ws is same held read = λ reading awaited.
+pub ends_whole : (tree : Box TreeDraft) (reader : Box LeafReader) (seen : TreeCounts) (ws : Words) → ws ≡ end_line → same_numbers seen tree.value.claimed ≡ true
+    → IsStep (EndLine tree reader seen) ws (Ok (Whole (record { tree = tree; counts = seen; reader = reader })))
+ends_whole tree reader seen ws is same = λ reading awaited.
     let b = draft_of tree.value.draft.value in
     let claimed = tree.value.claimed in
     let t = awaited.0 in
     let d = whole b t in
     let row : end_row b claimed t ws (Ends d) = Holds is (Holds (counted seen claimed t awaited.1 same) (Finish refl)) in
-    (d, subst (λ r. Says r ws (Ends d)) (sym awaited.3) row, record { tree = t; is = ap (λ (x : TreeDraft). whole (draft_of x.draft.value) t) (sym read); counts = awaited.1; unshown = ap (λ (x : TreeDraft). x.unshown) read ∙ awaited.2 })
+    (d, subst (λ r. Says r ws (Ends d)) (sym awaited.3) row, record { tree = t; is = refl; counts = awaited.1; unshown = awaited.2; room = awaited.4 })
 
-pub ends_miscounted : (tree : Box TreeDraft) (seen : TreeCounts) (ws : Words) → ws ≡ end_line → same_numbers seen tree.value.claimed ≡ false
-    → IsStep (EndLine tree seen) ws (Err reasons.Count)
-ends_miscounted tree seen ws is differ = λ reading awaited.
+pub ends_miscounted : (tree : Box TreeDraft) (reader : Box LeafReader) (seen : TreeCounts) (ws : Words) → ws ≡ end_line → same_numbers seen tree.value.claimed ≡ false
+    → IsStep (EndLine tree reader seen) ws (Err reasons.Count)
+ends_miscounted tree reader seen ws is differ = λ reading awaited.
     let claimed = tree.value.claimed in
     let t = awaited.0 in
     let row : end_row (draft_of tree.value.draft.value) claimed t ws (Refuses reasons.Count) = Holds is (Fails (not_counted seen claimed t awaited.1 differ) refl) in

@@ -2,6 +2,7 @@ pub mod Judged
 pub mod Steps
 pub mod PoolRows
 pub mod PlanRows
+pub mod Roomy
 pub mod TreeRows
 pub mod NodeRows
 pub mod LeafRows

@@ -27,7 +27,8 @@ use Rattle.node_limits.specs.Trail.{Trail}
 use Rattle.node_limits.specs.Rest.{Rest, IsRestOver, trail_over}
 use Rattle.tree_walk.specs.Way.{Walked, IsAt, IsLeaf, LeavesLeaf, Enters, branch_of}
 use Rattle.leaf_check.specs.declared.reader.LeafReader.{LeafReader}
-use Rattle.cert_checker.specs.Due.{Awaits, HasLeafRoom, HasSplitLeft, IsAtNode, IsReaderFor, IsStep, Tells, draft_of, unshown_above}
+use Rattle.cert_checker.specs.Due.{Awaits, HasLeafRoom, HasSplitLeft, IsAtNode, IsStep, Tells, draft_of, unshown_above}
+use Rattle.cert_checker.specs.Rooms.{IsReaderFor, IsRoomFor}
 use Rattle.cert_checker.specs.declared.due.BegunDossier.{BegunDossier as Held}
 use Rattle.cert_checker.specs.declared.due.TreeDraft.{TreeDraft}
 use Rattle.cert_checker.specs.declared.due.Due.TheVariants.{Node as NodeDue, End as EndDue}
@@ -128,18 +129,20 @@ module _ (tree : TreeDraft) (old new : Trail) (to : Walked) (rest : Rest)
       (gs, at_node fs gs node (enters (root_limits tree.draft.value.base.instance) fs cause (woken fs node)) (omega arith), for_tree, refl)
 
 -- past the last leaf the whole tree is seen
-pub ended_at : (tree : TreeDraft) (old new : Trail) (to : Walked) (rest : Rest) (box : Box TreeDraft) (seen : TreeCounts) (is_closed : Bool)
+pub ended_at : (tree : TreeDraft) (old new : Trail) (to : Walked) (rest : Rest) (box : Box TreeDraft) (reader : Box LeafReader) (seen : TreeCounts) (is_closed : Bool)
     → old ≡ trail_over tree.draft.value.base.instance tree.draft.value.limits → LeavesLeaf is_closed old tree.walk new to true
-    → box.value ≡ moved tree rest to tree.unshown → seen ≡ to.seen
+    → box.value ≡ moved tree rest to tree.unshown → seen ≡ to.seen → IsReaderFor tree.draft.value.base.instance reader.value
     → (fs : List Above) (claim : Claim Leaf) → IsAtNode tree fs → IsLeaf is_closed claim
-    → Awaits (EndDue box seen) (node_done (draft_of tree.draft.value) tree.claimed fs (LeafNode claim))
-ended_at tree old new to rest box seen is_closed woke leaves is saw fs claim node kind =
+    → Awaits (EndDue box reader seen) (node_done (draft_of tree.draft.value) tree.claimed fs (LeafNode claim))
+ended_at tree old new to rest box reader seen is_closed woke leaves is saw ready fs claim node kind =
     let at : IsAt (root_limits tree.draft.value.base.instance) old tree.walk fs = subst (λ t. IsAt (root_limits tree.draft.value.base.instance) t tree.walk fs) (sym woke) node.at in
     let p = leaves (root_limits tree.draft.value.base.instance) fs claim (draft_of tree.draft.value) tree.claimed at kind in
     let kept : unshown p.0 ≡ unshown_above fs + 0 = ends_keep (draft_of tree.draft.value) tree.claimed fs (LeafNode claim) p.0 p.1 in
     let had = node.unshown in
     let same : tree.unshown ≡ unshown p.0 = omega arith in
-    (p.0, saw ∙ p.2.seen, ap (λ (t : TreeDraft). t.unshown) is ∙ same, p.1 ∙ ap (λ (t : TreeDraft). Ends (draft_of t.draft.value) t.claimed p.0) (sym is))
+    let room : IsRoomFor box.value.draft.value.base.instance reader.value box.value.sums =
+    subst (λ (t : TreeDraft). IsRoomFor t.draft.value.base.instance reader.value t.sums) (sym is) (record { leaves = ready; shares = node.sums }) in
+    (p.0, saw ∙ p.2.seen, ap (λ (t : TreeDraft). t.unshown) is ∙ same, p.1 ∙ ap (λ (t : TreeDraft). Ends (draft_of t.draft.value) t.claimed p.0) (sym is), room)
 
 -- the limits that woke are those of the node
 pub limits_at : (tree : TreeDraft) (t : Trail) (fs : List Above) → t ≡ trail_over tree.draft.value.base.instance tree.draft.value.limits → IsAtNode tree fs

@@ -2,7 +2,7 @@
 use Rattle.std.specs.Prelude.{◌≡◌, ◌≤◌, ◌<◌, ◌+◌, ◌^◌, ℕ, List, [], ◌∷◌, Bool, length, map, All, Result, Ok, Err}
 use Rattle.crew_terms.specs.Words.{Words}
 use Rattle.crew_terms.specs.Instance.{Instance}
-use Rattle.crew_terms.specs.Limits.{Limits as NodeLimits, Route as TeamRoute, root_limits}
+use Rattle.crew_terms.specs.Limits.{Route as TeamRoute, root_limits}
 use Rattle.crew_terms.specs.Branches.{InFirst, InSecond}
 use Rattle.crew_terms.specs.Verdict.{IsPlanOf}
 use Rattle.search_terms.specs.Shares.{Share as ShareOf, IsRouteIn}
@@ -14,6 +14,7 @@ use Rattle.dossier_terms.specs.Table.{Says}
 use Rattle.node_limits.specs.Rest.{Rest, IsRestOver, limits_over, trail_over}
 use Rattle.head_check.specs.Head.{Holds as HoldsHead, IsLineDue, reading_of}
 use Rattle.leaf_check.specs.Reader.{IsReady, StandsFor}
+use Rattle.cert_checker.specs.Rooms.{IsReaderFor, IsRoomFor}
 use Rattle.leaf_check.specs.declared.reader.LeafReader.{LeafReader}
 use Rattle.crew_terms.specs.Tree.{CanSplit}
 use Rattle.crew_terms.specs.declared.Choice.{Choice}
@@ -72,10 +73,6 @@ IsInTree tree = (above : List Above) × IsAtNode tree above
 abbrev pub IsKnown : Instance → Choice → Type 0
 IsKnown i (choices.Window j cut) = j < length i.tasks
 IsKnown i (choices.Pair k j) = (k < length i.teams) × (j < length i.tasks)
-
--- the reader has room for the leaves of the instance
-abbrev pub IsReaderFor : Instance → LeafReader → Type 0
-IsReaderFor i reader = (n : NodeLimits) × (n.instance ≡ i) × IsReady n reader
 
 -- the numbers that are claimed have room for one more split of the node, and for one more leaf of a kind
 pub record HasSplitLeft (tree : TreeDraft) : Type 0 where
@@ -142,7 +139,8 @@ Awaits (Share tree reader loose more from) r = (above : List Above) × (read : S
 Awaits (Spare tree reader loose) r = (above : List Above) × (read : Shares) × IsInLoose tree.value loose read above × IsReaderFor tree.value.draft.value.base.instance reader.value
     × (r ≡ Spares (split_site tree.value above loose.choice) loose.now read)
 Awaits (Leaf tree reader is_closed) r = (above : List Above) × IsInLeaf tree.value reader.value is_closed above r
-Awaits (End tree seen) r = (t : Written) × (seen ≡ counts_of t) × (tree.value.unshown ≡ unshown t) × (r ≡ EndDue (draft_of tree.value.draft.value) tree.value.claimed t)
+Awaits (End tree reader seen) r = (t : Written) × (seen ≡ counts_of t) × (tree.value.unshown ≡ unshown t) × (r ≡ EndDue (draft_of tree.value.draft.value) tree.value.claimed t)
+    × IsRoomFor tree.value.draft.value.base.instance reader.value tree.value.sums
 
 -- the line that is due is one of a tree
 abbrev pub IsOfTree : Due → Type 0
@@ -151,19 +149,20 @@ IsOfTree (Why tree reader choice) = Unit {0}
 IsOfTree (Share tree reader loose more from) = Unit {0}
 IsOfTree (Spare tree reader loose) = Unit {0}
 IsOfTree (Leaf tree reader is_closed) = Unit {0}
-IsOfTree (End tree seen) = Unit {0}
+IsOfTree (End tree reader seen) = Unit {0}
 IsOfTree _ = ⊥
 
 -- what is kept stands for some state of the table
 abbrev pub IsAwaited : Due → Type 0
 IsAwaited due = (reading : Reading) × Awaits due reading
 
--- what is kept stands for this dossier, whose tree has these numbers
+-- what is kept stands for this dossier, whose tree has these numbers, and has the room of the tree
 pub record IsEndOf (ended : EndedDossier) (d : Dossier) : Type 0 where
   pub tree : Written
-  pub is : d ≡ whole (draft_of ended.draft.value) tree
+  pub is : d ≡ whole (draft_of ended.tree.value.draft.value) tree
   pub counts : ended.counts ≡ counts_of tree
-  pub unshown : ended.unshown ≡ unshown tree
+  pub unshown : ended.tree.value.unshown ≡ unshown tree
+  pub room : IsRoomFor ended.tree.value.draft.value.base.instance ended.reader.value ended.tree.value.sums
 
 -- the step, or the reason, is what these rules say, and what is kept stands for what they lead to
 abbrev pub Tells : (Answer → Type 0) → Result Step Reason → Type 0

@@ -1,3 +1,4 @@
+pub mod Rooms
 pub mod Due
 pub mod Rules
 pub mod Checked

@@ -7,7 +7,8 @@ ghost use Rattle.search_terms.specs.Shares.{IsRouteIn};
 ghost use Rattle.dossier_terms.specs.Causes.{Cause, Shares, Overflowed, Spent};
 ghost use Rattle.dossier_terms.specs.Reading.{Above, parts_due};
 ghost use Rattle.dossier_terms.specs.Ranges.{IsNowWord, IsSpareLine};
-ghost use Rattle.cert_checker.specs.Due.{Awaits, IsAtNode, IsAwaited, IsInLoose, IsLooseRead, IsReaderFor, IsStep, MaySplit, Tells, split_site};
+ghost use Rattle.cert_checker.specs.Due.{Awaits, IsAtNode, IsAwaited, IsInLoose, IsLooseRead, IsStep, MaySplit, Tells, split_site};
+ghost use Rattle.cert_checker.specs.Rooms.{IsReaderFor};
 ghost use Rattle.cert_checker.specs.Rules.{after_fault, after_loose, after_share, after_spare, after_spent};
 
 use crate::due::{Due, LooseDraft, Step, TreeDraft};

@@ -13,6 +13,7 @@ ghost use Rattle.cert_checker.specs.Said.{IsSaidOf};
 use crate::due::{Due, EndedDossier, Step};
 use crate::judge::judge;
 use crate::laws::{one_answer, reached_goes_on, whole_is_true};
+use crate::rooms::TreeRoom;
 use cert_format::Refusal;
 use crew_instance::{Instance, Plan, unassigned};
 use dossier_terms::Reason;
@@ -74,6 +75,8 @@ pub struct Checker {
     cuts: Cuts,
     lines: u64,
     state: State,
+    // The room of the last dossier's tree.
+    room: Option<TreeRoom>,
 }
 
 impl Model for Checker {
@@ -92,13 +95,15 @@ impl Model for Checker {
 fn whole_verdict(ended: &EndedDossier) -> Verdict
     ensures { (d : Dossier) → IsEndOf ended.now d → result ≡ verdict_of d }
 {
+    let tree = &*ended.tree;
+    let draft = &*tree.draft;
     Verdict {
-        unassigned: unassigned(&ended.draft.plan),
-        bound: ended.draft.bound,
+        unassigned: unassigned(&draft.plan),
+        bound: draft.bound,
         splits: ended.counts.splits,
         closed: ended.counts.closed,
         left_open: ended.counts.left_open,
-        unshown: ended.unshown,
+        unshown: tree.unshown,
     }
 }
 
@@ -157,6 +162,7 @@ impl Checker {
             cuts,
             lines: 0,
             state: State::Due(Due::Head(HeadDue::Form)),
+            room: None,
         })
     }
 
@@ -184,7 +190,7 @@ impl Checker {
         reached_goes_on();
         whole_is_true();
         let words = self.cuts.split(line);
-        let step = match judge(self.alloc, due, words) {
+        let step = match judge(self.alloc, &mut self.room, due, words) {
             Ok(step) => Ok(step),
             Err(Refusal::No(reason)) => Err(reason),
             Err(Refusal::OutOfMemory) => return Err(AllocError),
@@ -201,19 +207,22 @@ impl Checker {
         requires few { self.old.lines < LONGEST_INPUT }
 
         // The line that was due is judged by the table of lines.
-        ensures judged { (due : Reading) → IsReached due → IsDueAt self.old.at due → IfOk result (λ said. IsJudged self.old.lines due (words_of line.now) said self.new) }
+        ensures judged { (due : Reading) → IsReached due → IsDueAt self.old.at due →
+            IfOk result (λ said. IsJudged self.old.lines due (words_of line.now) said self.new) }
 
         // All memory that the lines of a tree want is taken at the line `tree`.
         ensures room { (due : Reading) → IsPastTree due → IsDueAt self.old.at due → IsOk result }
 
-        ensures refused { (number : ℕ) (reason : Reason) → self.old.at ≡ State.Refused number reason → (result ≡ Ok (Said.No number reason)) × (self.new ≡ self.old) }
+        ensures refused { (number : ℕ) (reason : Reason) →
+            self.old.at ≡ State.Refused number reason →
+            (result ≡ Ok (Said.No number reason)) × (self.new ≡ self.old) }
         ensures spent { self.old.at ≡ State.Spent → IsErr result }
         ensures memory { OnErr result (self.new ≡ record self.old { at = State.Spent }) }
     {
         match mem::replace(&mut self.state, State::Spent) {
             State::Due(due) => self.judge_line(due, line),
             State::Whole(ended) => {
-                drop(ended);
+                self.room = Some(TreeRoom::of(ended));
                 self.judge_line(Due::Head(HeadDue::Form), line)
             }
             State::Refused { line, reason } => {
@@ -239,7 +248,9 @@ impl Checker {
         requires { IsOpen self.old.at }
         ensures over { (result ≡ None) ↔ (IsEnded self.old.at × (why ≡ Stop.End 0)) }
         ensures same { result ≡ None → self.new ≡ self.old }
-        ensures refused { IfSome result (λ said. (said ≡ Said.No (self.old.lines + 1) (stop_reason_of why)) × (self.new ≡ refused_at self.old (stop_reason_of why))) }
+        ensures refused { IfSome result
+            (λ said. (said ≡ Said.No (self.old.lines + 1) (stop_reason_of why))
+            × (self.new ≡ refused_at self.old (stop_reason_of why))) }
     {
         if why == (Stop::End { partial: 0 }) && self.is_between() {
             return None;
@@ -256,7 +267,7 @@ impl Checker {
         ensures { (d : Dossier) → IsWholeAt self.now.at d → result.now ≡ d.instance }
     {
         match &self.state {
-            State::Whole(ended) => &ended.draft.base.instance,
+            State::Whole(ended) => &ended.tree.draft.base.instance,
             _ => unreachable!(),
         }
     }
@@ -267,7 +278,7 @@ impl Checker {
         ensures plan { (d : Dossier) → IsWholeAt self.now.at d → result.now ≡ d.plan }
     {
         match &self.state {
-            State::Whole(ended) => &ended.draft.plan,
+            State::Whole(ended) => &ended.tree.draft.plan,
             _ => unreachable!(),
         }
     }

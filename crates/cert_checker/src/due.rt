@@ -52,15 +52,15 @@ pub struct LooseDraft {
     pub whole: u128,
 }
 
-/// A whole dossier: all but its tree, of which it has the numbers.
+/// A whole dossier, with the room of its tree.
 #[derive(Drop)]
 pub struct EndedDossier {
-    /// All that came before the line `tree`.
-    pub draft: Box<BegunDossier>,
+    /// All that came before its line `end`.
+    pub tree: Box<TreeDraft>,
     /// The numbers of the tree.
     pub counts: TreeCounts,
-    /// Of how many of its splits no cause is shown.
-    pub unshown: u32,
+    /// What has read the leaves.
+    pub reader: Box<LeafReader>,
 }
 
 /// The line that is due, with what was read; `more` lines of its kind come after it.
@@ -129,6 +129,7 @@ pub enum Due {
     /// The line `end`.
     End {
         tree: Box<TreeDraft>,
+        reader: Box<LeafReader>,
         /// The numbers of the tree that was read.
         seen: TreeCounts,
     },

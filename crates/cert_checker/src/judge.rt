@@ -11,6 +11,7 @@ use crate::leaf::{end_line, number_line};
 use crate::node::node_line;
 use crate::plan::{job_line, plan_line};
 use crate::pool::{pool_line, route_line};
+use crate::rooms::TreeRoom;
 use crate::tree::tree_line;
 use cert_format::Refusal;
 use field_table::LineWords;
@@ -40,9 +41,14 @@ fn head_line(alloc: Global, due: HeadDue, words: LineWords<'_>) -> Result<Step, 
     Ok(Step::More(due_after(next)))
 }
 
-/// Judges the line that is due.
+/// Judges the line that is due. A tree takes the room that is kept, where it fits.
 #[inline(always)]
-pub fn judge(alloc: Global, due: Due, words: LineWords<'_>) -> Result<Step, Refusal>
+pub fn judge(
+    alloc: Global,
+    room: &mut Option<TreeRoom>,
+    due: Due,
+    words: LineWords<'_>,
+) -> Result<Step, Refusal>
     requires { IsAwaited due }
     ensures step { IsStepWithRoom due words.entry result }
     ensures room { IsOfTree due → result ≢ Err OutOfMemory }
@@ -53,7 +59,7 @@ pub fn judge(alloc: Global, due: Due, words: LineWords<'_>) -> Result<Step, Refu
         Due::Route { draft, more } => route_line(alloc, draft, more, words),
         Due::Plan { draft } => Ok(plan_line(draft, words)?),
         Due::Job { draft, more, from } => job_line(alloc, draft, more, from, words),
-        Due::Tree { draft } => tree_line(alloc, draft, words),
+        Due::Tree { draft } => tree_line(alloc, room, draft, words),
         Due::Node { tree, reader } => Ok(node_line(alloc, tree, reader, words)?),
         Due::Why {
             tree,
@@ -77,6 +83,6 @@ pub fn judge(alloc: Global, due: Due, words: LineWords<'_>) -> Result<Step, Refu
             reader,
             is_closed,
         } => Ok(number_line(alloc, tree, reader, is_closed, words)?),
-        Due::End { tree, seen } => Ok(end_line(tree, seen, words)?),
+        Due::End { tree, reader, seen } => Ok(end_line(tree, reader, seen, words)?),
     }
 }

@@ -11,21 +11,24 @@ use dossier_laws::{good_bounds, read_is_good, reading_ends, reading_goes_on, say
 
 /// There is one answer to a line where lines have led to what is due.
 pub fn one_answer()
-    ensures { (due : Reading) (words : Words) (a b : Answer) → IsReached due → Says due words a → Says due words b → b ≡ a }
+    ensures { (due : Reading) (words : Words) (a b : Answer) → IsReached due → Says due words a →
+        Says due words b → b ≡ a }
 {
     says_one_thing();
 }
 
 /// A line that breaks no rule leads on.
 pub fn reached_goes_on()
-    ensures { (due next : Reading) (words : Words) → IsReached due → Says due words (More next) → IsReached next }
+    ensures { (due next : Reading) (words : Words) → IsReached due → Says due words (More next) →
+        IsReached next }
 {
     reading_goes_on();
 }
 
 /// A dossier that a line ends is what it says.
 pub fn whole_is_true()
-    ensures { (due : Reading) (words : Words) (d : Dossier) → IsReached due → Says due words (Whole d) → IsTrueYes d }
+    ensures { (due : Reading) (words : Words) (d : Dossier) → IsReached due →
+        Says due words (Whole d) → IsTrueYes d }
 {
     reading_ends();
     read_is_good();

@@ -46,26 +46,20 @@ pub fn number_line(
 /// The line `end`.
 pub fn end_line(
     tree: Box<TreeDraft>,
+    reader: Box<LeafReader>,
     seen: TreeCounts,
     words: LineWords<'_>,
 ) -> Result<Step, Reason>
-    requires { IsAwaited (Due.End tree seen) }
-    ensures { IsStep (Due.End tree seen) words.entry result }
+    requires { IsAwaited (Due.End tree reader seen) }
+    ensures { IsStep (Due.End tree reader seen) words.entry result }
 {
     fault_is_refused();
     read_end(words)?;
     if seen == tree.claimed {
-        let TreeDraft {
-            draft,
-            claimed: _,
-            walk: _,
-            unshown,
-            sums: _,
-        } = Box::into_inner(tree);
         Ok(Step::Whole(EndedDossier {
-            draft,
+            tree,
             counts: seen,
-            unshown,
+            reader,
         }))
     } else {
         Err(Reason::Count)

@@ -10,6 +10,7 @@ mod leaf;
 mod node;
 mod plan;
 mod pool;
+mod rooms;
 mod tree;
 
 pub use checker::{Checker, Said, Stop, Verdict};

@@ -7,7 +7,8 @@ ghost use Rattle.dossier_terms.specs.Dossier.{Leaf};
 ghost use Rattle.dossier_terms.specs.Reading.{node_done, split_done, Above};
 ghost use Rattle.crew_terms.specs.Tree.{CanSplit, IsFreePair};
 ghost use Rattle.tree_walk.specs.Way.{IsLeaf};
-ghost use Rattle.cert_checker.specs.Due.{Awaits, HasLeafRoom, HasSplitLeft, IsAwaited, IsInTree, IsKnown, IsAtNode, IsReaderFor, IsStep, MaySplit, Tells, draft_of};
+ghost use Rattle.cert_checker.specs.Due.{Awaits, HasLeafRoom, HasSplitLeft, IsAwaited, IsInTree, IsKnown, IsAtNode, IsStep, MaySplit, Tells, draft_of};
+ghost use Rattle.cert_checker.specs.Rooms.{IsReaderFor};
 ghost use Rattle.dossier_terms.specs.NodeTable.{after_bare, after_leaf, after_split, split_fault};
 
 use crate::due::{Due, Step, TreeDraft};
@@ -61,7 +62,7 @@ pub fn leave(
         return Due::Node { tree, reader };
     }
     let seen = held.walk.seen();
-    Due::End { tree, seen }
+    Due::End { tree, reader, seen }
 }
 
 /// Whether nothing is said yet of the team and the task.

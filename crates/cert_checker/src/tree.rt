@@ -6,14 +6,13 @@ ghost use Rattle.cert_checker.specs.Due.{Awaits, IsAwaited, IsRoot, IsStepWithRo
 ghost use Rattle.cert_checker.specs.Rules.{TellsCounts};
 
 use crate::due::{BegunDossier, Due, Step, TreeDraft};
+use crate::rooms::{TreeRoom, room_for};
 use cert_format::{Refusal, fault_is_refused, read_tree};
 use crew_instance::unassigned;
 use crew_terms::TreeCounts;
 use dossier_terms::Reason;
 use field_table::LineWords;
-use leaf_check::LeafReader;
 use node_limits::Limits;
-use share_check::ShareSums;
 use std::alloc::{AllocError, Global};
 use tree_walk::Walk;
 
@@ -36,9 +35,11 @@ fn judge_counts(draft: &BegunDossier, claimed: TreeCounts) -> Result<(), Reason>
 }
 
 /// What is due behind the line `tree`: the root of the tree. All memory is taken that the lines of the tree want: for the
-/// splits above a node, as deep as is claimed, for the numbers of a leaf, and for the sums of a cause's shares.
+/// splits above a node, as deep as is claimed, for the numbers of a leaf, and for the sums of a cause's shares. Of the last
+/// two the room that is kept is taken, where it fits.
 fn begin_tree(
     alloc: Global,
+    kept: Option<TreeRoom>,
     mut draft: Box<BegunDossier>,
     claimed: TreeCounts,
 ) -> Result<Due, AllocError>
@@ -50,10 +51,8 @@ fn begin_tree(
     let held = &mut *draft;
     let mut limits = Limits::wake(&held.base.instance, held.limits.take(alloc));
     limits.reserve(depth)?;
-    let opened = LeafReader::open(alloc, &limits)?;
-    let sums = ShareSums::open(alloc, &limits)?;
+    let (reader, sums) = room_for(alloc, kept, &limits)?;
     held.limits = limits.rest();
-    let reader = Box::new(alloc, opened)?;
     let walk = Walk::open(alloc, depth)?;
     let tree = TreeDraft {
         draft,
@@ -69,6 +68,7 @@ fn begin_tree(
 /// The line `tree`.
 pub fn tree_line(
     alloc: Global,
+    room: &mut Option<TreeRoom>,
     draft: Box<BegunDossier>,
     words: LineWords<'_>,
 ) -> Result<Step, Refusal>
@@ -78,6 +78,6 @@ pub fn tree_line(
     fault_is_refused();
     let claimed = read_tree(words)?;
     judge_counts(&draft, claimed)?;
-    let due = begin_tree(alloc, draft, claimed)?;
+    let due = begin_tree(alloc, room.take(), draft, claimed)?;
     Ok(Step::More(due))
 }

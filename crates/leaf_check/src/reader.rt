@@ -90,6 +90,7 @@ impl LeafReader {
         ensures ready { (n m : NodeLimits) → m.instance ≡ n.instance
             → IsReady n self.old → IsReady m self.new }
         ensures stands { (a : LeafSite) → StandsFor a self.new (PriceDue a) }
+        ensures rest { self.new ≡ record self.old { due = LeafDue.Price } }
     {
         self.due = LeafDue::Price;
     }

@@ -14,6 +14,18 @@ const YES_OPEN: &[u8] = b"yes unassigned 1 bound 0 splits 0 closed 0 open 1 unsh
 
 const YES_SPLIT: &[u8] = b"yes unassigned 1 bound 1 splits 1 closed 2 open 0 unshown 1\n";
 
+/// Dossiers one after another, and what is written of each. Where the one before has as many teams and the same windows,
+/// as with the second and the fourth, its tree's room serves the next tree; else there is new room.
+const ONE_AFTER_ANOTHER: &[(Lines, &[u8])] = &[
+    (WITH_POOL, YES_CLOSED),
+    (WITH_POOL, YES_CLOSED),
+    (WITH_OPEN_LEAF, YES_OPEN),
+    (WITH_WINDOW, YES_SPLIT),
+    (LACKS_SKILL, YES_CLOSED),
+    (WITH_PAIR, YES_SPLIT),
+    (WITH_POOL, YES_CLOSED),
+];
+
 /// A dossier, the number of a line of it, another line in its place, and what is written then.
 type Case = (Lines, usize, &'static [u8], &'static [u8]);
 
@@ -152,11 +164,22 @@ fn each_front_of_a_dossier_is_too_short(rt: HostRuntime) -> Result<(), Fail> {
 #[test]
 fn numbers_of_one_dossier_are_not_those_of_the_next(rt: HostRuntime) -> Result<(), Fail> {
     let mut input = Vec::new(rt.alloc());
-    for dossier in [WITH_POOL, WITH_PAIR, LACKS_SKILL, WITH_POOL] {
+    let mut lines = Vec::new(rt.alloc());
+    for (dossier, line) in ONE_AFTER_ANOTHER {
         input.extend_from_slice(&text_of(rt.alloc(), dossier)?)?;
+        lines.extend_from_slice(line)?;
     }
     let told = check(rt.alloc(), input)?;
-    let lines = joined(rt.alloc(), &[YES_CLOSED, YES_SPLIT, YES_CLOSED, YES_CLOSED])?;
     assert_told(&rt, &told, Status::Done, &lines);
+    Ok(())
+}
+
+#[test]
+fn a_low_potential_in_the_second_dossier(rt: HostRuntime) -> Result<(), Fail> {
+    let good = text_of(rt.alloc(), WITH_POOL)?;
+    let low = with_line(rt.alloc(), WITH_POOL, 20, b"phi 1 839999999")?;
+    let told = check(rt.alloc(), joined(rt.alloc(), &[&good, &low])?)?;
+    let lines = joined(rt.alloc(), &[YES_CLOSED, b"no 41 Potential 0 1\n"])?;
+    assert_told(&rt, &told, Status::No, &lines);
     Ok(())
 }

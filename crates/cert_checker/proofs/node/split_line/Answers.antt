@@ -11,7 +11,8 @@ use Rattle.dossier_terms.specs.Reading.{Reading, Whys, split_done, choice_done, 
 use Rattle.dossier_terms.specs.NodeTable.{after_split}
 use Rattle.crew_terms.specs.Tree.{CanSplit}
 use Rattle.node_limits.specs.Rest.{trail_over}
-use Rattle.cert_checker.specs.Due.{Awaits, HasSplitLeft, IsAtNode, IsReaderFor, MaySplit, draft_of, split_site}
+use Rattle.cert_checker.specs.Due.{Awaits, HasSplitLeft, IsAtNode, MaySplit, draft_of, split_site}
+use Rattle.cert_checker.specs.Rooms.{IsReaderFor}
 use Rattle.cert_checker.specs.declared.due.BegunDossier.{BegunDossier}
 use Rattle.cert_checker.specs.declared.due.TreeDraft.{TreeDraft}
 use Rattle.cert_checker.proofs.NodeRows.{limits_at, taken_woke, room_above, room_at, split_no_room, split_refused, split_more}
