@@ -9,7 +9,7 @@ use crate::typed::{JobLine, PlanLine, PoolLine, RouteLine};
 use crew_terms::{MOST_NODES, TreeCounts};
 use field_table::{LineWords, fields};
 
-/// Reads the line `pool`: how many routes are kept, and how many there are.
+/// Reads the line `pool`: how many routes are kept, and how many there are, or tells its first fault.
 pub fn read_pool(words: LineWords<'_>) -> Result<PoolLine, LineFault>
     ensures { ReadsAs Expect.Pool pool_kind words.entry result }
 {
@@ -23,7 +23,7 @@ pub fn read_pool(words: LineWords<'_>) -> Result<PoolLine, LineFault>
     Ok(PoolLine { kept, routes })
 }
 
-/// Reads a line `route` of an instance with so many teams and tasks.
+/// Reads a line `route` of an instance with so many teams and tasks, or tells its first fault.
 pub fn read_route<'a>(
     words: LineWords<'a>,
     teams: u32,
@@ -43,7 +43,8 @@ pub fn read_route<'a>(
     })
 }
 
-/// Reads the line `plan` of an instance with so many tasks: how many are unassigned, and the bound.
+/// Reads the line `plan` of an instance with so many tasks: how many are unassigned, and the bound, or
+/// tells its first fault.
 pub fn read_plan(words: LineWords<'_>, tasks: u32) -> Result<PlanLine, LineFault>
     ensures { ReadsAs (Expect.Plan tasks) plan_kind words.entry result }
 {
@@ -51,14 +52,17 @@ pub fn read_plan(words: LineWords<'_>, tasks: u32) -> Result<PlanLine, LineFault
         return Err(LineFault::Shape);
     }
     let most = tasks as i64;
-    fields!(&words, unassigned: Number(0, most), bound: Number(0, most); else fault => LineFault::Number);
+    fields!(
+        &words, unassigned: Number(0, most), bound: Number(0, most);
+        else fault => LineFault::Number
+    );
     Ok(PlanLine {
         unassigned: unassigned as u32,
         bound: bound as u32,
     })
 }
 
-/// Reads a line `do` of an instance with so many teams and tasks.
+/// Reads a line `do` of an instance with so many teams and tasks, or tells its first fault.
 pub fn read_job<'a>(words: LineWords<'a>, teams: u32, tasks: u32) -> Result<JobLine<'a>, LineFault>
     ensures { ReadsAs (Expect.Job teams tasks) job_kind words.entry result }
 {
@@ -75,7 +79,7 @@ pub fn read_job<'a>(words: LineWords<'a>, teams: u32, tasks: u32) -> Result<JobL
     })
 }
 
-/// Reads the line `tree`: its splits, closed leaves, other leaves and greatest depth.
+/// Reads the line `tree`: its splits, closed leaves, other leaves and greatest depth, or tells its first fault.
 pub fn read_tree(words: LineWords<'_>) -> Result<TreeCounts, LineFault>
     ensures { ReadsAs Expect.Tree LineKind.Tree words.entry result }
 {
@@ -95,7 +99,7 @@ pub fn read_tree(words: LineWords<'_>) -> Result<TreeCounts, LineFault>
     })
 }
 
-/// Reads the line `end`.
+/// Reads the line `end`, or tells its first fault.
 pub fn read_end(words: LineWords<'_>) -> Result<(), LineFault>
     ensures { ReadsAs Expect.End end_kind words.entry result }
 {

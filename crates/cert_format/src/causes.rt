@@ -81,7 +81,7 @@ fn read_spent(words: LineWords<'_>, tasks: u32) -> Result<WhyLine, LineFault>
     Ok(WhyLine::Spent { now: now as u32 })
 }
 
-/// Reads a line `why` of an instance with so many tasks.
+/// Reads a line `why` of an instance with so many tasks, or tells its first fault.
 pub fn read_why(words: LineWords<'_>, tasks: u32) -> Result<WhyLine, LineFault>
     ensures { ReadsAs (Expect.Why tasks) why_kind words.entry result }
 {
@@ -112,7 +112,7 @@ fn past_parts(whole: i128) -> u128
     whole.unsigned_abs() + 1
 }
 
-/// Reads a line `share` of so many columns, with so many parts in a whole.
+/// Reads a line `share` of so many columns, with so many parts in a whole, or tells its first fault.
 pub fn read_share(words: LineWords<'_>, columns: u64, whole: i128) -> Result<ShareLine, LineFault>
     ensures { ReadsAs (Expect.Share columns whole) share_kind words.entry result }
 {
@@ -127,7 +127,7 @@ pub fn read_share(words: LineWords<'_>, columns: u64, whole: i128) -> Result<Sha
     })
 }
 
-/// Reads the line `spare` of an instance with so many tasks, with so many parts in a whole.
+/// Reads the line `spare` of an instance with so many tasks, with so many parts in a whole, or tells its first fault.
 pub fn read_spare<'a>(
     words: LineWords<'a>,
     tasks: u32,

@@ -12,7 +12,7 @@ use crew_terms::{
 use dossier_terms::{DossierForm, Size};
 use field_table::{LineWords, field, fields};
 
-/// Reads the first line, `crew dossier 1` or `crew dossier 2`.
+/// Reads the first line, `crew dossier 1` or `crew dossier 2`, or tells its first fault.
 pub fn read_form(words: LineWords<'_>) -> Result<DossierForm, LineFault>
     ensures { ReadsAs Expect.Form LineKind.Form words.entry result }
 {
@@ -31,7 +31,7 @@ pub fn read_form(words: LineWords<'_>) -> Result<DossierForm, LineFault>
     Err(LineFault::Shape)
 }
 
-/// Reads the line `size`: how many teams, tasks and places there are, and the node budget.
+/// Reads the line `size`: how many teams, tasks and places there are, and the node budget, or tells its first fault.
 pub fn read_size(words: LineWords<'_>) -> Result<Size, LineFault>
     ensures { ReadsAs Expect.Size LineKind.Size words.entry result }
 {
@@ -51,7 +51,7 @@ pub fn read_size(words: LineWords<'_>) -> Result<Size, LineFault>
     })
 }
 
-/// Reads a line `place`: a name.
+/// Reads a line `place`: a name, or tells its first fault.
 pub fn read_place(words: LineWords<'_>) -> Result<Name, LineFault>
     ensures { ReadsAs Expect.Place LineKind.Place words.entry result }
 {
@@ -61,7 +61,7 @@ pub fn read_place(words: LineWords<'_>) -> Result<Name, LineFault>
     read_name(&words)
 }
 
-/// Reads a line `travel` of an instance with so many places: the minutes to each of them.
+/// Reads a line `travel` of an instance with so many places: the minutes to each of them, or tells its first fault.
 pub fn read_travel<'a>(words: LineWords<'a>, places: u32) -> Result<LineNumbers<'a>, LineFault>
     ensures { ReadsAs (Expect.Travel places) LineKind.Travel words.entry result }
 {
@@ -71,7 +71,7 @@ pub fn read_travel<'a>(words: LineWords<'a>, places: u32) -> Result<LineNumbers<
     read_below(words, 1, LAST_MINUTE + 1)
 }
 
-/// Reads a line `team` of an instance with so many places.
+/// Reads a line `team` of an instance with so many places, or tells its first fault.
 pub fn read_team<'a>(words: LineWords<'a>, places: u32) -> Result<TeamLine<'a>, LineFault>
     ensures { ReadsAs (Expect.Team places) team_kind words.entry result }
 {
@@ -93,7 +93,7 @@ pub fn read_team<'a>(words: LineWords<'a>, places: u32) -> Result<TeamLine<'a>, 
     })
 }
 
-/// Reads a line `task` of an instance with so many places.
+/// Reads a line `task` of an instance with so many places, or tells its first fault.
 pub fn read_task<'a>(words: LineWords<'a>, places: u32) -> Result<TaskLine<'a>, LineFault>
     ensures { ReadsAs (Expect.Task places) task_kind words.entry result }
 {
@@ -119,7 +119,7 @@ pub fn read_task<'a>(words: LineWords<'a>, places: u32) -> Result<TaskLine<'a>, 
     })
 }
 
-/// Reads the line `frozen`: how many jobs are frozen, at most `most`.
+/// Reads the line `frozen`: how many jobs are frozen, at most `most`, or tells its first fault.
 pub fn read_frozen(words: LineWords<'_>, most: u32) -> Result<u32, LineFault>
     ensures { ReadsAs (Expect.Frozen most) LineKind.Frozen words.entry result }
 {
@@ -131,7 +131,7 @@ pub fn read_frozen(words: LineWords<'_>, most: u32) -> Result<u32, LineFault>
     Ok(count as u32)
 }
 
-/// Reads a line `keep` of an instance with so many teams and tasks.
+/// Reads a line `keep` of an instance with so many teams and tasks, or tells its first fault.
 pub fn read_keep<'a>(words: LineWords<'a>, teams: u32, tasks: u32) -> Result<JobLine<'a>, LineFault>
     ensures { ReadsAs (Expect.Keep teams tasks) keep_kind words.entry result }
 {

@@ -7,7 +7,7 @@ use crate::ranges::{POTENTIAL, PRICE};
 use crate::shape::{has_pairs_at, has_row, has_shape};
 use field_table::{LineWords, fields};
 
-/// Reads the line `price`: a price of each of so many tasks, in 1/D of a task.
+/// Reads the line `price`: a price of each of so many tasks, in 1/D of a task, or tells its first fault.
 pub fn read_price<'a>(words: LineWords<'a>, tasks: u32) -> Result<LineNumbers<'a>, LineFault>
     ensures { ReadsAs (Expect.Price tasks) LineKind.Price words.entry result }
 {
@@ -17,7 +17,7 @@ pub fn read_price<'a>(words: LineWords<'a>, tasks: u32) -> Result<LineNumbers<'a
     read_rest(words, 1, PRICE)
 }
 
-/// Reads the line `extra` of this task, with so many prices of its required pairs.
+/// Reads the line `extra` of this task, with so many prices of its required pairs, or tells its first fault.
 pub fn read_extra<'a>(
     words: LineWords<'a>,
     task: u32,
@@ -31,7 +31,7 @@ pub fn read_extra<'a>(
     read_rest(words, 2, PRICE)
 }
 
-/// Reads a line `worth`.
+/// Reads a line `worth`, or tells its first fault.
 pub fn read_worth(words: LineWords<'_>) -> Result<i64, LineFault>
     ensures { ReadsAs Expect.Worth LineKind.Worth words.entry result }
 {
@@ -42,7 +42,8 @@ pub fn read_worth(words: LineWords<'_>) -> Result<i64, LineFault>
     Ok(worth)
 }
 
-/// Reads the line `phi` of this task, with so many potentials, one for each permitted minute.
+/// Reads the line `phi` of this task, with so many potentials, one for each permitted minute, or
+/// tells its first fault.
 pub fn read_phi<'a>(
     words: LineWords<'a>,
     task: u32,
@@ -56,7 +57,8 @@ pub fn read_phi<'a>(
     read_rest(words, 2, POTENTIAL)
 }
 
-/// Reads the line `steps` of this task: runs of potentials, each its first minute and its number.
+/// Reads the line `steps` of this task: runs of potentials, each its first minute and its number, or
+/// tells its first fault.
 pub fn read_steps<'a>(words: LineWords<'a>, task: u32) -> Result<LineNumbers<'a>, LineFault>
     ensures { ReadsAs (Expect.Steps task) (LineKind.Steps task) words.entry result }
 {

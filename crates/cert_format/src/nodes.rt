@@ -70,7 +70,8 @@ fn read_leaf(words: LineWords<'_>) -> Result<NodeLine, LineFault>
     }
 }
 
-/// Reads a line of a node, `window`, `pair` or `leaf`, of an instance with so many teams and tasks.
+/// Reads a line of a node, `window`, `pair` or `leaf`, of an instance with so many teams and tasks, or
+/// tells its first fault.
 pub fn read_node(words: LineWords<'_>, teams: u32, tasks: u32) -> Result<NodeLine, LineFault>
     ensures { ReadsAs (Expect.Node teams tasks) node_kind words.entry result }
 {

@@ -40,7 +40,7 @@ pub struct JobLine<'a> {
 
 impl<'a> JobLine<'a> {
     /// It as a line `keep`.
-    pub fn kept(self) -> LineKind<'a>
+    pub(crate) fn kept(self) -> LineKind<'a>
         ensures { result ≡ keep_kind self.entry }
     {
         let JobLine { task, start, teams } = self;
@@ -48,7 +48,7 @@ impl<'a> JobLine<'a> {
     }
 
     /// It as a line `do`.
-    pub fn planned(self) -> LineKind<'a>
+    pub(crate) fn planned(self) -> LineKind<'a>
         ensures { result ≡ job_kind self.entry }
     {
         let JobLine { task, start, teams } = self;

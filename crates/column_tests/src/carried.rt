@@ -36,7 +36,8 @@ fn carry_over<C: Columns, D: Columns>(
 ) -> Result<usize, Fail>
     requires of_instance { All (IsOfInstance before.now) (C.columns columns.now) }
     requires none { D.columns next.old ≡ [] }
-    ensures { OnOk result (AreKeptRoutes before.now (C.columns columns.now) after.now (D.columns next.new)) }
+    ensures { OnOk result
+        (AreKeptRoutes before.now (C.columns columns.now) after.now (D.columns next.new)) }
 {
     let carry = Carry::take(alloc, before, columns)?;
     let root = Limits::root(alloc, after)?;

@@ -25,7 +25,8 @@ pub fn numbered(n: u32) -> Result<Name, FixtureFault> {
 
 /// A team with this name and no skills, at home at place 0, from 06:00 to 14:00.
 pub fn team(called: &[u8]) -> Result<Team, FixtureFault>
-    ensures { IfOk result (λ team. team ≡ record { name = called.now; home = 0; from = 360; until = 840; skills = 0 }) }
+    ensures { IfOk result (λ team. team ≡
+        record { name = called.now; home = 0; from = 360; until = 840; skills = 0 }) }
 {
     Ok(Team {
         name: name(called)?,
@@ -39,7 +40,15 @@ pub fn team(called: &[u8]) -> Result<Team, FixtureFault>
 /// A task with this name at place 1, which one team begins from 07:00 to 07:30 and does in half an hour. It needs no
 /// skill.
 pub fn task(called: &[u8]) -> Result<Task, FixtureFault>
-    ensures { IfOk result (λ task. task ≡ record { name = called.now; place = 1; earliest = 420; latest = 450; minutes = 30; teams = 1; skills = 0 }) }
+    ensures { IfOk result (λ task. task ≡ record {
+      name = called.now;
+      place = 1;
+      earliest = 420;
+      latest = 450;
+      minutes = 30;
+      teams = 1;
+      skills = 0;
+    }) }
 {
     Ok(Task {
         name: name(called)?,

@@ -102,7 +102,9 @@ pub(crate) fn read_on<S: Source>(
     requires held { at ≤ end }
     requires within { end < length room.old }
     ensures fits { IfOk result (λ n. end + n ≤ length room.old) }
-    ensures rest { IfOk result (λ n. with_left (slice_range room.new at (end + n)) (S.left src.new) ≡ with_left (slice_range room.old at end) (S.left src.old)) }
+    ensures rest { IfOk result
+        (λ n. with_left (slice_range room.new at (end + n)) (S.left src.new)
+        ≡ with_left (slice_range room.old at end) (S.left src.old)) }
     ensures same { slice_range room.new at end ≡ slice_range room.old at end }
     ensures nothing { OnErr result (S.left src.new ≡ S.left src.old) }
     ensures end { result ≡ Ok 0 → HasEnded (S.left src.old) }
@@ -120,7 +122,9 @@ fn refill<S: Source>(src: &mut S, room: &mut [u8], at: usize, end: usize) -> Res
     requires within { end ≤ length room.old }
     requires spare { end - at < length room.old }
     ensures fits { IfOk result (λ n. end - at + n ≤ length room.old) }
-    ensures rest { IfOk result (λ n. with_left (slice_range room.new 0 (end - at + n)) (S.left src.new) ≡ with_left (slice_range room.old at end) (S.left src.old)) }
+    ensures rest { IfOk result
+        (λ n. with_left (slice_range room.new 0 (end - at + n)) (S.left src.new)
+        ≡ with_left (slice_range room.old at end) (S.left src.old)) }
     ensures same { slice_range room.new 0 (end - at) ≡ slice_range room.old at end }
     ensures nothing { OnErr result (S.left src.new ≡ S.left src.old) }
     ensures end { result ≡ Ok 0 → HasEnded (S.left src.old) }
@@ -277,7 +281,8 @@ impl LineReader {
     /// no source and give that answer again.
     pub fn advance<S: Source>(&mut self, src: &mut S) -> Progress
         ensures steps { Steps self.old (S.left src.old) result self.new (S.left src.new) }
-        ensures tells { self.old.stopped ≡ None → TellsReads S.Source src.old src.new (result ≡ Progress.ReadFault) }
+        ensures tells { self.old.stopped ≡ None →
+            TellsReads S.Source src.old src.new (result ≡ Progress.ReadFault) }
         ensures again { IsSome self.old.stopped → src.new ≡ src.old }
     {
         match self.stopped {
@@ -291,7 +296,8 @@ impl LineReader {
     pub fn next<S: Source>(&mut self, src: &mut S) -> Got<'_>
         ensures* after { sem 𝓛 (follows_so the_row the_row self.entry.ghost_name none (λ _ _. ⊤)
             (λ new. GotNext self.old (S.left src.old) result new (S.left src.new))) }
-        ensures tells { self.old.stopped ≡ None → TellsReads S.Source src.old src.new (result ≡ Got.ReadFault) }
+        ensures tells { self.old.stopped ≡ None →
+            TellsReads S.Source src.old src.new (result ≡ Got.ReadFault) }
         ensures again { IsSome self.old.stopped → src.new ≡ src.old }
     {
         match self.advance(src) {

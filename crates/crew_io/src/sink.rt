@@ -96,7 +96,14 @@ impl MemSink {
         fails: Vec<u64>,
     ) -> Result<MemSink, AllocError>
         requires { 1 ≤ piece }
-        ensures value { IfOk result (λ s. s ≡ record { got = []; room = room; piece = piece; fails = fails.items; calls = 0; faults = 0 }) }
+        ensures value { IfOk result (λ s. s ≡ record {
+          got = [];
+          room = room;
+          piece = piece;
+          fails = fails.items;
+          calls = 0;
+          faults = 0;
+        }) }
         ensures got { IfOk result (λ s. ⟦<MemSink as Sink>⟧.got s ≡ Some []) }
         ensures faults { IfOk result (λ s. ⟦<MemSink as Sink>⟧.faults s ≡ 0) }
     {
@@ -142,12 +149,14 @@ impl Sink for MemSink {
         ensures later { self.old.faults ≤ self.new.faults }
         ensures cause { IsErr result → Rose self.old.faults self.new.faults }
         ensures uncounted { OnOk result (self.new.faults ≡ self.old.faults) }
-        ensures steady { self.old.fails ≡ [] → (self.new.fails ≡ []) × (IsErr result → length self.new.got ≡ self.new.room) }
+        ensures steady { self.old.fails ≡ [] →
+            (self.new.fails ≡ []) × (IsErr result → length self.new.got ≡ self.new.room) }
         ensures full { length self.old.got ≡ self.old.room → length self.new.got ≡ self.new.room }
 
         // It fails exactly where the call is due to fail or the room is full, and takes as much as it may.
         ensures due { IsErr result ↔ IsRefused self.old piece.now }
-        ensures count { IfOk result (λ n. n ≡ min (min (length piece.now) self.old.piece) (self.old.room - length self.old.got)) }
+        ensures count { IfOk result (λ n. n ≡
+            min (min (length piece.now) self.old.piece) (self.old.room - length self.old.got)) }
         ensures ok { IfOk result (λ n. self.new ≡ store_took self.old (take n piece.now)) }
         ensures failed { OnErr result (self.new ≡ store_failed self.old) }
     {
@@ -273,7 +282,8 @@ impl<W: Write + Drop> Sink for StdSink<W> {
         // tests: std does not say when its calls fail.
         ensures uncounted { OnOk result (write_faults self.new ≡ write_faults self.old) }
         ensures counted { OnErr result (write_faults self.new ≡ one_more (write_faults self.old)) }
-        ensures bytes { WriteAppends (writer_contents W.contents (writer_of self.old)) (writer_contents W.contents (writer_of self.new)) result piece.now }
+        ensures bytes { WriteAppends (writer_contents W.contents (writer_of self.old))
+            (writer_contents W.contents (writer_of self.new)) result piece.now }
     {
         match self.inner.write(piece) {
             Ok(0) if !piece.is_empty() => Err(self.fail()),
@@ -291,7 +301,8 @@ impl<W: Write + Drop> Sink for StdSink<W> {
         // shows in the code and in tests.
         ensures uncounted { OnOk result (write_faults self.new ≡ write_faults self.old) }
         ensures counted { OnErr result (write_faults self.new ≡ one_more (write_faults self.old)) }
-        ensures bytes { Keeps (writer_contents W.contents (writer_of self.old)) (writer_contents W.contents (writer_of self.new)) }
+        ensures bytes { Keeps (writer_contents W.contents (writer_of self.old))
+            (writer_contents W.contents (writer_of self.new)) }
     {
         match self.inner.flush() {
             Ok(()) => Ok(()),

@@ -74,7 +74,13 @@ impl MemSource {
     /// A source of these bytes, with no calls so far. It gives at most `piece` of them in a read.
     pub fn new(bytes: Vec<u8>, piece: usize, fails: Vec<u64>) -> MemSource
         requires { 1 ≤ piece }
-        ensures value { result ≡ record { left = bytes.items; piece = piece; fails = fails.items; calls = 0; faults = 0 } }
+        ensures value { result ≡ record {
+          left = bytes.items;
+          piece = piece;
+          fails = fails.items;
+          calls = 0;
+          faults = 0;
+        } }
         ensures left { ⟦<MemSource as Source>⟧.left result ≡ Some bytes.items }
         ensures faults { ⟦<MemSource as Source>⟧.faults result ≡ 0 }
     {
@@ -96,7 +102,8 @@ impl Source for MemSource {
 
     fn read(&mut self, buf: &mut [u8]) -> Result<usize, Failed>
         ensures fits { IfOk result (λ n. n ≤ length buf.old) }
-        ensures gave { IfOk result (λ n. Gave (Some self.old.left) (Some self.new.left) n buf.old buf.new) }
+        ensures gave { IfOk result
+            (λ n. Gave (Some self.old.left) (Some self.new.left) n buf.old buf.new) }
         ensures end { result ≡ Ok 0 → 0 < length buf.old → HasEnded (Some self.old.left) }
         ensures nothing { OnErr result (Some self.new.left ≡ Some self.old.left) }
         ensures later { self.old.faults ≤ self.new.faults }
@@ -106,7 +113,8 @@ impl Source for MemSource {
 
         // It fails exactly where the call is due to fail, and gives as much as it may.
         ensures due { IsErr result ↔ FailsNext self.old.fails self.old.calls }
-        ensures count { IfOk result (λ n. n ≡ min (min (length self.old.left) (length buf.old)) self.old.piece) }
+        ensures count { IfOk result
+            (λ n. n ≡ min (min (length self.old.left) (length buf.old)) self.old.piece) }
         ensures ok { IfOk result (λ n. self.new ≡ feed_gave self.old n) }
         ensures failed { OnErr result (self.new ≡ feed_failed self.old) }
     {
@@ -164,8 +172,10 @@ impl Source for SteadySource {
     ghost steady = { λ _. ⊤ };
 
     fn read(&mut self, buf: &mut [u8]) -> Result<usize, Failed>
-        ensures value { result ≡ Ok (min (min (length self.old.left) (length buf.old)) self.old.piece) }
-        ensures gave { IfOk result (λ n. Gave (Some self.old.left) (Some self.new.left) n buf.old buf.new) }
+        ensures value { result ≡
+            Ok (min (min (length self.old.left) (length buf.old)) self.old.piece) }
+        ensures gave { IfOk result
+            (λ n. Gave (Some self.old.left) (Some self.new.left) n buf.old buf.new) }
         ensures end { result ≡ Ok 0 → 0 < length buf.old → HasEnded (Some self.old.left) }
         ensures piece { self.new.piece ≡ self.old.piece }
     {
@@ -212,7 +222,8 @@ impl<R: Read> Source for StdSource<R> {
         // where the reader's call failed shows in the code and in tests: std does not say when its calls fail.
         ensures uncounted { OnOk result (read_faults self.new ≡ read_faults self.old) }
         ensures counted { OnErr result (read_faults self.new ≡ one_more (read_faults self.old)) }
-        ensures bytes { ReadConsumes (R.remaining (reader_of self.old)) (R.remaining (reader_of self.new)) result buf.new }
+        ensures bytes { ReadConsumes (R.remaining (reader_of self.old))
+            (R.remaining (reader_of self.new)) result buf.new }
     {
         match self.inner.read(buf) {
             Ok(n) => Ok(n),

@@ -71,7 +71,8 @@ fn make_room(room: &mut Vec<u8>, len: usize, most: usize) -> Result<(), AllocErr
 
 /// Whether a byte comes behind the most that a text may have.
 fn read_end<S: Source>(src: &mut S, read: Vec<u8>) -> Text
-    ensures reads { ReadsText (length read.items) (with_left read.items (S.left src.old)) result (S.left src.new) }
+    ensures reads { ReadsText (length read.items)
+        (with_left read.items (S.left src.old)) result (S.left src.new) }
     ensures within { HasAtMost (length read.items) result }
     ensures tells { TellsReads S.Source src.old src.new (result ≡ Text.ReadFault) }
 {

@@ -101,7 +101,10 @@ fn read_task(words: &RecordWords<'_>) -> Result<Entry, FieldFault>
     requires { length words.now ≡ 8 }
     ensures { ReadsFields task_form words.now result }
 {
-    fields!(words, _name: NAME, _place: NAME, earliest: TIME, latest: TIME, minutes: DURATION, teams: COUNT; else fault => fault);
+    fields!(
+        words, _name: NAME, _place: NAME, earliest: TIME, latest: TIME, minutes: DURATION, teams: COUNT;
+        else fault => fault
+    );
     let skills = read_skills(words, 7)?;
     Ok(Entry::Task {
         name: name_at(words, 1),

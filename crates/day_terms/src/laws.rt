@@ -186,11 +186,14 @@ pub fn state_goes_on()
     ensures none { (plans : List Jobs) → state_after plans [] ≡ start_with plans }
     ensures one_more { (plans : List Jobs) (entries : List Entry) (entry : Entry) →
         state_after plans (entries ++ entry ∷ []) ≡ after_entry (state_after plans entries) entry }
-    ensures later { (plans more : List Jobs) (entries : List Entry) → length plans ≡ count_by is_plan entries →
+    ensures later { (plans more : List Jobs) (entries : List Entry) →
+        length plans ≡ count_by is_plan entries →
         state_after (plans ++ more) entries ≡ record (state_after plans entries) { plans = more } }
-    ensures rounds { (plans more : List Jobs) (entries : List Entry) → length plans ≡ count_by is_plan entries →
+    ensures rounds { (plans more : List Jobs) (entries : List Entry) →
+        length plans ≡ count_by is_plan entries →
         rounds_of (plans ++ more) entries ≡ rounds_of plans entries }
-    ensures taken { (plans more : List Jobs) (entries : List Entry) → length plans ≡ count_by is_plan entries →
+    ensures taken { (plans more : List Jobs) (entries : List Entry) →
+        length plans ≡ count_by is_plan entries →
         AreTaken (start_with plans) entries → AreTaken (start_with (plans ++ more)) entries }
 {}
 
@@ -212,7 +215,8 @@ pub fn free_days_forbid_nothing()
 pub fn rounds_go_on()
     ensures none { (plans : List Jobs) → rounds_of plans [] ≡ [] }
     ensures appended { (plans : List Jobs) (front back : List Entry) →
-        rounds_of plans (front ++ back) ≡ rounds_of plans front ++ rounds_from (state_after plans front) back }
+        rounds_of plans (front ++ back) ≡
+        rounds_of plans front ++ rounds_from (state_after plans front) back }
     ensures one_more { (plans : List Jobs) (entries : List Entry) (entry : Entry) →
         rounds_of plans (entries ++ entry ∷ []) ≡
         rounds_of plans entries ++ round_at (state_after plans entries) entry }

@@ -6,7 +6,8 @@ use crew_terms::LAST_MINUTE;
 
 /// The number below 100 that two digits are.
 fn read_two(tens: u8, ones: u8) -> Option<u8>
-    ensures { MatchOption result ((n : ℕ) → n < 100 → tens ∷ ones ∷ [] ≢ two_digits n) (λ n. (n < 100) × (tens ∷ ones ∷ [] ≡ two_digits n)) }
+    ensures { MatchOption result ((n : ℕ) → n < 100 → tens ∷ ones ∷ [] ≢ two_digits n)
+        (λ n. (n < 100) × (tens ∷ ones ∷ [] ≡ two_digits n)) }
 {
     if !tens.is_ascii_digit() || !ones.is_ascii_digit() {
         return None;
@@ -17,7 +18,8 @@ fn read_two(tens: u8, ones: u8) -> Option<u8>
 /// The minutes that a clock shows: two digits, a colon, and two digits that are at most 59, so 0 to 5999.
 /// None exactly where the bytes are no such text.
 pub fn read_clock(bytes: &[u8]) -> Option<i64>
-    ensures exact { MatchOption result ((n : ℕ) → n < 6000 → bytes.now ≢ clock_text n) (λ z. (n : ℕ) × (n < 6000) × (z ≡ pos n) × (bytes.now ≡ clock_text n)) }
+    ensures exact { MatchOption result ((n : ℕ) → n < 6000 → bytes.now ≢ clock_text n)
+        (λ z. (n : ℕ) × (n < 6000) × (z ≡ pos n) × (bytes.now ≡ clock_text n)) }
     ensures back { (n : ℕ) → n < 6000 → bytes.now ≡ clock_text n → result ≡ Some (pos n) }
 {
     let [tens, ones, b':', last_tens, last_ones] = bytes else {

@@ -28,7 +28,9 @@ pub trait Words {
     /// The number whose canonical decimal the word with this number is; None exactly where it is that of no i64.
     fn number(&self, n: usize) -> Option<i64>
         requires { n < length (words self.now) }
-        ensures exact { MatchOption result ((z : ℤ) → FitsSigned w64 z → slice_index_or (words self.now) n [] ≢ signed_decimal z) (λ z. slice_index_or (words self.now) n [] ≡ signed_decimal z) };
+        ensures exact { MatchOption result
+            ((z : ℤ) → FitsSigned w64 z → slice_index_or (words self.now) n [] ≢ signed_decimal z)
+            (λ z. slice_index_or (words self.now) n [] ≡ signed_decimal z) };
 }
 
 /// A word of a line: the place of its first byte, the place after its last, and the number that it spells, if any.

@@ -61,7 +61,9 @@ pub struct Schema {
 #[inline(always)]
 fn read_as<W: Words>(kind: Kind, words: &W, place: usize) -> Option<i64>
     requires { place < length (W.words words.now) }
-    ensures { MatchOption result ((z : ℤ) → Spells kind (slice_index_or (W.words words.now) place []) z → ⊥) (λ z. Spells kind (slice_index_or (W.words words.now) place []) z) }
+    ensures { MatchOption result
+        ((z : ℤ) → Spells kind (slice_index_or (W.words words.now) place []) z → ⊥)
+        (λ z. Spells kind (slice_index_or (W.words words.now) place []) z) }
 {
     match kind {
         Kind::Number => words.number(place),
@@ -78,7 +80,9 @@ impl Field {
     #[inline(always)]
     fn read<W: Words>(&self, words: &W, place: usize) -> Result<i64, Cause>
         requires { place < length (W.words words.now) }
-        ensures { MatchResult result (λ z. Accepts self.now (slice_index_or (W.words words.now) place []) z) (λ cause. Refuses self.now (slice_index_or (W.words words.now) place []) cause) }
+        ensures { MatchResult result
+            (λ z. Accepts self.now (slice_index_or (W.words words.now) place []) z)
+            (λ cause. Refuses self.now (slice_index_or (W.words words.now) place []) cause) }
     {
         let Some(value) = read_as(self.kind, words, place) else {
             return Err(Cause::Spelling);
@@ -96,7 +100,8 @@ impl Field {
 pub fn read_at<W: Words>(words: &W, place: usize, field: &Field) -> Result<i64, FieldFault>
     requires { place < length (W.words words.now) }
     ensures exact { ReadsWord field.now (slice_index_or (W.words words.now) place []) place result }
-    ensures back { (z : ℤ) → Accepts field.now (slice_index_or (W.words words.now) place []) z → result ≡ Ok z }
+    ensures back { (z : ℤ) → Accepts field.now (slice_index_or (W.words words.now) place []) z →
+        result ≡ Ok z }
 {
     match field.read(words, place) {
         Ok(value) => Ok(value),
@@ -112,7 +117,8 @@ impl<const N: usize> Row<N> {
     #[inline(always)]
     pub fn read<W: Words>(&self, words: &W) -> Result<[i64; N], FieldFault>
         ensures exact { ReadsRow self.now.fields (W.words words.now) result }
-        ensures back { (values : List ℤ) → AreValues self.now.fields (W.words words.now) values → result ≡ Ok values }
+        ensures back { (values : List ℤ) → AreValues self.now.fields (W.words words.now) values →
+            result ≡ Ok values }
     {
         let count = words.count();
         if count <= N {
@@ -152,7 +158,10 @@ macro_rules! fields {
     ($words:expr, $($name:ident: $kind:ident $(($low:expr, $high:expr))?),+ $(,)?) => {
         let [$($name),+] = $crate::row!($($kind $(($low, $high))?),+).read($words)?;
     };
-    ($words:expr, $($name:ident: $kind:ident $(($low:expr, $high:expr))?),+ $(,)?; else $fault:ident => $answer:expr) => {
+    (
+        $words:expr, $($name:ident: $kind:ident $(($low:expr, $high:expr))?),+ $(,)?;
+        else $fault:ident => $answer:expr
+    ) => {
         let [$($name),+] = match $crate::row!($($kind $(($low, $high))?),+).read($words) {
             Ok(values) => values,
             Err($fault) => return Err($answer),

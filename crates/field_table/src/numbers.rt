@@ -46,7 +46,8 @@ fn read_long(bytes: &[u8], most: u64) -> Option<u64>
     requires most { most ≤ 2 ^ 63 }
     requires some { 0 < length bytes.now }
     requires plain { slice_index bytes.now 0 ≡ 48 → length bytes.now ≡ 1 }
-    ensures { MatchOption result ((n : ℕ) → n ≤ most → bytes.now ≢ decimal n) (λ n. (n ≤ most) × (bytes.now ≡ decimal n)) }
+    ensures { MatchOption result ((n : ℕ) → n ≤ most → bytes.now ≢ decimal n)
+        (λ n. (n ≤ most) × (bytes.now ≡ decimal n)) }
 {
     let mut n = 0u64;
     for b in bytes {
@@ -66,7 +67,8 @@ fn read_long(bytes: &[u8], most: u64) -> Option<u64>
 fn read_digits(bytes: &[u8], most: u64) -> Option<u64>
     requires least { 10 ^ 18 ≤ most }
     requires most { most ≤ 2 ^ 63 }
-    ensures { MatchOption result ((n : ℕ) → n ≤ most → bytes.now ≢ decimal n) (λ n. (n ≤ most) × (bytes.now ≡ decimal n)) }
+    ensures { MatchOption result ((n : ℕ) → n ≤ most → bytes.now ≢ decimal n)
+        (λ n. (n ≤ most) × (bytes.now ≡ decimal n)) }
 {
     if bytes.is_empty() {
         return None;
@@ -84,7 +86,8 @@ fn read_digits(bytes: &[u8], most: u64) -> Option<u64>
 
 /// The number below 0 whose decimal is `-` and these bytes.
 fn read_negative(bytes: &[u8]) -> Option<i64>
-    ensures { MatchOption result ((n : ℕ) → n < 2 ^ 63 → bytes.now ≢ decimal (suc n)) (λ z. (n : ℕ) × (n < 2 ^ 63) × (z ≡ negsuc n) × (bytes.now ≡ decimal (suc n))) }
+    ensures { MatchOption result ((n : ℕ) → n < 2 ^ 63 → bytes.now ≢ decimal (suc n))
+        (λ z. (n : ℕ) × (n < 2 ^ 63) × (z ≡ negsuc n) × (bytes.now ≡ decimal (suc n))) }
 {
     let n = read_digits(bytes, 1 << 63)?;
     if n == 0 {
@@ -96,7 +99,8 @@ fn read_negative(bytes: &[u8]) -> Option<i64>
 /// The number whose canonical decimal the bytes are: `0`, or digits that don't begin with 0, after `-`
 /// where the number is below 0. None exactly where they are the canonical decimal of no i64.
 pub fn read_number(bytes: &[u8]) -> Option<i64>
-    ensures exact { MatchOption result ((n : ℤ) → FitsSigned w64 n → bytes.now ≢ signed_decimal n) (λ n. bytes.now ≡ signed_decimal n) }
+    ensures exact { MatchOption result ((n : ℤ) → FitsSigned w64 n → bytes.now ≢ signed_decimal n)
+        (λ n. bytes.now ≡ signed_decimal n) }
     ensures back { (n : ℤ) → FitsSigned w64 n → bytes.now ≡ signed_decimal n → result ≡ Some n }
 {
     if bytes.is_empty() {

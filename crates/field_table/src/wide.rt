@@ -47,7 +47,8 @@ fn value_of(bytes: &[u8]) -> Option<i128>
 /// The number whose canonical decimal the bytes are: `0`, or digits that don't begin with 0, after `-` where the number
 /// is below 0. None exactly where they are the canonical decimal of no i128.
 pub fn read_wide(bytes: &[u8]) -> Option<i128>
-    ensures exact { MatchOption result ((z : ℤ) → FitsSigned w128 z → bytes.now ≢ signed_decimal z) (λ z. bytes.now ≡ signed_decimal z) }
+    ensures exact { MatchOption result ((z : ℤ) → FitsSigned w128 z → bytes.now ≢ signed_decimal z)
+        (λ z. bytes.now ≡ signed_decimal z) }
     ensures back { (z : ℤ) → FitsSigned w128 z → bytes.now ≡ signed_decimal z → result ≡ Some z }
 {
     let value = value_of(bytes)?;

@@ -63,7 +63,8 @@ impl Queue {
     /// which there are some 2^64, is told as such.
     pub fn put(&mut self, bound: i128, item: u32) -> Result<usize, AllocError>
         ensures fresh { IfOk result (λ key. Contains (keys_of self.old) key → ⊥) }
-        ensures last { IfOk result (λ key. self.new ≡ self.old ++ (key, record { bound = bound; item = item }) ∷ []) }
+        ensures last { IfOk result
+            (λ key. self.new ≡ self.old ++ (key, record { bound = bound; item = item }) ∷ []) }
         ensures err { OnErr result (self.new ≡ self.old) }
     {
         let age = self.next_age;
@@ -94,7 +95,8 @@ impl Queue {
 
     /// Takes what waits under the key; None exactly where nothing does.
     pub fn take(&mut self, key: usize) -> Option<(i128, u32)>
-        ensures taken { result ≡ option_map (λ waiting. (waiting.bound, waiting.item)) (found self.old key) }
+        ensures taken { result ≡
+            option_map (λ waiting. (waiting.bound, waiting.item)) (found self.old key) }
         ensures rest { self.new ≡ without self.old key }
     {
         match self.entries.try_remove(key) {

@@ -14,7 +14,8 @@ use std::test::Fail;
 /// A team of no skills, or two; and at the gates three tasks one after another, one that needs a skill, one that ends too
 /// late, and one for two teams.
 fn day_of(alloc: Global, teams: &[Team]) -> Result<Builder, FixtureFault>
-    ensures { IfOk result (λ day. (length day.places ≡ 4) × (day.teams ≡ teams.now) × (length day.tasks ≡ 6)) }
+    ensures { IfOk result
+        (λ day. (length day.places ≡ 4) × (day.teams ≡ teams.now) × (length day.tasks ≡ 6)) }
 {
     let tasks = [
         gate_task(b"A", 1, 420)?,

@@ -40,7 +40,8 @@ fn two_splits(alloc: Global, limits: &Limits<'_>) -> Result<Vec<Node>, Fail>
 /// closed leaf.
 fn chain(alloc: Global, limits: &Limits<'_>, splits: u32) -> Result<Vec<Node>, Fail>
     requires { splits ≤ 1000 }
-    ensures { IfOk result (λ nodes. IsPreorder nodes.items × (length nodes.items ≡ splits + splits + 1)) }
+    ensures { IfOk result
+        (λ nodes. IsPreorder nodes.items × (length nodes.items ≡ splits + splits + 1)) }
 {
     let mut nodes = Vec::new(alloc);
     for task in 0..splits {

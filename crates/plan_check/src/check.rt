@@ -21,7 +21,8 @@ fn keeps_frozen(instance: &Instance, plan: &Plan, j: u32) -> bool
 /// The first task of which the plan doesn't have the frozen job.
 fn first_unkept(instance: &Instance, plan: &Plan) -> Option<u32>
     requires { IsPlanOf instance.now plan.now }
-    ensures { MatchOption result ((j : ℕ) → KeepsFrozen instance.now plan.now j) (IsFirstUnkept instance.now plan.now) }
+    ensures { MatchOption result ((j : ℕ) → KeepsFrozen instance.now plan.now j)
+        (IsFirstUnkept instance.now plan.now) }
 {
     for j in 0..instance.tasks() as u32 {
         if !keeps_frozen(instance, plan, j) {

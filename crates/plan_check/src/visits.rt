@@ -14,7 +14,8 @@ use std::alloc::{AllocError, Global};
 /// number. In a legal plan no two of them begin together.
 pub fn tasks_of(alloc: Global, plan: &Plan, k: u32) -> Result<Vec<Visit>, AllocError>
     ensures tasks { IfOk result (λ visits. AreTasksOf plan.now k visits.items) }
-    ensures legal { (i : Problem) → IsLegal i plan.now → IfOk result (λ visits. AreVisitsOf plan.now k visits.items) }
+    ensures legal { (i : Problem) → IsLegal i plan.now →
+        IfOk result (λ visits. AreVisitsOf plan.now k visits.items) }
 {
     let mut turns = ArrayVec::new();
     fill_turns(plan, k, &mut turns);

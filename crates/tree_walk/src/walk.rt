@@ -86,7 +86,8 @@ impl Walk {
         requires spare { 1 ≤ limits.old.spare }
         ensures enters { Enters choice limits.old self.old limits.new self.new }
         ensures depth { self.new.depth ≡ self.old.depth }
-        ensures spare { limits.new.spare + length self.new.above ≡ limits.old.spare + length self.old.above }
+        ensures spare { limits.new.spare + length self.new.above ≡
+            limits.old.spare + length self.old.above }
         ensures instance { limits.new.limits.instance ≡ limits.old.limits.instance }
     {
         let first = Branch {
@@ -105,7 +106,8 @@ impl Walk {
         requires room { leaves_like is_closed self.old.seen + 1 < 2 ^ 32 }
         ensures leaves { LeavesLeaf is_closed limits.old self.old limits.new self.new result }
         ensures depth { self.new.depth ≡ self.old.depth }
-        ensures spare { limits.new.spare + length self.new.above ≡ limits.old.spare + length self.old.above }
+        ensures spare { limits.new.spare + length self.new.above ≡
+            limits.old.spare + length self.old.above }
         ensures instance { limits.new.limits.instance ≡ limits.old.limits.instance }
     {
         self.count_leaf(is_closed);

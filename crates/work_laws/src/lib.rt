@@ -26,9 +26,11 @@ pub fn first_clash_passes()
 /// A law: the task that is told as faulty is the one that the first fault of the plan names; where each task takes
 /// some minutes, as those within the limits do, none is told exactly where the plan is feasible.
 pub fn first_fault_is_told()
-    ensures fault { (i : Instance) (p : Plan) (told : PlanVerdict) → IsPlanOf i p → IsFeasibility i p told →
+    ensures fault { (i : Instance) (p : Plan) (told : PlanVerdict) → IsPlanOf i p →
+        IsFeasibility i p told →
         faulty_task i p ≡ task_named told }
-    ensures feasible { (i : Instance) (p : Plan) → AreParts i.places i.teams i.tasks → IsPlanOf i p →
+    ensures feasible { (i : Instance) (p : Plan) → AreParts i.places i.teams i.tasks →
+        IsPlanOf i p →
         (faulty_task i p ≡ None) ↔ IsFeasible i p }
 {
     good_jobs_pass();
