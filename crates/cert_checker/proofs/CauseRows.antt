@@ -53,8 +53,22 @@ with_sums tree s fs node room =
       depth = node.depth;
       spare = node.spare;
       unshown = node.unshown;
+      reader = node.reader;
       sums = room_of (limits_below root fs) root s (instance_below root fs) room;
     }
+
+-- the node stays where it is with another loose cause
+with_loose : (tree : TreeDraft) (loose : LooseDraft) (fs : List Above) → IsAtNode tree fs → IsAtNode (record tree { loose = loose }) fs
+with_loose tree loose fs node = record {
+  claimed = node.claimed;
+  over = node.over;
+  at = node.at;
+  depth = node.depth;
+  spare = node.spare;
+  unshown = node.unshown;
+  reader = node.reader;
+  sums = node.sums;
+}
 
 -- ---- overflows
 
@@ -71,11 +85,11 @@ none_read whole = record { whole = whole; parts = []; spare = [] }
 
 pub loose_begun : (tree : TreeDraft) (loose : LooseDraft) (s : ShareSums) (fs : List Above) → MaySplit tree loose.choice fs → IsNowWord (length tree.draft.value.base.instance.tasks) loose.now
     → 1 ≤ loose.whole → loose.whole < 2 ^ 127 → IsSharesOf (limits_below (root_limits tree.draft.value.base.instance) fs) loose.whole [] s
-    → IsInLoose (record tree { sums = s }) loose (none_read loose.whole) fs
+    → IsInLoose (record tree { loose = loose; sums = s }) (none_read loose.whole) fs
 loose_begun tree loose s fs may now some few sums =
     let n = limits_below (root_limits tree.draft.value.base.instance) fs in
     record {
-      may = record { node = with_sums tree s fs may.node (room_in n loose.whole [] s sums); room = record { splits = may.room.splits; depth = may.room.depth }; split = may.split };
+      may = record { node = with_sums (record tree { loose = loose }) s fs (with_loose tree loose fs may.node) (room_in n loose.whole [] s sums); room = record { splits = may.room.splits; depth = may.room.depth }; split = may.split };
       now = now;
       some = some;
       few = few;
@@ -96,7 +110,7 @@ summed tree rest s = record (rested tree rest) { sums = s }
 
 -- it is what is written back into its box and that of its draft
 pub summed_back : (tree held : TreeDraft) (draft : Held) (rest : Rest) (s : ShareSums) → held ≡ tree → draft ≡ held.draft.value
-    → ◌≡◌ {A = TreeDraft} (record { draft = with_value held.draft (record draft { limits = rest }); claimed = held.claimed; walk = held.walk; unshown = held.unshown; sums = s }) (summed tree rest s)
+    → ◌≡◌ {A = TreeDraft} (record held { draft = with_value held.draft (record draft { limits = rest }); sums = s }) (summed tree rest s)
 summed_back tree held draft rest s e f = ap (λ (t : TreeDraft). with_other t) (rested_back tree held draft rest e f)
   where
     with_other : TreeDraft → TreeDraft
@@ -107,16 +121,16 @@ pub column_is : (pool : List Route) (c : ℕ) (route : Route) → c < length poo
 column_is pool c route within is = is ∙ get_or_default pool c route (record { team = 0; visits = [] }) within
 
 module _ (tree : TreeDraft) (t : Trail) (rest : Rest) (woke : t ≡ trail_over tree.draft.value.base.instance tree.draft.value.limits)
-    (back : trail_over t.limits.instance rest ≡ t) (over : IsRestOver t.limits.instance rest) (loose : LooseDraft) (read : Shares) (fs : List Above) (h : IsInLoose tree loose read fs) where
+    (back : trail_over t.limits.instance rest ≡ t) (over : IsRestOver t.limits.instance rest) (read : Shares) (fs : List Above) (h : IsInLoose tree read fs) where
   -- with its limits at rest again the node may be split
-  pub may_rested : MaySplit (rested tree rest) loose.choice fs
+  pub may_rested : MaySplit (rested tree rest) tree.loose.choice fs
   may_rested = record { node = stays tree t rest woke back over fs h.may.node; room = record { splits = h.may.room.splits; depth = h.may.room.depth }; split = h.may.split }
 
   -- one more share is read
   pub share_read : (s : ShareSums) (column parts : ℕ) (route : Route) → route ≡ column_of tree.draft.value.pool column
       → IsRouteIn (limits_below (root_limits tree.draft.value.base.instance) fs) route
-      → IsSharesOf (limits_below (root_limits tree.draft.value.base.instance) fs) loose.whole (shares_in tree.draft.value.pool read ++ record { route = route; parts = parts } ∷ []) s
-      → IsInLoose (summed tree rest s) loose (record read { parts = read.parts ++ record { column = column; parts = parts } ∷ [] }) fs
+      → IsSharesOf (limits_below (root_limits tree.draft.value.base.instance) fs) tree.loose.whole (shares_in tree.draft.value.pool read ++ record { route = route; parts = parts } ∷ []) s
+      → IsInLoose (summed tree rest s) (record read { parts = read.parts ++ record { column = column; parts = parts } ∷ [] }) fs
   share_read s column parts route is legal sums =
       let pool = tree.draft.value.pool in
       let n = limits_below (root_limits tree.draft.value.base.instance) fs in
@@ -126,7 +140,7 @@ module _ (tree : TreeDraft) (t : Trail) (rest : Rest) (woke : t ≡ trail_over t
       ap (λ (r : Route). map (share_of pool) read.parts ++ record { route = r; parts = parts } ∷ []) is ∙ sym (map-append (share_of pool) read.parts (new ∷ [])) in
       record {
         may = record {
-          node = with_sums (rested tree rest) s fs may_rested.node (room_in n loose.whole (shares_in pool read ++ share ∷ []) s sums);
+          node = with_sums (rested tree rest) s fs may_rested.node (room_in n tree.loose.whole (shares_in pool read ++ share ∷ []) s sums);
           room = record { splits = h.may.room.splits; depth = h.may.room.depth };
           split = h.may.split;
         };
@@ -135,7 +149,7 @@ module _ (tree : TreeDraft) (t : Trail) (rest : Rest) (woke : t ≡ trail_over t
         few = h.few;
         whole = h.whole;
         routes = subst (All (λ (x : ShareOf). IsRouteIn n x.route)) all (All-append (λ (x : ShareOf). IsRouteIn n x.route) (shares_in pool read) (share ∷ []) h.routes (All-cons (λ (x : ShareOf). IsRouteIn n x.route) share [] legal (All-nil (λ (x : ShareOf). IsRouteIn n x.route))));
-        sums = subst (λ (xs : List ShareOf). IsSharesOf n loose.whole xs s) all sums;
+        sums = subst (λ (xs : List ShareOf). IsSharesOf n tree.loose.whole xs s) all sums;
       }
 
 -- what is judged of the shares is what the cause wants

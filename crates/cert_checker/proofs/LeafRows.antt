@@ -25,6 +25,7 @@ use Rattle.leaf_check.specs.declared.reader.LeafReader.{LeafReader}
 use Rattle.leaf_check.specs.declared.reader.LeafStep.TheVariants as steps
 use Rattle.tree_walk.specs.Way.{IsAt, IsLeaf}
 use Rattle.cert_checker.specs.Due.{HasLeafRoom, IsInLeaf, IsAtNode, IsStep, draft_of, site_of}
+use Rattle.cert_checker.specs.Rooms.{IsReaderFor}
 use Rattle.cert_checker.specs.declared.due.BegunDossier.{BegunDossier as Held}
 use Rattle.cert_checker.specs.declared.due.TreeDraft.{TreeDraft}
 use Rattle.cert_checker.specs.declared.due.Due.TheVariants.{End as EndLine}
@@ -62,8 +63,25 @@ rested tree rest = moved tree rest tree.walk tree.unshown
 
 -- it is what is written back into its box and that of its draft
 pub rested_back : (tree held : TreeDraft) (draft : Held) (rest : Rest) → held ≡ tree → draft ≡ held.draft.value
-    → ◌≡◌ {A = TreeDraft} (record { draft = with_value held.draft (record draft { limits = rest }); claimed = held.claimed; walk = held.walk; unshown = held.unshown; sums = held.sums }) (rested tree rest)
+    → ◌≡◌ {A = TreeDraft} (record held { draft = with_value held.draft (record draft { limits = rest }) }) (rested tree rest)
 rested_back tree held draft rest e f = written_back tree held draft rest held.walk held.unshown e f ∙ ap (λ (t : TreeDraft). moved tree rest t.walk t.unshown) e
+
+-- the same with this reader
+abbrev pub read_by : TreeDraft → Rest → LeafReader → TreeDraft
+read_by tree rest reader = record (rested tree rest) { reader = reader }
+
+-- the node stays where it is with another reader for its instance
+pub with_reader : (tree : TreeDraft) (reader : LeafReader) (fs : List Above) → IsAtNode tree fs → IsReaderFor tree.draft.value.base.instance reader → IsAtNode (record tree { reader = reader }) fs
+with_reader tree reader fs node ready = record {
+  claimed = node.claimed;
+  over = node.over;
+  at = node.at;
+  depth = node.depth;
+  spare = node.spare;
+  unshown = node.unshown;
+  reader = ready;
+  sums = node.sums;
+}
 
 -- the goal is that of the place
 pub goal_at : (tree : TreeDraft) (t : Trail) → t ≡ trail_over tree.draft.value.base.instance tree.draft.value.limits
@@ -78,11 +96,15 @@ module _ (tree : TreeDraft) (t : Trail) (rest : Rest) (woke : t ≡ trail_over t
   stays fs node = at_node tree t t tree.walk rest woke refl back over refl refl tree.unshown fs fs node
       (subst (λ x. IsAt (root_limits tree.draft.value.base.instance) x tree.walk fs) (sym woke) node.at) node.unshown
 
+  -- it stands there too with a reader that is ready for the node
+  pub read_on : (reader : LeafReader) (fs : List Above) → IsAtNode tree fs → IsReady t.limits reader → IsAtNode (read_by tree rest reader) fs
+  read_on reader fs node ready = with_reader (rested tree rest) reader fs (stays fs node) (t.limits, ap (λ (x : Trail). x.limits.instance) woke, ready)
+
   -- one more line of the leaf is due
-  pub in_leaf : (new : TreeDraft) → new ≡ rested tree rest → (is_closed : Bool) (reader : LeafReader) (fs : List Above) (next : Reading) → IsAtNode tree fs → HasLeafRoom tree is_closed
-      → IsReady t.limits reader → StandsFor (site_of tree fs is_closed) reader next → IsInLeaf new reader is_closed fs next
-  in_leaf new is is_closed reader fs next node room ready stands = subst (λ (x : TreeDraft). IsInLeaf x reader is_closed fs next) (sym is) (record {
-    node = stays fs node;
+  pub in_leaf : (new : TreeDraft) (is_closed : Bool) (reader : LeafReader) → new ≡ read_by tree rest reader → (fs : List Above) (next : Reading) → IsAtNode tree fs → HasLeafRoom tree is_closed
+      → IsReady t.limits reader → StandsFor (site_of tree fs is_closed) reader next → IsInLeaf new is_closed fs next
+  in_leaf new is_closed reader is fs next node room ready stands = subst (λ (x : TreeDraft). IsInLeaf x is_closed fs next) (sym is) (record {
+    node = read_on reader fs node ready;
     ready = subst (λ n. IsReady n reader) (limits_at tree t fs woke node) ready;
     room = room;
     stands = stands;
@@ -118,9 +140,9 @@ pub compared : (seen : TreeCounts) (held tree : TreeDraft) (same answer : Bool) 
 compared seen held tree same answer read test is = ap (λ (t : TreeDraft). same_numbers seen t.claimed) (sym read) ∙ sym test ∙ is
 
 -- the line is read, and the numbers are those that were claimed
-pub ends_whole : (tree : Box TreeDraft) (reader : Box LeafReader) (seen : TreeCounts) (ws : Words) → ws ≡ end_line → same_numbers seen tree.value.claimed ≡ true
-    → IsStep (EndLine tree reader seen) ws (Ok (Whole (record { tree = tree; counts = seen; reader = reader })))
-ends_whole tree reader seen ws is same = λ reading awaited.
+pub ends_whole : (tree : Box TreeDraft) (seen : TreeCounts) (ws : Words) → ws ≡ end_line → same_numbers seen tree.value.claimed ≡ true
+    → IsStep (EndLine tree seen) ws (Ok (Whole (record { tree = tree; counts = seen })))
+ends_whole tree seen ws is same = λ reading awaited.
     let b = draft_of tree.value.draft.value in
     let claimed = tree.value.claimed in
     let t = awaited.0 in
@@ -128,9 +150,9 @@ ends_whole tree reader seen ws is same = λ reading awaited.
     let row : end_row b claimed t ws (Ends d) = Holds is (Holds (counted seen claimed t awaited.1 same) (Finish refl)) in
     (d, subst (λ r. Says r ws (Ends d)) (sym awaited.3) row, record { tree = t; is = refl; counts = awaited.1; unshown = awaited.2; room = awaited.4 })
 
-pub ends_miscounted : (tree : Box TreeDraft) (reader : Box LeafReader) (seen : TreeCounts) (ws : Words) → ws ≡ end_line → same_numbers seen tree.value.claimed ≡ false
-    → IsStep (EndLine tree reader seen) ws (Err reasons.Count)
-ends_miscounted tree reader seen ws is differ = λ reading awaited.
+pub ends_miscounted : (tree : Box TreeDraft) (seen : TreeCounts) (ws : Words) → ws ≡ end_line → same_numbers seen tree.value.claimed ≡ false
+    → IsStep (EndLine tree seen) ws (Err reasons.Count)
+ends_miscounted tree seen ws is differ = λ reading awaited.
     let claimed = tree.value.claimed in
     let t = awaited.0 in
     let row : end_row (draft_of tree.value.draft.value) claimed t ws (Refuses reasons.Count) = Holds is (Fails (not_counted seen claimed t awaited.1 differ) refl) in

@@ -26,9 +26,8 @@ use Rattle.dossier_terms.specs.Apart.{not_both, pair_not_window}
 use Rattle.node_limits.specs.Trail.{Trail}
 use Rattle.node_limits.specs.Rest.{Rest, IsRestOver, trail_over}
 use Rattle.tree_walk.specs.Way.{Walked, IsAt, IsLeaf, LeavesLeaf, Enters, branch_of}
-use Rattle.leaf_check.specs.declared.reader.LeafReader.{LeafReader}
 use Rattle.cert_checker.specs.Due.{Awaits, HasLeafRoom, HasSplitLeft, IsAtNode, IsStep, Tells, draft_of, unshown_above}
-use Rattle.cert_checker.specs.Rooms.{IsReaderFor, IsRoomFor}
+use Rattle.cert_checker.specs.Rooms.{IsRoomFor}
 use Rattle.cert_checker.specs.declared.due.BegunDossier.{BegunDossier as Held}
 use Rattle.cert_checker.specs.declared.due.TreeDraft.{TreeDraft}
 use Rattle.cert_checker.specs.declared.due.Due.TheVariants.{Node as NodeDue, End as EndDue}
@@ -39,16 +38,16 @@ use Rattle.cert_checker.proofs.Steps.{tells_row}
 
 -- the tree where the walk went on and the limits with it, and so many splits have no cause that is shown
 abbrev pub moved : TreeDraft → Rest → Walked → ℕ → TreeDraft
-moved tree rest to unshown = record { draft = with_value tree.draft (record tree.draft.value { limits = rest }); claimed = tree.claimed; walk = to; unshown = unshown; sums = tree.sums }
+moved tree rest to unshown = record tree { draft = with_value tree.draft (record tree.draft.value { limits = rest }); walk = to; unshown = unshown }
 
 -- it is what is written back into its box and that of its draft
 pub written_back : (tree held : TreeDraft) (draft : Held) (rest : Rest) (to : Walked) (unshown : ℕ) → held ≡ tree → draft ≡ held.draft.value
-    → ◌≡◌ {A = TreeDraft} (record { draft = with_value held.draft (record draft { limits = rest }); claimed = held.claimed; walk = to; unshown = unshown; sums = held.sums }) (moved tree rest to unshown)
+    → ◌≡◌ {A = TreeDraft} (record held { draft = with_value held.draft (record draft { limits = rest }); walk = to; unshown = unshown }) (moved tree rest to unshown)
 written_back tree held draft rest to unshown e f =
     ap (λ (d : Held). with_draft held d) f ∙ ap (λ (t : TreeDraft). moved t rest to unshown) e
   where
     with_draft : TreeDraft → Held → TreeDraft
-    with_draft t d = record { draft = with_value t.draft (record d { limits = rest }); claimed = t.claimed; walk = to; unshown = unshown; sums = t.sums }
+    with_draft t d = record t { draft = with_value t.draft (record d { limits = rest }); walk = to; unshown = unshown }
 
 -- ---- of how many splits no cause is shown
 
@@ -78,8 +77,8 @@ taken_woke tree held draft taken t e f took woke =
     woke ∙ ap (trail_over draft.base.instance) took ∙ ap (λ (d : Held). trail_over d.base.instance d.limits) (f ∙ ap (λ (x : TreeDraft). x.draft.value) e)
 
 -- a node of the tree is due, and this is the state of the table
-abbrev pub IsDueAt : TreeDraft → Box LeafReader → Reading → Type 0
-IsDueAt tree reader r = (above : List Above) × IsAtNode tree above × IsReaderFor tree.draft.value.base.instance reader.value × (r ≡ Nodes (draft_of tree.draft.value) tree.claimed above)
+abbrev pub IsDueAt : TreeDraft → Reading → Type 0
+IsDueAt tree r = (above : List Above) × IsAtNode tree above × (r ≡ Nodes (draft_of tree.draft.value) tree.claimed above)
 
 module _ (tree : TreeDraft) (old new : Trail) (to : Walked) (rest : Rest)
     (woke : old ≡ trail_over tree.draft.value.base.instance tree.draft.value.limits) (same : new.limits.instance ≡ old.limits.instance)
@@ -100,6 +99,7 @@ module _ (tree : TreeDraft) (old new : Trail) (to : Walked) (rest : Rest)
         depth = depth ∙ node.depth;
         spare = omega arith;
         unshown = counted;
+        reader = node.reader;
         sums = node.sums;
         over = subst (λ x. IsRestOver x rest) of_instance over;
         at = subst (λ t. IsAt (root_limits i) t to gs) (sym (subst (λ x. trail_over x rest ≡ new) of_instance back)) at;
@@ -109,39 +109,39 @@ module _ (tree : TreeDraft) (old new : Trail) (to : Walked) (rest : Rest)
   woken fs node = subst (λ t. IsAt (root_limits tree.draft.value.base.instance) t tree.walk fs) (sym woke) node.at
 
   -- past a leaf the walk stands at the node that is due
-  pub left_at : (box : Box TreeDraft) → box.value ≡ moved tree rest to unshown → unshown ≡ tree.unshown → (reader : Box LeafReader) (is_closed : Bool) → LeavesLeaf is_closed old tree.walk new to false
-      → IsReaderFor tree.draft.value.base.instance reader.value → (fs : List Above) (claim : Claim Leaf) → IsAtNode tree fs → IsLeaf is_closed claim
-      → Awaits (NodeDue box reader) (node_done (draft_of tree.draft.value) tree.claimed fs (LeafNode claim))
-  left_at box is same_unshown reader is_closed leaves for_tree fs claim node kind =
+  pub left_at : (box : Box TreeDraft) → box.value ≡ moved tree rest to unshown → unshown ≡ tree.unshown → (is_closed : Bool) → LeavesLeaf is_closed old tree.walk new to false
+      → (fs : List Above) (claim : Claim Leaf) → IsAtNode tree fs → IsLeaf is_closed claim
+      → Awaits (NodeDue box) (node_done (draft_of tree.draft.value) tree.claimed fs (LeafNode claim))
+  left_at box is same_unshown is_closed leaves fs claim node kind =
       let p = leaves (root_limits tree.draft.value.base.instance) fs claim (draft_of tree.draft.value) tree.claimed (woken fs node) kind in
       let kept : unshown_above p.0 ≡ unshown_above fs + 0 = nodes_keep (draft_of tree.draft.value) tree.claimed fs (LeafNode claim) p.0 p.1 in
       let had = node.unshown in
-      subst (λ t. IsDueAt t reader (node_done (draft_of tree.draft.value) tree.claimed fs (LeafNode claim))) (sym is) (p.0, at_node fs p.0 node p.2 (omega arith), for_tree, p.1)
+      subst (λ t. IsDueAt t (node_done (draft_of tree.draft.value) tree.claimed fs (LeafNode claim))) (sym is) (p.0, at_node fs p.0 node p.2 (omega arith), p.1)
 
   -- below a split the walk stands in its first child
-  pub entered_at : (box : Box TreeDraft) → box.value ≡ moved tree rest to unshown → (more : ℕ) → unshown ≡ tree.unshown + more → (reader : Box LeafReader) (choice : Choice) → Enters choice old tree.walk new to
-      → IsReaderFor tree.draft.value.base.instance reader.value → (fs : List Above) (cause : Cause) → IsAtNode tree fs → unshown_in cause ≡ more
-      → Awaits (NodeDue box reader) (split_done (draft_of tree.draft.value) tree.claimed fs (record { choice = choice; cause = cause }))
-  entered_at box is more grown reader choice enters for_tree fs cause node of_cause =
+  pub entered_at : (box : Box TreeDraft) → box.value ≡ moved tree rest to unshown → (more : ℕ) → unshown ≡ tree.unshown + more → (choice : Choice) → Enters choice old tree.walk new to
+      → (fs : List Above) (cause : Cause) → IsAtNode tree fs → unshown_in cause ≡ more
+      → Awaits (NodeDue box) (split_done (draft_of tree.draft.value) tree.claimed fs (record { choice = choice; cause = cause }))
+  entered_at box is more grown choice enters fs cause node of_cause =
       let had = node.unshown in
       let gs = InFirst (record { choice = choice; cause = cause }) ∷ fs in
-      subst (λ t. IsDueAt t reader (Nodes (draft_of tree.draft.value) tree.claimed gs)) (sym is)
-      (gs, at_node fs gs node (enters (root_limits tree.draft.value.base.instance) fs cause (woken fs node)) (omega arith), for_tree, refl)
+      subst (λ t. IsDueAt t (Nodes (draft_of tree.draft.value) tree.claimed gs)) (sym is)
+      (gs, at_node fs gs node (enters (root_limits tree.draft.value.base.instance) fs cause (woken fs node)) (omega arith), refl)
 
 -- past the last leaf the whole tree is seen
-pub ended_at : (tree : TreeDraft) (old new : Trail) (to : Walked) (rest : Rest) (box : Box TreeDraft) (reader : Box LeafReader) (seen : TreeCounts) (is_closed : Bool)
+pub ended_at : (tree : TreeDraft) (old new : Trail) (to : Walked) (rest : Rest) (box : Box TreeDraft) (seen : TreeCounts) (is_closed : Bool)
     → old ≡ trail_over tree.draft.value.base.instance tree.draft.value.limits → LeavesLeaf is_closed old tree.walk new to true
-    → box.value ≡ moved tree rest to tree.unshown → seen ≡ to.seen → IsReaderFor tree.draft.value.base.instance reader.value
+    → box.value ≡ moved tree rest to tree.unshown → seen ≡ to.seen
     → (fs : List Above) (claim : Claim Leaf) → IsAtNode tree fs → IsLeaf is_closed claim
-    → Awaits (EndDue box reader seen) (node_done (draft_of tree.draft.value) tree.claimed fs (LeafNode claim))
-ended_at tree old new to rest box reader seen is_closed woke leaves is saw ready fs claim node kind =
+    → Awaits (EndDue box seen) (node_done (draft_of tree.draft.value) tree.claimed fs (LeafNode claim))
+ended_at tree old new to rest box seen is_closed woke leaves is saw fs claim node kind =
     let at : IsAt (root_limits tree.draft.value.base.instance) old tree.walk fs = subst (λ t. IsAt (root_limits tree.draft.value.base.instance) t tree.walk fs) (sym woke) node.at in
     let p = leaves (root_limits tree.draft.value.base.instance) fs claim (draft_of tree.draft.value) tree.claimed at kind in
     let kept : unshown p.0 ≡ unshown_above fs + 0 = ends_keep (draft_of tree.draft.value) tree.claimed fs (LeafNode claim) p.0 p.1 in
     let had = node.unshown in
     let same : tree.unshown ≡ unshown p.0 = omega arith in
-    let room : IsRoomFor box.value.draft.value.base.instance reader.value box.value.sums =
-    subst (λ (t : TreeDraft). IsRoomFor t.draft.value.base.instance reader.value t.sums) (sym is) (record { leaves = ready; shares = node.sums }) in
+    let room : IsRoomFor box.value.draft.value.base.instance box.value.reader box.value.sums =
+    subst (λ (t : TreeDraft). IsRoomFor t.draft.value.base.instance t.reader t.sums) (sym is) (record { leaves = node.reader; shares = node.sums }) in
     (p.0, saw ∙ p.2.seen, ap (λ (t : TreeDraft). t.unshown) is ∙ same, p.1 ∙ ap (λ (t : TreeDraft). Ends (draft_of t.draft.value) t.claimed p.0) (sym is), room)
 
 -- the limits that woke are those of the node
@@ -253,12 +253,12 @@ closed_says b c fs ws said is rest = leaf_says b c fs ws said _ is (λ w p. Else
 -- ---- the step of a line of a node
 
 -- a node is due, and the step is what its row says
-pub node_step : (tree : Box TreeDraft) (reader : Box LeafReader) (ws : Words) (step : Result Step Reason)
-    → ((fs : List Above) → IsAtNode tree.value fs → Tells (node_row (draft_of tree.value.draft.value) tree.value.claimed fs ws) step) → IsStep (NodeDue tree reader) ws step
-node_step tree reader ws step f = λ reading awaited. subst (λ r. Tells (Says r ws) step) (sym awaited.3) (f awaited.0 awaited.1)
+pub node_step : (tree : Box TreeDraft) (ws : Words) (step : Result Step Reason)
+    → ((fs : List Above) → IsAtNode tree.value fs → Tells (node_row (draft_of tree.value.draft.value) tree.value.claimed fs ws) step) → IsStep (NodeDue tree) ws step
+node_step tree ws step f = λ reading awaited. subst (λ r. Tells (Says r ws) step) (sym awaited.2) (f awaited.0 awaited.1)
 
 -- what some rules tell behind the words of a line, its row tells
-pub node_rest : (tree : Box TreeDraft) (reader : Box LeafReader) (ws : Words) (step : Result Step Reason) (Rules : List Above → Answer → Type 0)
+pub node_rest : (tree : Box TreeDraft) (ws : Words) (step : Result Step Reason) (Rules : List Above → Answer → Type 0)
     → ((fs : List Above) (said : Answer) → Rules fs said → node_row (draft_of tree.value.draft.value) tree.value.claimed fs ws said)
-    → ((fs : List Above) → IsAtNode tree.value fs → Tells (Rules fs) step) → IsStep (NodeDue tree reader) ws step
-node_rest tree reader ws step Rules row told = node_step tree reader ws step (λ fs node. tells_row (Rules fs) (node_row (draft_of tree.value.draft.value) tree.value.claimed fs ws) step (row fs) (told fs node))
+    → ((fs : List Above) → IsAtNode tree.value fs → Tells (Rules fs) step) → IsStep (NodeDue tree) ws step
+node_rest tree ws step Rules row told = node_step tree ws step (λ fs node. tells_row (Rules fs) (node_row (draft_of tree.value.draft.value) tree.value.claimed fs ws) step (row fs) (told fs node))

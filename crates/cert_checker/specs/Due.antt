@@ -15,7 +15,6 @@ use Rattle.node_limits.specs.Rest.{Rest, IsRestOver, limits_over, trail_over}
 use Rattle.head_check.specs.Head.{Holds as HoldsHead, IsLineDue, reading_of}
 use Rattle.leaf_check.specs.Reader.{IsReady, StandsFor}
 use Rattle.cert_checker.specs.Rooms.{IsReaderFor, IsRoomFor}
-use Rattle.leaf_check.specs.declared.reader.LeafReader.{LeafReader}
 use Rattle.crew_terms.specs.Tree.{CanSplit}
 use Rattle.crew_terms.specs.declared.Choice.{Choice}
 use Rattle.crew_terms.specs.declared.Choice.TheVariants as choices
@@ -25,7 +24,6 @@ use Rattle.tree_walk.specs.Way.{IsAt, leaves_like}
 use Rattle.cert_checker.specs.declared.due.BegunDossier.{BegunDossier}
 use Rattle.cert_checker.specs.declared.due.TreeDraft.{TreeDraft}
 use Rattle.cert_checker.specs.declared.due.EndedDossier.{EndedDossier}
-use Rattle.cert_checker.specs.declared.due.LooseDraft.{LooseDraft}
 use Rattle.cert_checker.specs.declared.due.Due.{Due}
 use Rattle.cert_checker.specs.declared.due.Due.TheVariants.{Head, Pool, Route, Plan, Job, Tree, Node, Why, Share, Spare, Leaf, End}
 use Rattle.cert_checker.specs.declared.due.Step.{Step}
@@ -55,7 +53,7 @@ unshown_above (InFirst split ∷ above) = unshown_in split.cause + unshown_above
 unshown_above (InSecond split first ∷ above) = unshown_in split.cause + unshown first + unshown_above above
 
 -- the walk stands at the node below these splits, the limits are its, and both have room as deep as is claimed; the splits so
--- far of which no cause is shown are counted, and there is room for the shares of one more cause
+-- far of which no cause is shown are counted, and there is room for one more leaf and for the shares of one more cause
 pub record IsAtNode (tree : TreeDraft) (above : List Above) : Type 0 where
   pub claimed : IsCounts tree.claimed
   pub over : IsRestOver tree.draft.value.base.instance tree.draft.value.limits
@@ -63,6 +61,7 @@ pub record IsAtNode (tree : TreeDraft) (above : List Above) : Type 0 where
   pub depth : tree.walk.depth ≡ tree.claimed.depth
   pub spare : tree.claimed.depth ≤ tree.draft.value.limits.spare + length tree.walk.above
   pub unshown : tree.unshown ≡ unshown_above above
+  pub reader : IsReaderFor tree.draft.value.base.instance tree.reader
   pub sums : HasRoom (root_limits tree.draft.value.base.instance) tree.sums
 
 -- the walk stands at a node
@@ -89,24 +88,28 @@ pub record MaySplit (tree : TreeDraft) (choice : Choice) (above : List Above) : 
 abbrev pub split_site : TreeDraft → List Above → Choice → SplitSite
 split_site tree above choice = record { begun = draft_of tree.draft.value; counts = tree.claimed; above = above; choice = choice }
 
+-- where the node below these splits is split as its loose cause has it
+abbrev pub loose_site : TreeDraft → List Above → SplitSite
+loose_site tree above = split_site tree above tree.loose.choice
+
 -- the shares that are read of a cause
 abbrev pub shares_in : List TeamRoute → Shares → List ShareOf
 shares_in pool read = map (share_of pool) read.parts
 
 -- so much is read of the loose cause of the node's split: the shares are of routes in the node, before its split, and their
 -- sums are kept
-pub record IsInLoose (tree : TreeDraft) (loose : LooseDraft) (read : Shares) (above : List Above) : Type 0 where
-  pub may : MaySplit tree loose.choice above
-  pub now : IsNowWord (length tree.draft.value.base.instance.tasks) loose.now
-  pub some : 1 ≤ loose.whole
-  pub few : loose.whole < 2 ^ 127
-  pub whole : read.whole ≡ loose.whole
+pub record IsInLoose (tree : TreeDraft) (read : Shares) (above : List Above) : Type 0 where
+  pub may : MaySplit tree tree.loose.choice above
+  pub now : IsNowWord (length tree.draft.value.base.instance.tasks) tree.loose.now
+  pub some : 1 ≤ tree.loose.whole
+  pub few : tree.loose.whole < 2 ^ 127
+  pub whole : read.whole ≡ tree.loose.whole
   pub routes : All (λ (s : ShareOf). IsRouteIn (limits_below (root_limits tree.draft.value.base.instance) above) s.route) (shares_in tree.draft.value.pool read)
-  pub sums : IsSharesOf (limits_below (root_limits tree.draft.value.base.instance) above) loose.whole (shares_in tree.draft.value.pool read) tree.sums
+  pub sums : IsSharesOf (limits_below (root_limits tree.draft.value.base.instance) above) tree.loose.whole (shares_in tree.draft.value.pool read) tree.sums
 
 -- the same of some shares
-abbrev pub IsLooseRead : TreeDraft → LooseDraft → Type 0
-IsLooseRead tree loose = (above : List Above) × (read : Shares) × IsInLoose tree loose read above
+abbrev pub IsLooseRead : TreeDraft → Type 0
+IsLooseRead tree = (above : List Above) × (read : Shares) × IsInLoose tree read above
 
 abbrev pub HasLeafRoom : TreeDraft → Bool → Type 0
 HasLeafRoom tree is_closed = leaves_like is_closed tree.walk.seen < leaves_like is_closed tree.claimed
@@ -116,11 +119,11 @@ abbrev pub site_of : TreeDraft → List Above → Bool → LeafSite
 site_of tree above is_closed = record { begun = draft_of tree.draft.value; counts = tree.claimed; above = above; is_closed = is_closed }
 
 -- the reader stands for what has been read of the leaf below these splits
-pub record IsInLeaf (tree : TreeDraft) (reader : LeafReader) (is_closed : Bool) (above : List Above) (reading : Reading) : Type 0 where
+pub record IsInLeaf (tree : TreeDraft) (is_closed : Bool) (above : List Above) (reading : Reading) : Type 0 where
   pub node : IsAtNode tree above
-  pub ready : IsReady (limits_of (site_of tree above is_closed)) reader
+  pub ready : IsReady (limits_of (site_of tree above is_closed)) tree.reader
   pub room : HasLeafRoom tree is_closed
-  pub stands : StandsFor (site_of tree above is_closed) reader reading
+  pub stands : StandsFor (site_of tree above is_closed) tree.reader reading
 
 -- what is kept stands for this state of the table of lines. It is that state but for the numbers of the leaves, of
 -- which no more is kept than the next lines need.
@@ -131,25 +134,22 @@ Awaits (Route b more) r = IsBegun b.value × (r ≡ Routes (draft_of b.value) mo
 Awaits (Plan b) r = IsBegun b.value × (r ≡ Plans (draft_of b.value))
 Awaits (Job b more from) r = IsBegun b.value × (r ≡ Jobs (draft_of b.value) more from)
 Awaits (Tree b) r = IsRoot b.value.base.instance b.value.limits × (r ≡ Trees (draft_of b.value))
-Awaits (Node tree reader) r = (above : List Above) × IsAtNode tree.value above × IsReaderFor tree.value.draft.value.base.instance reader.value × (r ≡ Nodes (draft_of tree.value.draft.value) tree.value.claimed above)
-Awaits (Why tree reader choice) r = (above : List Above) × MaySplit tree.value choice above × IsReaderFor tree.value.draft.value.base.instance reader.value
-    × (r ≡ Whys (split_site tree.value above choice))
-Awaits (Share tree reader loose more from) r = (above : List Above) × (read : Shares) × IsInLoose tree.value loose read above × IsReaderFor tree.value.draft.value.base.instance reader.value
-    × (r ≡ Parts (split_site tree.value above loose.choice) loose.now read more from)
-Awaits (Spare tree reader loose) r = (above : List Above) × (read : Shares) × IsInLoose tree.value loose read above × IsReaderFor tree.value.draft.value.base.instance reader.value
-    × (r ≡ Spares (split_site tree.value above loose.choice) loose.now read)
-Awaits (Leaf tree reader is_closed) r = (above : List Above) × IsInLeaf tree.value reader.value is_closed above r
-Awaits (End tree reader seen) r = (t : Written) × (seen ≡ counts_of t) × (tree.value.unshown ≡ unshown t) × (r ≡ EndDue (draft_of tree.value.draft.value) tree.value.claimed t)
-    × IsRoomFor tree.value.draft.value.base.instance reader.value tree.value.sums
+Awaits (Node tree) r = (above : List Above) × IsAtNode tree.value above × (r ≡ Nodes (draft_of tree.value.draft.value) tree.value.claimed above)
+Awaits (Why tree choice) r = (above : List Above) × MaySplit tree.value choice above × (r ≡ Whys (split_site tree.value above choice))
+Awaits (Share tree more from) r = (above : List Above) × (read : Shares) × IsInLoose tree.value read above × (r ≡ Parts (loose_site tree.value above) tree.value.loose.now read more from)
+Awaits (Spare tree) r = (above : List Above) × (read : Shares) × IsInLoose tree.value read above × (r ≡ Spares (loose_site tree.value above) tree.value.loose.now read)
+Awaits (Leaf tree is_closed) r = (above : List Above) × IsInLeaf tree.value is_closed above r
+Awaits (End tree seen) r = (t : Written) × (seen ≡ counts_of t) × (tree.value.unshown ≡ unshown t) × (r ≡ EndDue (draft_of tree.value.draft.value) tree.value.claimed t)
+    × IsRoomFor tree.value.draft.value.base.instance tree.value.reader tree.value.sums
 
 -- the line that is due is one of a tree
 abbrev pub IsOfTree : Due → Type 0
-IsOfTree (Node tree reader) = Unit {0}
-IsOfTree (Why tree reader choice) = Unit {0}
-IsOfTree (Share tree reader loose more from) = Unit {0}
-IsOfTree (Spare tree reader loose) = Unit {0}
-IsOfTree (Leaf tree reader is_closed) = Unit {0}
-IsOfTree (End tree reader seen) = Unit {0}
+IsOfTree (Node tree) = Unit {0}
+IsOfTree (Why tree choice) = Unit {0}
+IsOfTree (Share tree more from) = Unit {0}
+IsOfTree (Spare tree) = Unit {0}
+IsOfTree (Leaf tree is_closed) = Unit {0}
+IsOfTree (End tree seen) = Unit {0}
 IsOfTree _ = ⊥
 
 -- what is kept stands for some state of the table
@@ -162,7 +162,7 @@ pub record IsEndOf (ended : EndedDossier) (d : Dossier) : Type 0 where
   pub is : d ≡ whole (draft_of ended.tree.value.draft.value) tree
   pub counts : ended.counts ≡ counts_of tree
   pub unshown : ended.tree.value.unshown ≡ unshown tree
-  pub room : IsRoomFor ended.tree.value.draft.value.base.instance ended.reader.value ended.tree.value.sums
+  pub room : IsRoomFor ended.tree.value.draft.value.base.instance ended.tree.value.reader ended.tree.value.sums
 
 -- the step, or the reason, is what these rules say, and what is kept stands for what they lead to
 abbrev pub Tells : (Answer → Type 0) → Result Step Reason → Type 0

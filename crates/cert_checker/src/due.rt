@@ -37,7 +37,11 @@ pub struct TreeDraft {
     pub walk: Walk,
     /// Of how many of the splits so far no cause is shown.
     pub unshown: u32,
-    /// The sums of the shares of the cause that is being read.
+    /// What reads the leaves with prices.
+    pub reader: LeafReader,
+    /// The loose cause whose shares are read, or that was read last.
+    pub loose: LooseDraft,
+    /// The sums of its shares.
     pub sums: ShareSums,
 }
 
@@ -52,6 +56,13 @@ pub struct LooseDraft {
     pub whole: u128,
 }
 
+/// What stands for the loose cause that was read last, where none was.
+pub const NO_LOOSE: LooseDraft = LooseDraft {
+    choice: Choice::Window { task: 0, cut: 0 },
+    now: 0,
+    whole: 1,
+};
+
 /// A whole dossier, with the room of its tree.
 #[derive(Drop)]
 pub struct EndedDossier {
@@ -59,8 +70,6 @@ pub struct EndedDossier {
     pub tree: Box<TreeDraft>,
     /// The numbers of the tree.
     pub counts: TreeCounts,
-    /// What has read the leaves.
-    pub reader: Box<LeafReader>,
 }
 
 /// The line that is due, with what was read; `more` lines of its kind come after it.
@@ -95,20 +104,15 @@ pub enum Due {
     /// The line of a node: `window`, `pair` or `leaf`.
     Node {
         tree: Box<TreeDraft>,
-        /// What reads the leaves with prices.
-        reader: Box<LeafReader>,
     },
     /// The line `why` of a node that is split so.
     Why {
         tree: Box<TreeDraft>,
-        reader: Box<LeafReader>,
         choice: Choice,
     },
     /// A line `share` of a loose cause.
     Share {
         tree: Box<TreeDraft>,
-        reader: Box<LeafReader>,
-        loose: LooseDraft,
         more: u64,
         /// The least column that the line may be of: the one after that of the line before.
         from: u64,
@@ -116,20 +120,16 @@ pub enum Due {
     /// The line `spare` of a loose cause.
     Spare {
         tree: Box<TreeDraft>,
-        reader: Box<LeafReader>,
-        loose: LooseDraft,
     },
     /// A line of a leaf that has prices: `price`, `extra`, `worth`, and `phi` or `steps`.
     Leaf {
         tree: Box<TreeDraft>,
-        reader: Box<LeafReader>,
         /// Whether the leaf began with the line `leaf closed`.
         is_closed: bool,
     },
     /// The line `end`.
     End {
         tree: Box<TreeDraft>,
-        reader: Box<LeafReader>,
         /// The numbers of the tree that was read.
         seen: TreeCounts,
     },

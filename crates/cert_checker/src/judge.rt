@@ -60,29 +60,11 @@ pub fn judge(
         Due::Plan { draft } => Ok(plan_line(draft, words)?),
         Due::Job { draft, more, from } => job_line(alloc, draft, more, from, words),
         Due::Tree { draft } => tree_line(alloc, room, draft, words),
-        Due::Node { tree, reader } => Ok(node_line(alloc, tree, reader, words)?),
-        Due::Why {
-            tree,
-            reader,
-            choice,
-        } => Ok(why_line(alloc, tree, reader, choice, words)?),
-        Due::Share {
-            tree,
-            reader,
-            loose,
-            more,
-            from,
-        } => Ok(share_line(alloc, tree, reader, loose, more, from, words)?),
-        Due::Spare {
-            tree,
-            reader,
-            loose,
-        } => Ok(spare_line(alloc, tree, reader, loose, words)?),
-        Due::Leaf {
-            tree,
-            reader,
-            is_closed,
-        } => Ok(number_line(alloc, tree, reader, is_closed, words)?),
-        Due::End { tree, reader, seen } => Ok(end_line(tree, reader, seen, words)?),
+        Due::Node { tree } => Ok(node_line(alloc, tree, words)?),
+        Due::Why { tree, choice } => Ok(why_line(alloc, tree, choice, words)?),
+        Due::Share { tree, more, from } => Ok(share_line(alloc, tree, more, from, words)?),
+        Due::Spare { tree } => Ok(spare_line(alloc, tree, words)?),
+        Due::Leaf { tree, is_closed } => Ok(number_line(alloc, tree, is_closed, words)?),
+        Due::End { tree, seen } => Ok(end_line(tree, seen, words)?),
     }
 }

@@ -8,7 +8,7 @@ use crew_instance::unassigned;
 use crew_terms::TreeCounts;
 use dossier_terms::Reason;
 use field_table::LineWords;
-use leaf_check::{Goal, LeafReader, LeafStep};
+use leaf_check::{Goal, LeafStep};
 use node_limits::Limits;
 use std::alloc::Global;
 
@@ -16,14 +16,14 @@ use std::alloc::Global;
 pub fn number_line(
     alloc: Global,
     mut tree: Box<TreeDraft>,
-    mut reader: Box<LeafReader>,
     is_closed: bool,
     words: LineWords<'_>,
 ) -> Result<Step, Reason>
-    requires { IsAwaited (Due.Leaf tree reader is_closed) }
-    ensures { IsStep (Due.Leaf tree reader is_closed) words.entry result }
+    requires { IsAwaited (Due.Leaf tree is_closed) }
+    ensures { IsStep (Due.Leaf tree is_closed) words.entry result }
 {
-    let draft = &mut *tree.draft;
+    let held = &mut *tree;
+    let draft = &mut *held.draft;
     let goal = Goal {
         form: draft.base.form,
         bound: draft.bound,
@@ -31,36 +31,28 @@ pub fn number_line(
         is_closed,
     };
     let limits = Limits::wake(&draft.base.instance, draft.limits.take(alloc));
-    let step = reader.line(&limits, goal, words)?;
+    let step = held.reader.line(&limits, goal, words)?;
     draft.limits = limits.rest();
     match step {
-        LeafStep::More => Ok(Step::More(Due::Leaf {
-            tree,
-            reader,
-            is_closed,
-        })),
-        LeafStep::Done => Ok(Step::More(leave(alloc, tree, reader, is_closed))),
+        LeafStep::More => Ok(Step::More(Due::Leaf { tree, is_closed })),
+        LeafStep::Done => Ok(Step::More(leave(alloc, tree, is_closed))),
     }
 }
 
 /// The line `end`.
 pub fn end_line(
     tree: Box<TreeDraft>,
-    reader: Box<LeafReader>,
     seen: TreeCounts,
     words: LineWords<'_>,
 ) -> Result<Step, Reason>
-    requires { IsAwaited (Due.End tree reader seen) }
-    ensures { IsStep (Due.End tree reader seen) words.entry result }
+    requires { IsAwaited (Due.End tree seen) }
+    ensures { IsStep (Due.End tree seen) words.entry result }
 {
     fault_is_refused();
     read_end(words)?;
     if seen == tree.claimed {
-        Ok(Step::Whole(EndedDossier {
-            tree,
-            counts: seen,
-            reader,
-        }))
+        let counts = seen;
+        Ok(Step::Whole(EndedDossier { tree, counts }))
     } else {
         Err(Reason::Count)
     }

@@ -8,7 +8,6 @@ ghost use Rattle.dossier_terms.specs.Reading.{node_done, split_done, Above};
 ghost use Rattle.crew_terms.specs.Tree.{CanSplit, IsFreePair};
 ghost use Rattle.tree_walk.specs.Way.{IsLeaf};
 ghost use Rattle.cert_checker.specs.Due.{Awaits, HasLeafRoom, HasSplitLeft, IsAwaited, IsInTree, IsKnown, IsAtNode, IsStep, MaySplit, Tells, draft_of};
-ghost use Rattle.cert_checker.specs.Rooms.{IsReaderFor};
 ghost use Rattle.dossier_terms.specs.NodeTable.{after_bare, after_leaf, after_split, split_fault};
 
 use crate::due::{Due, Step, TreeDraft};
@@ -16,7 +15,6 @@ use cert_format::{NodeLine, fault_is_refused, read_node};
 use crew_terms::{Choice, Pair};
 use dossier_terms::{DossierForm, Reason};
 use field_table::LineWords;
-use leaf_check::LeafReader;
 use node_limits::Limits;
 use std::alloc::Global;
 use tree_walk::is_cut;
@@ -40,14 +38,8 @@ fn has_leaf_room(tree: &TreeDraft, is_closed: bool) -> bool
 }
 
 /// What is due behind a leaf of this kind.
-pub fn leave(
-    alloc: Global,
-    mut tree: Box<TreeDraft>,
-    reader: Box<LeafReader>,
-    is_closed: bool,
-) -> Due
+pub fn leave(alloc: Global, mut tree: Box<TreeDraft>, is_closed: bool) -> Due
     requires node { IsInTree tree.value }
-    requires reader { IsReaderFor tree.value.draft.value.base.instance reader.value }
     requires room { HasLeafRoom tree.value is_closed }
     ensures { (fs : List Above) (claim : Claim Leaf) → IsAtNode tree.value fs
         → IsLeaf is_closed claim → Awaits result
@@ -59,10 +51,10 @@ pub fn leave(
     let is_whole = held.walk.leave(&mut limits, is_closed);
     draft.limits = limits.rest();
     if !is_whole {
-        return Due::Node { tree, reader };
+        return Due::Node { tree };
     }
     let seen = held.walk.seen();
-    Due::End { tree, reader, seen }
+    Due::End { tree, seen }
 }
 
 /// Whether nothing is said yet of the team and the task.
@@ -106,15 +98,8 @@ fn unshown_by(is_shown: bool) -> u32
 }
 
 /// What is due behind a split of the node that is due, whose cause is shown or not: its first child.
-pub fn first_child(
-    alloc: Global,
-    mut tree: Box<TreeDraft>,
-    reader: Box<LeafReader>,
-    choice: Choice,
-    is_shown: bool,
-) -> Due
-    requires split { (fs : List Above) × MaySplit tree.value choice fs }
-    requires reader { IsReaderFor tree.value.draft.value.base.instance reader.value }
+pub fn first_child(alloc: Global, mut tree: Box<TreeDraft>, choice: Choice, is_shown: bool) -> Due
+    requires { (fs : List Above) × MaySplit tree.value choice fs }
     ensures { (fs : List Above) (cause : Cause) → IsAtNode tree.value fs
         → unshown_in cause ≡ (if is_shown then 0 else 1) → Awaits result
         (split_done (draft_of tree.value.draft.value) tree.value.claimed fs
@@ -126,18 +111,12 @@ pub fn first_child(
     held.walk.enter(&mut limits, choice);
     draft.limits = limits.rest();
     held.unshown += unshown_by(is_shown);
-    Due::Node { tree, reader }
+    Due::Node { tree }
 }
 
 /// A line `window` or `pair`. In form 2 the line `why` of the node comes next.
-fn split_line(
-    alloc: Global,
-    mut tree: Box<TreeDraft>,
-    reader: Box<LeafReader>,
-    choice: Choice,
-) -> Result<Step, Reason>
+fn split_line(alloc: Global, mut tree: Box<TreeDraft>, choice: Choice) -> Result<Step, Reason>
     requires node { IsInTree tree.value }
-    requires reader { IsReaderFor tree.value.draft.value.base.instance reader.value }
     requires known { IsKnown tree.value.draft.value.base.instance choice }
     ensures { (fs : List Above) → IsAtNode tree.value fs → Tells
         (after_split (draft_of tree.value.draft.value) tree.value.claimed fs choice) result }
@@ -153,19 +132,14 @@ fn split_line(
     }
     draft.limits = limits.rest();
     match form {
-        DossierForm::One => Ok(Step::More(first_child(alloc, tree, reader, choice, false))),
-        DossierForm::Two => Ok(Step::More(Due::Why {
-            tree,
-            reader,
-            choice,
-        })),
+        DossierForm::One => Ok(Step::More(first_child(alloc, tree, choice, false))),
+        DossierForm::Two => Ok(Step::More(Due::Why { tree, choice })),
     }
 }
 
 /// The line `leaf bare`.
-fn bare_line(alloc: Global, tree: Box<TreeDraft>, reader: Box<LeafReader>) -> Result<Step, Reason>
-    requires node { IsInTree tree.value }
-    requires reader { IsReaderFor tree.value.draft.value.base.instance reader.value }
+fn bare_line(alloc: Global, tree: Box<TreeDraft>) -> Result<Step, Reason>
+    requires { IsInTree tree.value }
     ensures { (fs : List Above) → IsAtNode tree.value fs
         → Tells (after_bare (draft_of tree.value.draft.value) tree.value.claimed fs) result }
 {
@@ -175,54 +149,37 @@ fn bare_line(alloc: Global, tree: Box<TreeDraft>, reader: Box<LeafReader>) -> Re
     if tree.draft.bound > 0 {
         return Err(Reason::Bound);
     }
-    Ok(Step::More(leave(alloc, tree, reader, false)))
+    Ok(Step::More(leave(alloc, tree, false)))
 }
 
 /// The line `leaf open` or `leaf closed`.
-fn leaf_line(
-    tree: Box<TreeDraft>,
-    mut reader: Box<LeafReader>,
-    is_closed: bool,
-) -> Result<Step, Reason>
-    requires node { IsInTree tree.value }
-    requires reader { IsReaderFor tree.value.draft.value.base.instance reader.value }
+fn leaf_line(mut tree: Box<TreeDraft>, is_closed: bool) -> Result<Step, Reason>
+    requires { IsInTree tree.value }
     ensures { (fs : List Above) → IsAtNode tree.value fs → Tells
         (after_leaf (draft_of tree.value.draft.value) tree.value.claimed fs is_closed) result }
 {
     if !has_leaf_room(&tree, is_closed) {
         return Err(Reason::Count);
     }
-    reader.begin();
-    Ok(Step::More(Due::Leaf {
-        tree,
-        reader,
-        is_closed,
-    }))
+    let held = &mut *tree;
+    held.reader.begin();
+    Ok(Step::More(Due::Leaf { tree, is_closed }))
 }
 
 /// A line of a node.
-pub fn node_line(
-    alloc: Global,
-    tree: Box<TreeDraft>,
-    reader: Box<LeafReader>,
-    words: LineWords<'_>,
-) -> Result<Step, Reason>
-    requires { IsAwaited (Due.Node tree reader) }
-    ensures { IsStep (Due.Node tree reader) words.entry result }
+pub fn node_line(alloc: Global, tree: Box<TreeDraft>, words: LineWords<'_>) -> Result<Step, Reason>
+    requires { IsAwaited (Due.Node tree) }
+    ensures { IsStep (Due.Node tree) words.entry result }
 {
     fault_is_refused();
     let instance = &tree.draft.base.instance;
     let teams = instance.teams() as u32;
     let tasks = instance.tasks() as u32;
     match read_node(words, teams, tasks)? {
-        NodeLine::Window { task, cut } => {
-            split_line(alloc, tree, reader, Choice::Window { task, cut })
-        }
-        NodeLine::Pair { team, task } => {
-            split_line(alloc, tree, reader, Choice::Pair { team, task })
-        }
-        NodeLine::Bare => bare_line(alloc, tree, reader),
-        NodeLine::Open => leaf_line(tree, reader, false),
-        NodeLine::Closed => leaf_line(tree, reader, true),
+        NodeLine::Window { task, cut } => split_line(alloc, tree, Choice::Window { task, cut }),
+        NodeLine::Pair { team, task } => split_line(alloc, tree, Choice::Pair { team, task }),
+        NodeLine::Bare => bare_line(alloc, tree),
+        NodeLine::Open => leaf_line(tree, false),
+        NodeLine::Closed => leaf_line(tree, true),
     }
 }

@@ -21,7 +21,7 @@ use std::marker::Model;
 #[derive(Drop)]
 pub struct TreeRoom {
     instance: Instance,
-    reader: Box<LeafReader>,
+    reader: LeafReader,
     sums: ShareSums,
 }
 
@@ -34,7 +34,7 @@ impl Model for TreeRoom {
 
     ghost view = { λ a. a.instance };
 
-    ghost invariant = { λ a. IsRoomFor a.instance a.reader.value a.sums };
+    ghost invariant = { λ a. IsRoomFor a.instance a.reader a.sums };
 }
 
 /// Whether two instances have as many tasks, each with the same window.
@@ -59,8 +59,13 @@ impl TreeRoom {
         requires { (d : Dossier) × IsEndOf ended d }
         ensures { result ≡ ended.tree.value.draft.value.base.instance }
     {
-        let EndedDossier { tree, reader, .. } = ended;
-        let TreeDraft { draft, sums, .. } = Box::into_inner(tree);
+        let EndedDossier { tree, .. } = ended;
+        let TreeDraft {
+            draft,
+            reader,
+            sums,
+            ..
+        } = Box::into_inner(tree);
         let BegunDossier { base, .. } = Box::into_inner(draft);
         let Base { instance, .. } = base;
         TreeRoom {
@@ -83,8 +88,8 @@ pub fn room_for(
     alloc: Global,
     kept: Option<TreeRoom>,
     limits: &Limits<'_>,
-) -> Result<(Box<LeafReader>, ShareSums), AllocError>
-    ensures reader { IfOk result (λ room. IsReaderFor limits.now.limits.instance room.0.value) }
+) -> Result<(LeafReader, ShareSums), AllocError>
+    ensures reader { IfOk result (λ room. IsReaderFor limits.now.limits.instance room.0) }
     ensures sums { IfOk result (λ room. HasRoom limits.now.limits room.1) }
 {
     if let Some(room) = kept {
@@ -98,8 +103,7 @@ pub fn room_for(
             return Ok((reader, sums));
         }
     }
-    let opened = LeafReader::open(alloc, limits)?;
+    let reader = LeafReader::open(alloc, limits)?;
     let sums = ShareSums::open(alloc, limits)?;
-    let reader = Box::new(alloc, opened)?;
     Ok((reader, sums))
 }

@@ -5,7 +5,7 @@ ghost use Rattle.dossier_terms.specs.Ranges.{IsCounts};
 ghost use Rattle.cert_checker.specs.Due.{Awaits, IsAwaited, IsRoot, IsStepWithRoom, draft_of};
 ghost use Rattle.cert_checker.specs.Rules.{TellsCounts};
 
-use crate::due::{BegunDossier, Due, Step, TreeDraft};
+use crate::due::{BegunDossier, Due, NO_LOOSE, Step, TreeDraft};
 use crate::rooms::{TreeRoom, room_for};
 use cert_format::{Refusal, fault_is_refused, read_tree};
 use crew_instance::unassigned;
@@ -59,10 +59,12 @@ fn begin_tree(
         claimed,
         walk,
         unshown: 0,
+        reader,
+        loose: NO_LOOSE,
         sums,
     };
     let tree = Box::new(alloc, tree)?;
-    Ok(Due::Node { tree, reader })
+    Ok(Due::Node { tree })
 }
 
 /// The line `tree`.

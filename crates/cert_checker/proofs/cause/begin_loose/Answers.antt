@@ -21,7 +21,7 @@ returns c = λ fs may.
     let room : HasRoom n held.sums = subst (λ (t : TreeDraft). HasRoom n t.sums) (sym same) (room_at_node tree fs may.node) in
     let sums = c.begin.ensures.none n loose.whole c.requires.some room in
     let begun = loose_begun tree loose c.begin.new.self fs may c.requires.now c.requires.some c.requires.few sums in
-    let here : IsInLoose (record held { sums = c.begin.new.self }) loose (none_read loose.whole) fs = subst (λ (t : TreeDraft). IsInLoose (record t { sums = c.begin.new.self }) loose (none_read loose.whole) fs) (sym same) begun in
+    let here : IsInLoose (record held { loose = loose; sums = c.begin.new.self }) (none_read loose.whole) fs = subst (λ (t : TreeDraft). IsInLoose (record t { loose = loose; sums = c.begin.new.self }) (none_read loose.whole) fs) (sym same) begun in
     let due = parts_due p loose.now (none_read loose.whole) c.args.count 0 in
     let awaits = c.due_shares.ensures fs (none_read loose.whole) here in
     let enough = c.if-loose-unassigned.false in (

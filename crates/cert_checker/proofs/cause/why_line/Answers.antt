@@ -29,7 +29,7 @@ pub returns-in-None : goal.returns-in-None
 returns-in-None c = λ reading awaited.
     let p = split_site c.args.tree.value awaited.0 c.args.choice in
     let is = read (goal.at.returns-in-None c).In_ok-read_why _ c.in-None.is in
-    subst (λ r. Tells (Says r c.args.words) (Ok (More c.first_child.result))) (sym awaited.3)
+    subst (λ r. Tells (Says r c.args.words) (Ok (More c.first_child.result))) (sym awaited.2)
     (cause_done p NoCause, none_says p c.args.words is, c.first_child.ensures awaited.0 NoCause awaited.1.node refl)
 
 pub returns-in-Loose : goal.returns-in-Loose
@@ -40,7 +40,7 @@ returns-in-Loose c = λ reading awaited.
     let whole = c.in-Loose.whole in
     let count = c.in-Loose.count in
     let h = read (goal.at.returns-in-Loose c).In_ok-read_why _ c.in-Loose.is in
-    subst (λ r. Tells (Says r ws) c.begin_loose.result) (sym awaited.3)
+    subst (λ r. Tells (Says r ws) c.begin_loose.result) (sym awaited.2)
     (tells_row (after_loose p now whole count) (why_row p ws) c.begin_loose.result (λ said rest. loose_says p ws now whole count said h.0 h.1 rest) (c.begin_loose.ensures awaited.0 awaited.1))
 
 pub returns-in-Overflow : goal.returns-in-Overflow
@@ -50,7 +50,7 @@ returns-in-Overflow c = λ reading awaited.
     let now = c.in-Overflow.now in
     let fault = c.in-Overflow.fault in
     let h = read (goal.at.returns-in-Overflow c).In_ok-read_why _ c.in-Overflow.is in
-    subst (λ r. Tells (Says r ws) c.fault_step.result) (sym awaited.3)
+    subst (λ r. Tells (Says r ws) c.fault_step.result) (sym awaited.2)
     (tells_row (after_fault p now fault) (why_row p ws) c.fault_step.result (λ said rest. fault_says p ws now fault said h.0 h.1 rest) (c.fault_step.ensures awaited.0 awaited.1.node))
 
 pub returns-in-Spent : goal.returns-in-Spent
@@ -59,5 +59,5 @@ returns-in-Spent c = λ reading awaited.
     let p = split_site c.args.tree.value awaited.0 c.args.choice in
     let now = c.in-Spent.now in
     let h = read (goal.at.returns-in-Spent c).In_ok-read_why _ c.in-Spent.is in
-    subst (λ r. Tells (Says r ws) c.spent_step.result) (sym awaited.3)
+    subst (λ r. Tells (Says r ws) c.spent_step.result) (sym awaited.2)
     (tells_row (after_spent p now) (why_row p ws) c.spent_step.result (λ said rest. spent_says p ws now said h.0 h.1 rest) (c.spent_step.ensures awaited.0 awaited.1.node))

@@ -14,27 +14,27 @@ use Rattle.cert_checker.specs.Due.{Awaits, IsInLeaf, IsAtNode, draft_of, site_of
 use Rattle.cert_checker.specs.declared.due.BegunDossier.{BegunDossier}
 use Rattle.cert_checker.specs.declared.due.TreeDraft.{TreeDraft}
 use Rattle.cert_checker.proofs.NodeRows.{taken_woke}
-use Rattle.cert_checker.proofs.LeafRows.{told_more, told_done, told_no, is_leaf, stays, goal_at, in_leaf, rested, rested_back}
+use Rattle.cert_checker.proofs.LeafRows.{told_more, told_done, told_no, is_leaf, goal_at, in_leaf, read_by, read_on, rested_back}
 use Rattle.cert_checker.proofs.leaf.number_line.Goals as goal
 use Rattle.cert_checker.proofs.leaf.number_line.Goals.{After-line, After-rest}
 
 -- the limits that woke are those of the tree
 woke : (c : After-line) → c.wake-limits.result ≡ trail_over c.args.tree.value.draft.value.base.instance c.args.tree.value.draft.value.limits
-woke c = taken_woke c.args.tree.value c.deref_mut.result.now c.deref_mut-draft.result.now c.take.result c.wake-limits.result
-    c.deref_mut.ensures.value c.deref_mut-draft.ensures.value c.take.ensures.taken c.wake-limits.ensures
+woke c = taken_woke c.args.tree.value c.deref_mut-held.result.now c.deref_mut-draft.result.now c.take.result c.wake-limits.result
+    c.deref_mut-held.ensures.value c.deref_mut-draft.ensures.value c.take.ensures.taken c.wake-limits.ensures
 
 -- what the reader tells of the line, where the leaf is below these splits
-told : (c : After-line) (reading : Reading) (fs : List Above) → IsInLeaf c.args.tree.value c.args.reader.value c.args.is_closed fs reading
+told : (c : After-line) (reading : Reading) (fs : List Above) → IsInLeaf c.args.tree.value c.args.is_closed fs reading
     → LeafTells (site_of c.args.tree.value fs c.args.is_closed) (Says reading c.args.words) c.line.result c.line.new.self
 told c reading fs leaf =
     let tree = c.args.tree.value in
     let draft = c.deref_mut-draft.result.now in
-    let read : draft ≡ tree.draft.value = c.deref_mut-draft.ensures.value ∙ ap (λ (x : TreeDraft). x.draft.value) c.deref_mut.ensures.value in
+    let read : draft ≡ tree.draft.value = c.deref_mut-draft.ensures.value ∙ ap (λ (x : TreeDraft). x.draft.value) c.deref_mut-held.ensures.value in
     let a : LeafSite = site_of tree fs c.args.is_closed in
     let g : Goal = record { form = draft.base.form; bound = draft.bound; unassigned = c.unassigned.result; is_closed = c.args.is_closed } in
     c.line.ensures.judged a reading (goal_at tree c.wake-limits.result (woke c) c.args.is_closed g fs leaf.node
     (ap (λ (d : BegunDossier). d.base.form) read) (ap (λ (d : BegunDossier). d.bound) read) (c.unassigned.ensures ∙ ap (λ (d : BegunDossier). unassigned_count d.plan) read) refl)
-    (subst (λ r. StandsFor a r reading) (sym c.deref_mut-2.ensures.value) leaf.stands)
+    (subst (λ (x : TreeDraft). StandsFor a x.reader reading) (sym c.deref_mut-held.ensures.value) leaf.stands)
 
 pub returns-in_err-step : goal.returns-in_err-step
 returns-in_err-step d =
@@ -52,12 +52,18 @@ told_step c step is a reading tells =
     subst (λ (s : LeafStep). LeafTells a (Says reading c.args.words) (Ok s) c.line.new.self) is
     (subst (λ s. LeafTells a (Says reading c.args.words) s c.line.new.self) c.in_ok-step.was tells)
 
--- the tree that is written back, with its limits at rest again
+-- the tree that is written back, with its limits at rest again and its reader behind the line
 abbrev written : After-rest → TreeDraft
-written c = record c.deref_mut.result.now { draft = with_value c.deref_mut.result.now.draft (record c.deref_mut-draft.result.now { limits = c.rest.result }) }
+written c = record c.deref_mut-held.result.now {
+  draft = with_value c.deref_mut-held.result.now.draft (record c.deref_mut-draft.result.now { limits = c.rest.result });
+  reader = c.line.new.self;
+}
 
-written_is : (c : After-rest) → written c ≡ rested c.args.tree.value c.rest.result
-written_is c = rested_back c.args.tree.value c.deref_mut.result.now c.deref_mut-draft.result.now c.rest.result c.deref_mut.ensures.value c.deref_mut-draft.ensures.value
+written_is : (c : After-rest) → written c ≡ read_by c.args.tree.value c.rest.result c.line.new.self
+written_is c = ap (λ (t : TreeDraft). with_other t) (rested_back c.args.tree.value c.deref_mut-held.result.now c.deref_mut-draft.result.now c.rest.result c.deref_mut-held.ensures.value c.deref_mut-draft.ensures.value)
+  where
+    with_other : TreeDraft → TreeDraft
+    with_other t = record t { reader = c.line.new.self }
 
 pub returns-in-More : goal.returns-in-More
 returns-in-More d = λ reading awaited.
@@ -72,7 +78,7 @@ returns-in-More d = λ reading awaited.
       t.1,
       (
         fs,
-        in_leaf tree c.wake-limits.result c.rest.result (woke before) c.rest.ensures.same c.rest.ensures.over (written c) (written_is c) c.args.is_closed c.line.new.self fs t.0
+        in_leaf tree c.wake-limits.result c.rest.result (woke before) c.rest.ensures.same c.rest.ensures.over (written c) c.args.is_closed c.line.new.self (written_is c) fs t.0
             leaf.node leaf.room c.line.ensures.ready t.2,
       ),
     )
@@ -91,5 +97,5 @@ returns-in-Done d = λ reading awaited.
       t.1,
       subst (λ (x : TreeDraft). Awaits d.leave.result (node_done (draft_of x.draft.value) x.claimed fs (LeafNode claim))) (written_is c)
           (d.leave.ensures fs claim
-          (subst (λ (x : TreeDraft). IsAtNode x fs) (sym (written_is c)) (stays tree c.wake-limits.result c.rest.result (woke before) c.rest.ensures.same c.rest.ensures.over fs awaited.1.node)) (is_leaf closed t.0)),
+          (subst (λ (x : TreeDraft). IsAtNode x fs) (sym (written_is c)) (read_on tree c.wake-limits.result c.rest.result (woke before) c.rest.ensures.same c.rest.ensures.over c.line.new.self fs awaited.1.node c.line.ensures.ready)) (is_leaf closed t.0)),
     )

@@ -15,8 +15,8 @@ one_at_most false n e = omega arith
 
 pub overflow_add-held : goal.overflow_add-held
 overflow_add-held c =
-    let fs = c.requires.split.0 in
-    let may = c.requires.split.1 in
+    let fs = c.requires.0 in
+    let may = c.requires.1 in
     let few = may.node.claimed.splits in
     let room = may.room.splits in
     let seen = ap (λ (n : TreeCounts). n.splits) may.node.at.seen in
@@ -29,8 +29,8 @@ overflow_add-held c =
 pub enter-requires : goal.enter-requires
 enter-requires c =
     let tree = c.args.tree.value in
-    let fs = c.requires.split.0 in
-    let may = c.requires.split.1 in
+    let fs = c.requires.0 in
+    let may = c.requires.1 in
     let woke = taken_woke tree c.deref_mut-held.result.now c.deref_mut-draft.result.now c.take.result c.wake-limits.result c.deref_mut-held.ensures.value c.deref_mut-draft.ensures.value c.take.ensures.taken c.wake-limits.ensures in
     let few = may.node.claimed.splits in
     let room = may.room.splits in
@@ -61,5 +61,5 @@ returns c = λ fs cause node shown.
     (held.unshown + c.unshown_by.result)
     (with_value c.args.tree (record held { draft = with_value held.draft (record draft { limits = c.rest.result }); walk = c.enter.new.self; unshown = held.unshown + c.unshown_by.result }))
     (written_back tree held draft c.rest.result c.enter.new.self (held.unshown + c.unshown_by.result) c.deref_mut-held.ensures.value c.deref_mut-draft.ensures.value)
-    c.unshown_by.result (ap (λ (x : TreeDraft). x.unshown + c.unshown_by.result) c.deref_mut-held.ensures.value) c.args.reader c.args.choice
-    (subst (λ (x : TreeDraft). Enters c.args.choice n x.walk c.enter.new.limits c.enter.new.self) c.deref_mut-held.ensures.value c.enter.ensures.enters) c.requires.reader fs cause node (shown ∙ sym c.unshown_by.ensures)
+    c.unshown_by.result (ap (λ (x : TreeDraft). x.unshown + c.unshown_by.result) c.deref_mut-held.ensures.value) c.args.choice
+    (subst (λ (x : TreeDraft). Enters c.args.choice n x.walk c.enter.new.limits c.enter.new.self) c.deref_mut-held.ensures.value c.enter.ensures.enters) fs cause node (shown ∙ sym c.unshown_by.ensures)

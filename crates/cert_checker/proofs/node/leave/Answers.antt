@@ -19,9 +19,8 @@ returns-then-not-is_whole c =
     (with_value c.args.tree (record held { draft = with_value held.draft (record draft { limits = c.rest.result }); walk = c.leave-is_whole.new.self }))
     (written_back tree held draft c.rest.result c.leave-is_whole.new.self held.unshown c.deref_mut-held.ensures.value c.deref_mut-draft.ensures.value)
     (ap (λ (x : TreeDraft). x.unshown) c.deref_mut-held.ensures.value)
-    c.args.reader c.args.is_closed
+    c.args.is_closed
     (subst (λ (x : TreeDraft). LeavesLeaf c.args.is_closed c.wake-limits.result x.walk c.leave-is_whole.new.limits c.leave-is_whole.new.self false) c.deref_mut-held.ensures.value c.if-not-is_whole.ensures.leaves)
-    c.requires.reader
 
 pub returns : goal.returns
 returns c =
@@ -31,8 +30,8 @@ returns c =
     let woke = taken_woke tree held draft c.take.result c.wake-limits.result c.deref_mut-held.ensures.value c.deref_mut-draft.ensures.value c.take.ensures.taken c.wake-limits.ensures in
     ended_at tree c.wake-limits.result c.leave-is_whole.new.limits c.leave-is_whole.new.self c.rest.result
     (with_value c.args.tree (record held { draft = with_value held.draft (record draft { limits = c.rest.result }); walk = c.leave-is_whole.new.self }))
-    c.args.reader c.seen-seen.result c.args.is_closed
+    c.seen-seen.result c.args.is_closed
     woke (subst (λ (x : TreeDraft). LeavesLeaf c.args.is_closed c.wake-limits.result x.walk c.leave-is_whole.new.limits c.leave-is_whole.new.self true) c.deref_mut-held.ensures.value c.if-not-is_whole.ensures.leaves)
     (written_back tree held draft c.rest.result c.leave-is_whole.new.self held.unshown c.deref_mut-held.ensures.value c.deref_mut-draft.ensures.value
     ∙ ap (λ (x : TreeDraft). moved tree c.rest.result c.leave-is_whole.new.self x.unshown) c.deref_mut-held.ensures.value)
-    c.seen-seen.ensures c.requires.reader
+    c.seen-seen.ensures

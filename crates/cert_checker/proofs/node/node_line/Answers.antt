@@ -29,7 +29,7 @@ returns-in-Window c =
     let j = c.in-Window.task in
     let cut = c.in-Window.cut in
     let h = read (goal.at.returns-in-Window c).In_ok-task _ c.in-Window.is in
-    node_rest c.args.tree c.args.reader c.args.words c.split_line.result (λ fs. after_split b n fs (Window j cut))
+    node_rest c.args.tree c.args.words c.split_line.result (λ fs. after_split b n fs (Window j cut))
     (λ fs said rest. window_says b n fs j cut c.args.words said h.0 h.1 h.2 rest) c.split_line.ensures
 
 pub returns-in-Pair : goal.returns-in-Pair
@@ -39,7 +39,7 @@ returns-in-Pair c =
     let k = c.in-Pair.team in
     let j = c.in-Pair.task in
     let h = read (goal.at.returns-in-Pair c).In_ok-task _ c.in-Pair.is in
-    node_rest c.args.tree c.args.reader c.args.words c.split_line-in-Pair.result (λ fs. after_split b n fs (Pair k j))
+    node_rest c.args.tree c.args.words c.split_line-in-Pair.result (λ fs. after_split b n fs (Pair k j))
     (λ fs said rest. pair_says b n fs k j c.args.words said h.0 h.1 h.2 rest) c.split_line-in-Pair.ensures
 
 pub returns-in-Bare : goal.returns-in-Bare
@@ -47,18 +47,18 @@ returns-in-Bare c =
     let b = draft_of c.args.tree.value.draft.value in
     let n = c.args.tree.value.claimed in
     let h = read (goal.at.returns-in-Bare c).In_ok-task _ c.in-Bare.is in
-    node_rest c.args.tree c.args.reader c.args.words c.bare_line.result (after_bare b n) (λ fs said rest. bare_says b n fs c.args.words said h rest) c.bare_line.ensures
+    node_rest c.args.tree c.args.words c.bare_line.result (after_bare b n) (λ fs said rest. bare_says b n fs c.args.words said h rest) c.bare_line.ensures
 
 pub returns-in-Open : goal.returns-in-Open
 returns-in-Open c =
     let b = draft_of c.args.tree.value.draft.value in
     let n = c.args.tree.value.claimed in
     let h = read (goal.at.returns-in-Open c).In_ok-task _ c.in-Open.is in
-    node_rest c.args.tree c.args.reader c.args.words c.leaf_line.result (λ fs. after_leaf b n fs false) (λ fs said rest. open_says b n fs c.args.words said h rest) c.leaf_line.ensures
+    node_rest c.args.tree c.args.words c.leaf_line.result (λ fs. after_leaf b n fs false) (λ fs said rest. open_says b n fs c.args.words said h rest) c.leaf_line.ensures
 
 pub returns-in-Closed : goal.returns-in-Closed
 returns-in-Closed c =
     let b = draft_of c.args.tree.value.draft.value in
     let n = c.args.tree.value.claimed in
     let h = read (goal.at.returns-in-Closed c).In_ok-task _ c.in-Closed.is in
-    node_rest c.args.tree c.args.reader c.args.words c.leaf_line-in-Closed.result (λ fs. after_leaf b n fs true) (λ fs said rest. closed_says b n fs c.args.words said h rest) c.leaf_line-in-Closed.ensures
+    node_rest c.args.tree c.args.words c.leaf_line-in-Closed.result (λ fs. after_leaf b n fs true) (λ fs said rest. closed_says b n fs c.args.words said h rest) c.leaf_line-in-Closed.ensures

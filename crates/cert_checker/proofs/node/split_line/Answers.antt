@@ -1,18 +1,15 @@
 use Rattle.std.proofs.Common.{◌≡◌, List, ap, subst, sym, refl, ◌∙◌}
 use Rattle.std.proofs.lemmas.Bool.{both_ways}
 use Rattle.std.specs.Box.{with_value}
-use Rattle.std.specs.Global.{Box}
 use Rattle.crew_terms.specs.declared.Choice.{Choice}
 use Rattle.dossier_terms.specs.declared.DossierForm.{DossierForm}
 use Rattle.dossier_terms.specs.declared.DossierForm.TheVariants.{One, Two}
-use Rattle.leaf_check.specs.declared.reader.LeafReader.{LeafReader}
 use Rattle.dossier_terms.specs.Causes.{NoCause}
 use Rattle.dossier_terms.specs.Reading.{Reading, Whys, split_done, choice_done, Above, More as Goes, No as Refuses}
 use Rattle.dossier_terms.specs.NodeTable.{after_split}
 use Rattle.crew_terms.specs.Tree.{CanSplit}
 use Rattle.node_limits.specs.Rest.{trail_over}
 use Rattle.cert_checker.specs.Due.{Awaits, HasSplitLeft, IsAtNode, MaySplit, draft_of, split_site}
-use Rattle.cert_checker.specs.Rooms.{IsReaderFor}
 use Rattle.cert_checker.specs.declared.due.BegunDossier.{BegunDossier}
 use Rattle.cert_checker.specs.declared.due.TreeDraft.{TreeDraft}
 use Rattle.cert_checker.proofs.NodeRows.{limits_at, taken_woke, room_above, room_at, split_no_room, split_refused, split_more}
@@ -63,10 +60,7 @@ pub first_child-requires : goal.first_child-requires
 first_child-requires d =
     let c = (goal.at.first_child-requires d).After-rest in
     let at = c.requires.node in
-    record {
-      split = (at.0, subst (λ (t : TreeDraft). MaySplit t c.args.choice at.0) (sym (written_is c)) (may c at.0 at.1));
-      reader = subst (λ (t : TreeDraft). IsReaderFor t.draft.value.base.instance c.args.reader.value) (sym (written_is c)) c.requires.reader;
-    }
+    (at.0, subst (λ (t : TreeDraft). MaySplit t c.args.choice at.0) (sym (written_is c)) (may c at.0 at.1))
 
 -- the form is that of the dossier
 form_is : (c : After-rest) (f : DossierForm) → c.deref_mut-draft.result.now.base.form ≡ f → c.args.tree.value.draft.value.base.form ≡ f
@@ -96,9 +90,8 @@ returns-in-One d = λ fs node.
     )
 
 -- the line `why` of this node is due
-abbrev IsWhyDue : Box LeafReader → Choice → List Above → Reading → TreeDraft → Type 0
-IsWhyDue reader choice fs next t = (above : List Above) × MaySplit t choice above × IsReaderFor t.draft.value.base.instance reader.value
-    × (next ≡ Whys (split_site t above choice))
+abbrev IsWhyDue : Choice → List Above → Reading → TreeDraft → Type 0
+IsWhyDue choice fs next t = (above : List Above) × MaySplit t choice above × (next ≡ Whys (split_site t above choice))
 
 pub returns-in-Two : goal.returns-in-Two
 returns-in-Two d = λ fs node.
@@ -108,5 +101,5 @@ returns-in-Two d = λ fs node.
     let next = Whys (split_site tree fs c.args.choice) in (
       next,
       goes_on c fs next node (ap (λ f. choice_done f b tree.claimed fs c.args.choice) (form_is c Two d.in-Two.is)),
-      subst (IsWhyDue c.args.reader c.args.choice fs next) (sym (written_is c)) (fs, may c fs node, c.requires.reader, refl),
+      subst (IsWhyDue c.args.choice fs next) (sym (written_is c)) (fs, may c fs node, refl),
     )

@@ -6,19 +6,18 @@ use Rattle.crew_terms.specs.Limits.{Limits}
 use Rattle.crew_terms.specs.declared.TreeCounts.{TreeCounts}
 use Rattle.dossier_terms.specs.Reading.{Begun, Nodes, Above}
 use Rattle.share_check.specs.Summed.{HasRoom}
-use Rattle.leaf_check.specs.declared.reader.LeafReader.{LeafReader}
 use Rattle.cert_checker.specs.Due.{IsAtNode, IsRoot, draft_of}
 use Rattle.cert_checker.specs.Rooms.{IsReaderFor}
 use Rattle.cert_checker.specs.declared.due.BegunDossier.{BegunDossier}
+use Rattle.cert_checker.specs.declared.due.TheConstants.{NO_LOOSE}
 use Rattle.cert_checker.specs.declared.due.TreeDraft.{TreeDraft}
 use Rattle.cert_checker.proofs.PoolRows.{rest_is_root, root_woke}
 use Rattle.cert_checker.proofs.TreeRows.{at_root}
 use Rattle.cert_checker.proofs.tree.begin_tree.Goals as goal
 
 -- the root of the tree is due
-abbrev IsRootDue : LeafReader → Begun → TreeCounts → TreeDraft → Type 0
-IsRootDue reader b claimed t = (above : List Above) × IsAtNode t above × IsReaderFor t.draft.value.base.instance reader
-    × (Nodes b claimed [] ≡ Nodes (draft_of t.draft.value) t.claimed above)
+abbrev IsRootDue : Begun → TreeCounts → TreeDraft → Type 0
+IsRootDue b claimed t = (above : List Above) × IsAtNode t above × (Nodes b claimed [] ≡ Nodes (draft_of t.draft.value) t.claimed above)
 
 pub returns : goal.returns
 returns c =
@@ -38,7 +37,16 @@ returns c =
     let root = rest_is_root i t rest limits past c.rest.ensures.same c.rest.ensures.over in
     let rested : rest.spare ≡ t.spare = ap (λ (x : Trail). x.spare) c.rest.ensures.same in
     let walk = c.in_ok-walk.walk in
-    let draft : TreeDraft = record { draft = with_value c.args.draft (record held { limits = rest }); claimed = claimed; walk = walk; unshown = 0; sums = c.in_ok-reader.sums } in
+    let reader = c.in_ok-reader.reader in
+    let draft : TreeDraft = record {
+      draft = with_value c.args.draft (record held { limits = rest });
+      claimed = claimed;
+      walk = walk;
+      unshown = 0;
+      reader = reader;
+      loose = NO_LOOSE;
+      sums = c.in_ok-reader.sums;
+    } in
     let node : IsAtNode draft [] = record {
       claimed = c.requires.counts;
       over = root.over;
@@ -46,9 +54,8 @@ returns c =
       depth = c.in_ok-walk.ensures.depth;
       spare = omega arith;
       unshown = refl;
+      reader = subst (λ x. IsReaderFor x reader) (ap (λ (n : Limits). n.instance) limits) c.in_ok-reader.ensures.reader;
       sums = subst (λ n. HasRoom n c.in_ok-reader.sums) limits c.in_ok-reader.ensures.sums;
     } in
-    let reader = c.in_ok-reader.reader.value in
-    let ready : IsReaderFor i reader = subst (λ x. IsReaderFor x reader) (ap (λ (n : Limits). n.instance) limits) c.in_ok-reader.ensures.reader in
-    subst (IsRootDue reader (draft_of c.args.draft.value) claimed) (sym c.in_ok-tree.ensures.ok)
-    ([], node, ready, ap (λ (d : BegunDossier). Nodes (draft_of d) claimed []) (sym same))
+    subst (IsRootDue (draft_of c.args.draft.value) claimed) (sym c.in_ok-tree.ensures.ok)
+    ([], node, ap (λ (d : BegunDossier). Nodes (draft_of d) claimed []) (sym same))
