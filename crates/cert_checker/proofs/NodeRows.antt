@@ -26,8 +26,7 @@ use Rattle.dossier_terms.specs.Apart.{not_both, pair_not_window}
 use Rattle.node_limits.specs.Trail.{Trail}
 use Rattle.node_limits.specs.Rest.{Rest, IsRestOver, trail_over}
 use Rattle.tree_walk.specs.Way.{Walked, IsAt, IsLeaf, LeavesLeaf, Enters, branch_of}
-use Rattle.cert_checker.specs.Due.{Awaits, HasLeafRoom, HasSplitLeft, IsAtNode, IsStep, Tells, draft_of, unshown_above}
-use Rattle.cert_checker.specs.Rooms.{IsRoomFor}
+use Rattle.cert_checker.specs.Due.{Awaits, HasLeafRoom, HasSplitLeft, IsAtNode, IsRoomOf, IsStep, Tells, draft_of, unshown_above}
 use Rattle.cert_checker.specs.declared.due.BegunDossier.{BegunDossier as Held}
 use Rattle.cert_checker.specs.declared.due.TreeDraft.{TreeDraft}
 use Rattle.cert_checker.specs.declared.due.Due.TheVariants.{Node as NodeDue, End as EndDue}
@@ -140,8 +139,7 @@ ended_at tree old new to rest box seen is_closed woke leaves is saw fs claim nod
     let kept : unshown p.0 ≡ unshown_above fs + 0 = ends_keep (draft_of tree.draft.value) tree.claimed fs (LeafNode claim) p.0 p.1 in
     let had = node.unshown in
     let same : tree.unshown ≡ unshown p.0 = omega arith in
-    let room : IsRoomFor box.value.draft.value.base.instance box.value.reader box.value.sums =
-    subst (λ (t : TreeDraft). IsRoomFor t.draft.value.base.instance t.reader t.sums) (sym is) (record { leaves = node.reader; shares = node.sums }) in
+    let room : IsRoomOf box.value = subst IsRoomOf (sym is) (record { leaves = node.reader; shares = node.sums }) in
     (p.0, saw ∙ p.2.seen, ap (λ (t : TreeDraft). t.unshown) is ∙ same, p.1 ∙ ap (λ (t : TreeDraft). Ends (draft_of t.draft.value) t.claimed p.0) (sym is), room)
 
 -- the limits that woke are those of the node

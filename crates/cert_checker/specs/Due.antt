@@ -20,7 +20,9 @@ use Rattle.crew_terms.specs.declared.Choice.{Choice}
 use Rattle.crew_terms.specs.declared.Choice.TheVariants as choices
 use Rattle.dossier_terms.specs.Lines.{counts_of}
 use Rattle.share_check.specs.Summed.{HasRoom, IsSharesOf}
-use Rattle.tree_walk.specs.Way.{IsAt, leaves_like}
+use Rattle.tree_walk.specs.Way.{IsAt, Walked, leaves_like}
+use Rattle.crew_terms.specs.declared.TreeCounts.{TreeCounts}
+use Rattle.std.specs.Global.{Box}
 use Rattle.cert_checker.specs.declared.due.BegunDossier.{BegunDossier}
 use Rattle.cert_checker.specs.declared.due.TreeDraft.{TreeDraft}
 use Rattle.cert_checker.specs.declared.due.EndedDossier.{EndedDossier}
@@ -63,6 +65,15 @@ pub record IsAtNode (tree : TreeDraft) (above : List Above) : Type 0 where
   pub unshown : tree.unshown ≡ unshown_above above
   pub reader : IsReaderFor tree.draft.value.base.instance tree.reader
   pub sums : HasRoom (root_limits tree.draft.value.base.instance) tree.sums
+
+-- there is room for its leaves, and for the shares of a cause
+abbrev pub IsRoomOf : TreeDraft → Type 0
+IsRoomOf tree = IsRoomFor tree.draft.value.base.instance tree.reader tree.sums
+
+-- it is the tree over this dossier that begins so, with its room
+pub record IsTreeOver (draft : Box BegunDossier) (claimed : TreeCounts) (walk : Walked) (tree : TreeDraft) : Type 0 where
+  pub is : tree ≡ record tree { draft = draft; claimed = claimed; walk = walk; unshown = 0 }
+  pub room : IsRoomOf tree
 
 -- the walk stands at a node
 abbrev pub IsInTree : TreeDraft → Type 0
@@ -140,7 +151,7 @@ Awaits (Share tree more from) r = (above : List Above) × (read : Shares) × IsI
 Awaits (Spare tree) r = (above : List Above) × (read : Shares) × IsInLoose tree.value read above × (r ≡ Spares (loose_site tree.value above) tree.value.loose.now read)
 Awaits (Leaf tree is_closed) r = (above : List Above) × IsInLeaf tree.value is_closed above r
 Awaits (End tree seen) r = (t : Written) × (seen ≡ counts_of t) × (tree.value.unshown ≡ unshown t) × (r ≡ EndDue (draft_of tree.value.draft.value) tree.value.claimed t)
-    × IsRoomFor tree.value.draft.value.base.instance tree.value.reader tree.value.sums
+    × IsRoomOf tree.value
 
 -- the line that is due is one of a tree
 abbrev pub IsOfTree : Due → Type 0
@@ -162,7 +173,7 @@ pub record IsEndOf (ended : EndedDossier) (d : Dossier) : Type 0 where
   pub is : d ≡ whole (draft_of ended.tree.value.draft.value) tree
   pub counts : ended.counts ≡ counts_of tree
   pub unshown : ended.tree.value.unshown ≡ unshown tree
-  pub room : IsRoomFor ended.tree.value.draft.value.base.instance ended.tree.value.reader ended.tree.value.sums
+  pub room : IsRoomOf ended.tree.value
 
 -- the step, or the reason, is what these rules say, and what is kept stands for what they lead to
 abbrev pub Tells : (Answer → Type 0) → Result Step Reason → Type 0

@@ -6,6 +6,8 @@ use Rattle.leaf_check.specs.Reader.{IsReady}
 use Rattle.leaf_check.specs.declared.reader.LeafReader.{LeafReader}
 use Rattle.share_check.specs.Summed.{HasRoom}
 use Rattle.share_check.specs.declared.sums.ShareSums.{ShareSums}
+use Rattle.cert_checker.specs.declared.rooms.Room.{Room}
+use Rattle.cert_checker.specs.declared.rooms.Room.TheVariants.{Kept, New}
 
 -- the reader has room for the leaves of the instance
 abbrev pub IsReaderFor : Instance → LeafReader → Type 0
@@ -26,3 +28,8 @@ pub record HaveSameWindows (a b : Instance) : Type 0 where
 pub record IsAlike (a b : Instance) : Type 0 where
   pub teams : length a.teams ≡ length b.teams
   pub windows : HaveSameWindows a b
+
+-- it is room for the tree of the instance
+abbrev pub IsFor : Instance → Room → Type 0
+IsFor i (Kept over) = IsAlike over i
+IsFor i (New reader sums) = IsRoomFor i reader sums

@@ -1,28 +1,25 @@
 // The room of a tree, which is kept from one dossier to the next.
 ghost use Rattle.std.specs.Prelude.{◌≡◌, ◌↔◌, length, IfOk, IsTrue};
-ghost use Rattle.crew_terms.specs.Limits.{root_limits};
 ghost use Rattle.dossier_terms.specs.Dossier.{Dossier};
-ghost use Rattle.share_check.specs.Summed.{HasRoom};
-ghost use Rattle.cert_checker.specs.Due.{IsEndOf};
-ghost use Rattle.cert_checker.specs.Rooms.{HaveSameWindows, IsAlike, IsReaderFor};
+ghost use Rattle.cert_checker.specs.Due.{IsEndOf, IsTreeOver};
+ghost use Rattle.cert_checker.specs.Rooms.{HaveSameWindows, IsAlike, IsFor};
 
-use crate::due::{BegunDossier, EndedDossier, TreeDraft};
+use crate::due::{BegunDossier, EndedDossier, NO_LOOSE, TreeDraft};
 use crew_instance::Instance;
-use head_check::Base;
+use crew_terms::TreeCounts;
 use leaf_check::LeafReader;
 use node_limits::Limits;
 use share_check::ShareSums;
 use std::alloc::{AllocError, Global};
 use std::marker::Model;
+use tree_walk::Walk;
 
-/// The room of a tree that is over: what has read its leaves, the sums of shares, and the instance that they are for.
+/// The room of a tree that is over: what has read its leaves, and the sums of shares.
 ///
-/// In contracts: that instance.
+/// In contracts: the instance that they are for.
 #[derive(Drop)]
 pub struct TreeRoom {
-    instance: Instance,
-    reader: LeafReader,
-    sums: ShareSums,
+    tree: Box<TreeDraft>,
 }
 
 impl Model for TreeRoom {
@@ -30,11 +27,18 @@ impl Model for TreeRoom {
 
     ghost Value = { Planned };
 
-    ghost use Rattle.cert_checker.specs.Rooms.{IsRoomFor};
+    ghost use Rattle.cert_checker.specs.Due.{IsRoomOf};
 
-    ghost view = { λ a. a.instance };
+    ghost view = { λ a. a.tree.value.draft.value.base.instance };
 
-    ghost invariant = { λ a. IsRoomFor a.instance a.reader a.sums };
+    ghost invariant = { λ a. IsRoomOf a.tree.value };
+}
+
+/// Room for a tree: that of a tree that is over, or new room.
+#[derive(Drop)]
+pub enum Room {
+    Kept(TreeRoom),
+    New { reader: LeafReader, sums: ShareSums },
 }
 
 /// Whether two instances have as many tasks, each with the same window.
@@ -60,26 +64,60 @@ impl TreeRoom {
         ensures { result ≡ ended.tree.value.draft.value.base.instance }
     {
         let EndedDossier { tree, .. } = ended;
-        let TreeDraft {
-            draft,
-            reader,
-            sums,
-            ..
-        } = Box::into_inner(tree);
-        let BegunDossier { base, .. } = Box::into_inner(draft);
-        let Base { instance, .. } = base;
-        TreeRoom {
-            instance,
-            reader,
-            sums,
-        }
+        TreeRoom { tree }
     }
 
     /// Whether it is room for a tree over this instance.
     fn fits(&self, instance: &Instance) -> bool
         ensures { IsTrue result ↔ IsAlike self.now instance.now }
     {
-        self.instance.teams() == instance.teams() && have_same_windows(&self.instance, instance)
+        let own = &self.tree.draft.base.instance;
+        own.teams() == instance.teams() && have_same_windows(own, instance)
+    }
+
+    /// Another tree in its room.
+    fn hold(self, draft: Box<BegunDossier>, claimed: TreeCounts, walk: Walk) -> Box<TreeDraft>
+        requires { IsAlike self draft.value.base.instance }
+        ensures { IsTreeOver draft claimed walk result.value }
+    {
+        let TreeRoom { mut tree } = self;
+        let held = &mut *tree;
+        held.draft = draft;
+        held.claimed = claimed;
+        held.walk = walk;
+        held.unshown = 0;
+        held.reader.begin();
+        tree
+    }
+}
+
+impl Room {
+    /// A tree in this room.
+    pub fn hold(
+        self,
+        alloc: Global,
+        draft: Box<BegunDossier>,
+        claimed: TreeCounts,
+        walk: Walk,
+    ) -> Result<Box<TreeDraft>, AllocError>
+        requires { IsFor draft.value.base.instance self }
+        ensures { IfOk result (λ tree. IsTreeOver draft claimed walk tree.value) }
+    {
+        match self {
+            Room::Kept(room) => Ok(room.hold(draft, claimed, walk)),
+            Room::New { reader, sums } => {
+                let tree = TreeDraft {
+                    draft,
+                    claimed,
+                    walk,
+                    unshown: 0,
+                    reader,
+                    loose: NO_LOOSE,
+                    sums,
+                };
+                Ok(Box::new(alloc, tree)?)
+            }
+        }
     }
 }
 
@@ -88,22 +126,15 @@ pub fn room_for(
     alloc: Global,
     kept: Option<TreeRoom>,
     limits: &Limits<'_>,
-) -> Result<(LeafReader, ShareSums), AllocError>
-    ensures reader { IfOk result (λ room. IsReaderFor limits.now.limits.instance room.0) }
-    ensures sums { IfOk result (λ room. HasRoom limits.now.limits room.1) }
+) -> Result<Room, AllocError>
+    ensures { IfOk result (IsFor limits.now.limits.instance) }
 {
     if let Some(room) = kept {
         if room.fits(limits.instance()) {
-            let TreeRoom {
-                instance: _,
-                mut reader,
-                sums,
-            } = room;
-            reader.begin();
-            return Ok((reader, sums));
+            return Ok(Room::Kept(room));
         }
     }
     let reader = LeafReader::open(alloc, limits)?;
     let sums = ShareSums::open(alloc, limits)?;
-    Ok((reader, sums))
+    Ok(Room::New { reader, sums })
 }

@@ -5,7 +5,7 @@ ghost use Rattle.dossier_terms.specs.Ranges.{IsCounts};
 ghost use Rattle.cert_checker.specs.Due.{Awaits, IsAwaited, IsRoot, IsStepWithRoom, draft_of};
 ghost use Rattle.cert_checker.specs.Rules.{TellsCounts};
 
-use crate::due::{BegunDossier, Due, NO_LOOSE, Step, TreeDraft};
+use crate::due::{BegunDossier, Due, Step};
 use crate::rooms::{TreeRoom, room_for};
 use cert_format::{Refusal, fault_is_refused, read_tree};
 use crew_instance::unassigned;
@@ -51,19 +51,10 @@ fn begin_tree(
     let held = &mut *draft;
     let mut limits = Limits::wake(&held.base.instance, held.limits.take(alloc));
     limits.reserve(depth)?;
-    let (reader, sums) = room_for(alloc, kept, &limits)?;
+    let room = room_for(alloc, kept, &limits)?;
     held.limits = limits.rest();
     let walk = Walk::open(alloc, depth)?;
-    let tree = TreeDraft {
-        draft,
-        claimed,
-        walk,
-        unshown: 0,
-        reader,
-        loose: NO_LOOSE,
-        sums,
-    };
-    let tree = Box::new(alloc, tree)?;
+    let tree = room.hold(alloc, draft, claimed, walk)?;
     Ok(Due::Node { tree })
 }
 

@@ -1,15 +1,12 @@
 use Rattle.std.proofs.Common.{◌≡◌, List, [], ap, subst, sym, refl, ◌∙◌, arith}
 use Rattle.std.specs.Box.{with_value}
+use Rattle.std.specs.Global.{Box}
 use Rattle.node_limits.specs.Rest.{trail_over}
 use Rattle.node_limits.specs.Trail.{Trail}
-use Rattle.crew_terms.specs.Limits.{Limits}
 use Rattle.crew_terms.specs.declared.TreeCounts.{TreeCounts}
 use Rattle.dossier_terms.specs.Reading.{Begun, Nodes, Above}
-use Rattle.share_check.specs.Summed.{HasRoom}
-use Rattle.cert_checker.specs.Due.{IsAtNode, IsRoot, draft_of}
-use Rattle.cert_checker.specs.Rooms.{IsReaderFor}
+use Rattle.cert_checker.specs.Due.{IsAtNode, IsRoomOf, IsRoot, draft_of}
 use Rattle.cert_checker.specs.declared.due.BegunDossier.{BegunDossier}
-use Rattle.cert_checker.specs.declared.due.TheConstants.{NO_LOOSE}
 use Rattle.cert_checker.specs.declared.due.TreeDraft.{TreeDraft}
 use Rattle.cert_checker.proofs.PoolRows.{rest_is_root, root_woke}
 use Rattle.cert_checker.proofs.TreeRows.{at_root}
@@ -37,25 +34,20 @@ returns c =
     let root = rest_is_root i t rest limits past c.rest.ensures.same c.rest.ensures.over in
     let rested : rest.spare ≡ t.spare = ap (λ (x : Trail). x.spare) c.rest.ensures.same in
     let walk = c.in_ok-walk.walk in
-    let reader = c.in_ok-reader.reader in
-    let draft : TreeDraft = record {
-      draft = with_value c.args.draft (record held { limits = rest });
-      claimed = claimed;
-      walk = walk;
-      unshown = 0;
-      reader = reader;
-      loose = NO_LOOSE;
-      sums = c.in_ok-reader.sums;
-    } in
-    let node : IsAtNode draft [] = record {
+    let over = c.in_ok-tree.ensures in
+    let tree = c.in_ok-tree.tree.value in
+    let draft : Box BegunDossier = with_value c.args.draft (record held { limits = rest }) in
+    let opened : TreeDraft = record tree { draft = draft; claimed = claimed; walk = walk; unshown = 0 } in
+    let ready : IsRoomOf opened = subst IsRoomOf over.is over.room in
+    let node : IsAtNode opened [] = record {
       claimed = c.requires.counts;
       over = root.over;
       at = at_root i rest walk root c.in_ok-walk.ensures.root;
       depth = c.in_ok-walk.ensures.depth;
       spare = omega arith;
       unshown = refl;
-      reader = subst (λ x. IsReaderFor x reader) (ap (λ (n : Limits). n.instance) limits) c.in_ok-reader.ensures.reader;
-      sums = subst (λ n. HasRoom n c.in_ok-reader.sums) limits c.in_ok-reader.ensures.sums;
+      reader = ready.leaves;
+      sums = ready.shares;
     } in
-    subst (IsRootDue (draft_of c.args.draft.value) claimed) (sym c.in_ok-tree.ensures.ok)
+    subst (IsRootDue (draft_of c.args.draft.value) claimed) (sym over.is)
     ([], node, ap (λ (d : BegunDossier). Nodes (draft_of d) claimed []) (sym same))
