@@ -32,4 +32,4 @@ pub record IsAlike (a b : Instance) : Type 0 where
 -- it is room for the tree of the instance
 abbrev pub IsFor : Instance → Room → Type 0
 IsFor i (Kept over) = IsAlike over i
-IsFor i (New reader sums) = IsRoomFor i reader sums
+IsFor i (New room) = IsRoomFor i room.value.reader room.value.sums

@@ -202,6 +202,7 @@ impl Checker {
     /// Judges one more line, without its LF. After a line that is refused every later call gives that answer again,
     /// and after want of memory every later call does that. Behind the line `tree` of a dossier memory is not wanting to
     /// its end.
+    #[inline(always)]
     pub fn line(&mut self, line: &[u8]) -> Result<Said, AllocError>
         requires plain { IsLine line.now }
         requires few { self.old.lines < LONGEST_INPUT }

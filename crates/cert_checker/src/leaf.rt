@@ -13,6 +13,7 @@ use node_limits::Limits;
 use std::alloc::Global;
 
 /// A line of the numbers of a leaf.
+#[inline(always)]
 pub fn number_line(
     alloc: Global,
     mut tree: Box<TreeDraft>,
@@ -40,6 +41,7 @@ pub fn number_line(
 }
 
 /// The line `end`.
+#[inline(always)]
 pub fn end_line(
     tree: Box<TreeDraft>,
     seen: TreeCounts,

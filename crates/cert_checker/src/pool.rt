@@ -59,6 +59,7 @@ fn begin_pool(alloc: Global, base: Base, kept: u64, routes: u64) -> Result<Due, 
 }
 
 /// The line `pool`.
+#[inline(always)]
 pub fn pool_line(alloc: Global, base: Box<Base>, words: LineWords<'_>) -> Result<Step, Refusal>
     ensures { IsStepWithRoom (Due.Pool base) words.entry result }
 {
@@ -83,6 +84,7 @@ fn judge_route(draft: Box<BegunDossier>, more: u64, verdict: PoolVerdict) -> Res
 }
 
 /// A line `route`.
+#[inline(always)]
 pub fn route_line(
     alloc: Global,
     mut draft: Box<BegunDossier>,

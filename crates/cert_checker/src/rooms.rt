@@ -34,11 +34,18 @@ impl Model for TreeRoom {
     ghost invariant = { λ a. IsRoomOf a.tree.value };
 }
 
+/// New room for a tree.
+#[derive(Drop)]
+pub struct NewRoom {
+    reader: LeafReader,
+    sums: ShareSums,
+}
+
 /// Room for a tree: that of a tree that is over, or new room.
 #[derive(Drop)]
 pub enum Room {
     Kept(TreeRoom),
-    New { reader: LeafReader, sums: ShareSums },
+    New(Box<NewRoom>),
 }
 
 /// Whether two instances have as many tasks, each with the same window.
@@ -91,6 +98,32 @@ impl TreeRoom {
     }
 }
 
+/// A tree in new room.
+// Few dossiers need it; the others are not to pay for the room of its numbers on the stack.
+#[inline(never)]
+fn first_tree(
+    alloc: Global,
+    room: Box<NewRoom>,
+    draft: Box<BegunDossier>,
+    claimed: TreeCounts,
+    walk: Walk,
+) -> Result<Box<TreeDraft>, AllocError>
+    requires { IsFor draft.value.base.instance (Room.New room) }
+    ensures { IfOk result (λ tree. IsTreeOver draft claimed walk tree.value) }
+{
+    let NewRoom { reader, sums } = Box::into_inner(room);
+    let tree = TreeDraft {
+        draft,
+        claimed,
+        walk,
+        unshown: 0,
+        reader,
+        loose: NO_LOOSE,
+        sums,
+    };
+    Ok(Box::new(alloc, tree)?)
+}
+
 impl Room {
     /// A tree in this room.
     pub fn hold(
@@ -105,20 +138,19 @@ impl Room {
     {
         match self {
             Room::Kept(room) => Ok(room.hold(draft, claimed, walk)),
-            Room::New { reader, sums } => {
-                let tree = TreeDraft {
-                    draft,
-                    claimed,
-                    walk,
-                    unshown: 0,
-                    reader,
-                    loose: NO_LOOSE,
-                    sums,
-                };
-                Ok(Box::new(alloc, tree)?)
-            }
+            Room::New(room) => first_tree(alloc, room, draft, claimed, walk),
         }
     }
+}
+
+/// New room for a tree over the instance of these limits.
+#[inline(never)]
+fn new_room(alloc: Global, limits: &Limits<'_>) -> Result<Box<NewRoom>, AllocError>
+    ensures { IfOk result (λ room. IsFor limits.now.limits.instance (Room.New room)) }
+{
+    let reader = LeafReader::open(alloc, limits)?;
+    let sums = ShareSums::open(alloc, limits)?;
+    Ok(Box::new(alloc, NewRoom { reader, sums })?)
 }
 
 /// Room for a tree over the instance of these limits: what is kept, where it fits, or else new room.
@@ -134,7 +166,5 @@ pub fn room_for(
             return Ok(Room::Kept(room));
         }
     }
-    let reader = LeafReader::open(alloc, limits)?;
-    let sums = ShareSums::open(alloc, limits)?;
-    Ok(Room::New { reader, sums })
+    Ok(Room::New(new_room(alloc, limits)?))
 }

@@ -59,6 +59,7 @@ fn begin_tree(
 }
 
 /// The line `tree`.
+#[inline(always)]
 pub fn tree_line(
     alloc: Global,
     room: &mut Option<TreeRoom>,
