@@ -148,7 +148,7 @@ ends_whole tree seen ws is same = λ reading awaited.
     let t = awaited.0 in
     let d = whole b t in
     let row : end_row b claimed t ws (Ends d) = Holds is (Holds (counted seen claimed t awaited.1 same) (Finish refl)) in
-    (d, subst (λ r. Says r ws (Ends d)) (sym awaited.3) row, record { tree = t; is = refl; counts = awaited.1; unshown = awaited.2; room = awaited.4 })
+    (d, subst (λ r. Says r ws (Ends d)) (sym awaited.3) row, record { tree = t; is = refl; counts = awaited.1; unshown = awaited.2; over = awaited.4 })
 
 pub ends_miscounted : (tree : Box TreeDraft) (seen : TreeCounts) (ws : Words) → ws ≡ end_line → same_numbers seen tree.value.claimed ≡ false
     → IsStep (EndLine tree seen) ws (Err reasons.Count)

@@ -3,6 +3,7 @@ pub mod Steps
 pub mod PoolRows
 pub mod PlanRows
 pub mod Roomy
+pub mod AlikeRoots
 pub mod TreeRows
 pub mod NodeRows
 pub mod LeafRows

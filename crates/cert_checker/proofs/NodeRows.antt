@@ -26,11 +26,12 @@ use Rattle.dossier_terms.specs.Apart.{not_both, pair_not_window}
 use Rattle.node_limits.specs.Trail.{Trail}
 use Rattle.node_limits.specs.Rest.{Rest, IsRestOver, trail_over}
 use Rattle.tree_walk.specs.Way.{Walked, IsAt, IsLeaf, LeavesLeaf, Enters, branch_of}
-use Rattle.cert_checker.specs.Due.{Awaits, HasLeafRoom, HasSplitLeft, IsAtNode, IsRoomOf, IsStep, Tells, draft_of, unshown_above}
+use Rattle.cert_checker.specs.Due.{Awaits, HasLeafRoom, HasSplitLeft, IsAtNode, IsStep, IsTreeOver, Tells, draft_of, unshown_above}
 use Rattle.cert_checker.specs.declared.due.BegunDossier.{BegunDossier as Held}
 use Rattle.cert_checker.specs.declared.due.TreeDraft.{TreeDraft}
 use Rattle.cert_checker.specs.declared.due.Due.TheVariants.{Node as NodeDue, End as EndDue}
 use Rattle.cert_checker.specs.declared.due.Step.{Step}
+use Rattle.cert_checker.proofs.PoolRows.{rest_is_root}
 use Rattle.cert_checker.proofs.Steps.{tells_row}
 
 -- ---- where a walk stands
@@ -129,17 +130,20 @@ module _ (tree : TreeDraft) (old new : Trail) (to : Walked) (rest : Rest)
 
 -- past the last leaf the whole tree is seen
 pub ended_at : (tree : TreeDraft) (old new : Trail) (to : Walked) (rest : Rest) (box : Box TreeDraft) (seen : TreeCounts) (is_closed : Bool)
-    → old ≡ trail_over tree.draft.value.base.instance tree.draft.value.limits → LeavesLeaf is_closed old tree.walk new to true
+    → old ≡ trail_over tree.draft.value.base.instance tree.draft.value.limits → trail_over new.limits.instance rest ≡ new → IsRestOver new.limits.instance rest → LeavesLeaf is_closed old tree.walk new to true
     → box.value ≡ moved tree rest to tree.unshown → seen ≡ to.seen
     → (fs : List Above) (claim : Claim Leaf) → IsAtNode tree fs → IsLeaf is_closed claim
     → Awaits (EndDue box seen) (node_done (draft_of tree.draft.value) tree.claimed fs (LeafNode claim))
-ended_at tree old new to rest box seen is_closed woke leaves is saw fs claim node kind =
+ended_at tree old new to rest box seen is_closed woke back over leaves is saw fs claim node kind =
     let at : IsAt (root_limits tree.draft.value.base.instance) old tree.walk fs = subst (λ t. IsAt (root_limits tree.draft.value.base.instance) t tree.walk fs) (sym woke) node.at in
     let p = leaves (root_limits tree.draft.value.base.instance) fs claim (draft_of tree.draft.value) tree.claimed at kind in
     let kept : unshown p.0 ≡ unshown_above fs + 0 = ends_keep (draft_of tree.draft.value) tree.claimed fs (LeafNode claim) p.0 p.1 in
     let had = node.unshown in
     let same : tree.unshown ≡ unshown p.0 = omega arith in
-    let room : IsRoomOf box.value = subst IsRoomOf (sym is) (record { leaves = node.reader; shares = node.sums }) in
+    let i = tree.draft.value.base.instance in
+    let of_root = rest_is_root i new rest p.2.limits p.2.past back over in
+    let room : IsTreeOver box.value true = subst (λ (t : TreeDraft). IsTreeOver t true) (sym is)
+    (record { room = record { leaves = node.reader; shares = node.sums }; root = λ _. of_root }) in
     (p.0, saw ∙ p.2.seen, ap (λ (t : TreeDraft). t.unshown) is ∙ same, p.1 ∙ ap (λ (t : TreeDraft). Ends (draft_of t.draft.value) t.claimed p.0) (sym is), room)
 
 -- the limits that woke are those of the node

@@ -1,5 +1,5 @@
 -- what the checker keeps stands for what has been read of a dossier
-use Rattle.std.specs.Prelude.{◌≡◌, ◌≤◌, ◌<◌, ◌+◌, ◌^◌, ℕ, List, [], ◌∷◌, Bool, length, map, All, Result, Ok, Err}
+use Rattle.std.specs.Prelude.{◌≡◌, ◌≤◌, ◌<◌, ◌+◌, ◌^◌, ℕ, List, [], ◌∷◌, Bool, true, IsTrue, length, map, All, Result, Ok, Err}
 use Rattle.crew_terms.specs.Words.{Words}
 use Rattle.crew_terms.specs.Instance.{Instance}
 use Rattle.crew_terms.specs.Limits.{Route as TeamRoute, root_limits}
@@ -70,8 +70,13 @@ pub record IsAtNode (tree : TreeDraft) (above : List Above) : Type 0 where
 abbrev pub IsRoomOf : TreeDraft → Type 0
 IsRoomOf tree = IsRoomFor tree.draft.value.base.instance tree.reader tree.sums
 
--- it is the tree over this dossier that begins so, with its room
-pub record IsTreeOver (draft : Box BegunDossier) (claimed : TreeCounts) (walk : Walked) (tree : TreeDraft) : Type 0 where
+-- it is a tree that is over, with its room and, where this says so, the limits of its root
+pub record IsTreeOver (tree : TreeDraft) (has_limits : Bool) : Type 0 where
+  pub room : IsRoomOf tree
+  pub root : IsTrue has_limits → IsRoot tree.draft.value.base.instance tree.draft.value.limits
+
+-- it is the tree of this dossier that begins so, with its room
+pub record IsTreeOf (draft : Box BegunDossier) (claimed : TreeCounts) (walk : Walked) (tree : TreeDraft) : Type 0 where
   pub is : tree ≡ record tree { draft = draft; claimed = claimed; walk = walk; unshown = 0 }
   pub room : IsRoomOf tree
 
@@ -151,7 +156,7 @@ Awaits (Share tree more from) r = (above : List Above) × (read : Shares) × IsI
 Awaits (Spare tree) r = (above : List Above) × (read : Shares) × IsInLoose tree.value read above × (r ≡ Spares (loose_site tree.value above) tree.value.loose.now read)
 Awaits (Leaf tree is_closed) r = (above : List Above) × IsInLeaf tree.value is_closed above r
 Awaits (End tree seen) r = (t : Written) × (seen ≡ counts_of t) × (tree.value.unshown ≡ unshown t) × (r ≡ EndDue (draft_of tree.value.draft.value) tree.value.claimed t)
-    × IsRoomOf tree.value
+    × IsTreeOver tree.value true
 
 -- the line that is due is one of a tree
 abbrev pub IsOfTree : Due → Type 0
@@ -167,13 +172,13 @@ IsOfTree _ = ⊥
 abbrev pub IsAwaited : Due → Type 0
 IsAwaited due = (reading : Reading) × Awaits due reading
 
--- what is kept stands for this dossier, whose tree has these numbers, and has the room of the tree
+-- what is kept stands for this dossier, whose tree has these numbers and is over
 pub record IsEndOf (ended : EndedDossier) (d : Dossier) : Type 0 where
   pub tree : Written
   pub is : d ≡ whole (draft_of ended.tree.value.draft.value) tree
   pub counts : ended.counts ≡ counts_of tree
   pub unshown : ended.tree.value.unshown ≡ unshown tree
-  pub room : IsRoomOf ended.tree.value
+  pub over : IsTreeOver ended.tree.value true
 
 -- the step, or the reason, is what these rules say, and what is kept stands for what they lead to
 abbrev pub Tells : (Answer → Type 0) → Result Step Reason → Type 0

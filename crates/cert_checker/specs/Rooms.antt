@@ -1,7 +1,8 @@
 -- the room of a tree, and instances for whose trees it is alike
-use Rattle.std.specs.Prelude.{◌≡◌, ◌<◌, ℕ, length}
+use Rattle.std.specs.Prelude.{◌≡◌, ◌<◌, ℕ, None, length}
 use Rattle.crew_terms.specs.Instance.{Instance, task_of}
 use Rattle.crew_terms.specs.Limits.{Limits as NodeLimits, root_limits}
+use Rattle.crew_terms.specs.Plan.{job_of}
 use Rattle.leaf_check.specs.Reader.{IsReady}
 use Rattle.leaf_check.specs.declared.reader.LeafReader.{LeafReader}
 use Rattle.share_check.specs.Summed.{HasRoom}
@@ -28,6 +29,16 @@ pub record HaveSameWindows (a b : Instance) : Type 0 where
 pub record IsAlike (a b : Instance) : Type 0 where
   pub teams : length a.teams ≡ length b.teams
   pub windows : HaveSameWindows a b
+
+-- no job is frozen
+abbrev pub IsUnfrozen : Instance → Type 0
+IsUnfrozen i = (j : ℕ) → j < length i.tasks → job_of i.frozen j ≡ None
+
+-- they are alike, and neither has a frozen job
+pub record HaveSameRoots (a b : Instance) : Type 0 where
+  pub alike : IsAlike a b
+  pub free : IsUnfrozen a
+  pub free_too : IsUnfrozen b
 
 -- it is room for the tree of the instance
 abbrev pub IsFor : Instance → Room → Type 0

@@ -41,7 +41,7 @@ fn head_line(alloc: Global, due: HeadDue, words: LineWords<'_>) -> Result<Step, 
     Ok(Step::More(due_after(next)))
 }
 
-/// Judges the line that is due. A tree takes the room that is kept, where it fits.
+/// Judges the line that is due. A dossier takes the limits and the room that are kept, where they fit.
 #[inline(always)]
 pub fn judge(
     alloc: Global,
@@ -55,7 +55,7 @@ pub fn judge(
 {
     match due {
         Due::Head(due) => head_line(alloc, due, words),
-        Due::Pool { base } => pool_line(alloc, base, words),
+        Due::Pool { base } => pool_line(alloc, room, base, words),
         Due::Route { draft, more } => route_line(alloc, draft, more, words),
         Due::Plan { draft } => Ok(plan_line(draft, words)?),
         Due::Job { draft, more, from } => job_line(alloc, draft, more, from, words),

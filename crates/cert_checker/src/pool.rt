@@ -6,6 +6,7 @@ ghost use Rattle.cert_checker.specs.Due.{Awaits, IsAwaited, IsBegun, IsStepWithR
 ghost use Rattle.cert_checker.specs.Rules.{TellsRoute};
 
 use crate::due::{BegunDossier, Due, Step};
+use crate::rooms::{TreeRoom, root_for};
 use cert_format::{PoolLine, Refusal, RouteLine, fault_is_refused, read_pool, read_route};
 use crew_instance::Plan;
 use dossier_terms::Reason;
@@ -39,12 +40,17 @@ fn due_routes(draft: Box<BegunDossier>, more: u64) -> Due
 }
 
 /// What is due behind the line `pool`, where it has these numbers. No memory is taken by them.
-fn begin_pool(alloc: Global, base: Base, kept: u64, routes: u64) -> Result<Due, AllocError>
+fn begin_pool(
+    alloc: Global,
+    room: &mut Option<TreeRoom>,
+    base: Base,
+    kept: u64,
+    routes: u64,
+) -> Result<Due, AllocError>
     ensures { IfOk result (λ due. Awaits due
         (routes_due (begin base.form base.instance base.nodes kept) routes)) }
 {
-    let limits = Limits::root(alloc, &base.instance)?;
-    let limits = limits.rest();
+    let limits = root_for(alloc, room, &base.instance)?;
     let plan = Plan::empty(alloc, base.instance.tasks())?;
     let draft = BegunDossier {
         base,
@@ -60,7 +66,12 @@ fn begin_pool(alloc: Global, base: Base, kept: u64, routes: u64) -> Result<Due, 
 
 /// The line `pool`.
 #[inline(always)]
-pub fn pool_line(alloc: Global, base: Box<Base>, words: LineWords<'_>) -> Result<Step, Refusal>
+pub fn pool_line(
+    alloc: Global,
+    room: &mut Option<TreeRoom>,
+    base: Box<Base>,
+    words: LineWords<'_>,
+) -> Result<Step, Refusal>
     ensures { IsStepWithRoom (Due.Pool base) words.entry result }
 {
     fault_is_refused();
@@ -68,7 +79,8 @@ pub fn pool_line(alloc: Global, base: Box<Base>, words: LineWords<'_>) -> Result
     if kept > routes {
         return Err(Refusal::No(Reason::Pool));
     }
-    let due = begin_pool(alloc, Box::into_inner(base), natural(kept), natural(routes))?;
+    let base = Box::into_inner(base);
+    let due = begin_pool(alloc, room, base, natural(kept), natural(routes))?;
     Ok(Step::More(due))
 }
 

@@ -1,25 +1,27 @@
 // The room of a tree, which is kept from one dossier to the next.
-ghost use Rattle.std.specs.Prelude.{◌≡◌, ◌↔◌, length, IfOk, IsTrue};
+ghost use Rattle.std.specs.Prelude.{◌≡◌, ◌↔◌, length, IfOk, IfSome, IsTrue};
 ghost use Rattle.dossier_terms.specs.Dossier.{Dossier};
-ghost use Rattle.cert_checker.specs.Due.{IsEndOf, IsTreeOver};
-ghost use Rattle.cert_checker.specs.Rooms.{HaveSameWindows, IsAlike, IsFor};
+ghost use Rattle.cert_checker.specs.Due.{IsEndOf, IsRoot, IsTreeOf};
+ghost use Rattle.cert_checker.specs.Rooms.{HaveSameRoots, HaveSameWindows, IsAlike, IsFor, IsUnfrozen};
 
 use crate::due::{BegunDossier, EndedDossier, NO_LOOSE, TreeDraft};
 use crew_instance::Instance;
 use crew_terms::TreeCounts;
 use leaf_check::LeafReader;
-use node_limits::Limits;
+use node_limits::{Held, Limits};
 use share_check::ShareSums;
 use std::alloc::{AllocError, Global};
 use std::marker::Model;
 use tree_walk::Walk;
 
-/// The room of a tree that is over: what has read its leaves, and the sums of shares.
+/// The room of a tree that is over: what has read its leaves, the sums of shares, and the limits of its root.
 ///
 /// In contracts: the instance that they are for.
 #[derive(Drop)]
 pub struct TreeRoom {
     tree: Box<TreeDraft>,
+    // Whether the limits are still there.
+    has_limits: bool,
 }
 
 impl Model for TreeRoom {
@@ -27,11 +29,11 @@ impl Model for TreeRoom {
 
     ghost Value = { Planned };
 
-    ghost use Rattle.cert_checker.specs.Due.{IsRoomOf};
+    ghost use Rattle.cert_checker.specs.Due.{IsTreeOver};
 
     ghost view = { λ a. a.tree.value.draft.value.base.instance };
 
-    ghost invariant = { λ a. IsRoomOf a.tree.value };
+    ghost invariant = { λ a. IsTreeOver a.tree.value a.has_limits };
 }
 
 /// New room for a tree.
@@ -64,6 +66,18 @@ fn have_same_windows(a: &Instance, b: &Instance) -> bool
     true
 }
 
+/// Whether no job is frozen.
+fn is_unfrozen(instance: &Instance) -> bool
+    ensures { IsTrue result ↔ IsUnfrozen instance.now }
+{
+    for j in 0..instance.tasks() as u32 {
+        if instance.frozen(j).is_some() {
+            return false;
+        }
+    }
+    true
+}
+
 impl TreeRoom {
     /// The room of the dossier's tree.
     pub fn of(ended: EndedDossier) -> TreeRoom
@@ -71,7 +85,10 @@ impl TreeRoom {
         ensures { result ≡ ended.tree.value.draft.value.base.instance }
     {
         let EndedDossier { tree, .. } = ended;
-        TreeRoom { tree }
+        TreeRoom {
+            tree,
+            has_limits: true,
+        }
     }
 
     /// Whether it is room for a tree over this instance.
@@ -82,12 +99,34 @@ impl TreeRoom {
         own.teams() == instance.teams() && have_same_windows(own, instance)
     }
 
+    /// Whether the limits of the root of its instance are those of this one, where no job is frozen.
+    fn has_root_of(&self, instance: &Instance) -> bool
+        ensures { IsTrue result ↔ HaveSameRoots self.now instance.now }
+    {
+        let own = &self.tree.draft.base.instance;
+        self.fits(instance) && is_unfrozen(own) && is_unfrozen(instance)
+    }
+
+    /// The limits of the root of this instance, at rest, if it has them. They are handed out once.
+    fn take_root(&mut self, alloc: Global, instance: &Instance) -> Option<Held>
+        ensures same { self.new ≡ self.old }
+        ensures root { IfSome result (IsRoot instance.now) }
+    {
+        if !self.has_limits || !self.has_root_of(instance) {
+            return None;
+        }
+        self.has_limits = false;
+        let tree = &mut *self.tree;
+        let draft = &mut *tree.draft;
+        Some(draft.limits.take(alloc))
+    }
+
     /// Another tree in its room.
     fn hold(self, draft: Box<BegunDossier>, claimed: TreeCounts, walk: Walk) -> Box<TreeDraft>
         requires { IsAlike self draft.value.base.instance }
-        ensures { IsTreeOver draft claimed walk result.value }
+        ensures { IsTreeOf draft claimed walk result.value }
     {
-        let TreeRoom { mut tree } = self;
+        let TreeRoom { mut tree, .. } = self;
         let held = &mut *tree;
         held.draft = draft;
         held.claimed = claimed;
@@ -109,7 +148,7 @@ fn first_tree(
     walk: Walk,
 ) -> Result<Box<TreeDraft>, AllocError>
     requires { IsFor draft.value.base.instance (Room.New room) }
-    ensures { IfOk result (λ tree. IsTreeOver draft claimed walk tree.value) }
+    ensures { IfOk result (λ tree. IsTreeOf draft claimed walk tree.value) }
 {
     let NewRoom { reader, sums } = Box::into_inner(room);
     let tree = TreeDraft {
@@ -134,7 +173,7 @@ impl Room {
         walk: Walk,
     ) -> Result<Box<TreeDraft>, AllocError>
         requires { IsFor draft.value.base.instance self }
-        ensures { IfOk result (λ tree. IsTreeOver draft claimed walk tree.value) }
+        ensures { IfOk result (λ tree. IsTreeOf draft claimed walk tree.value) }
     {
         match self {
             Room::Kept(room) => Ok(room.hold(draft, claimed, walk)),
@@ -167,4 +206,21 @@ pub fn room_for(
         }
     }
     Ok(Room::New(new_room(alloc, limits)?))
+}
+
+/// The limits of the root of an instance, at rest: those that are kept, where they are the same, or new ones.
+pub fn root_for(
+    alloc: Global,
+    kept: &mut Option<TreeRoom>,
+    instance: &Instance,
+) -> Result<Held, AllocError>
+    ensures { IfOk result (IsRoot instance.now) }
+{
+    if let Some(room) = kept.as_mut() {
+        if let Some(limits) = room.take_root(alloc, instance) {
+            return Ok(limits);
+        }
+    }
+    let limits = Limits::root(alloc, instance)?;
+    Ok(limits.rest())
 }

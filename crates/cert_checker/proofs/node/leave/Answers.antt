@@ -31,7 +31,7 @@ returns c =
     ended_at tree c.wake-limits.result c.leave-is_whole.new.limits c.leave-is_whole.new.self c.rest.result
     (with_value c.args.tree (record held { draft = with_value held.draft (record draft { limits = c.rest.result }); walk = c.leave-is_whole.new.self }))
     c.seen-seen.result c.args.is_closed
-    woke (subst (λ (x : TreeDraft). LeavesLeaf c.args.is_closed c.wake-limits.result x.walk c.leave-is_whole.new.limits c.leave-is_whole.new.self true) c.deref_mut-held.ensures.value c.if-not-is_whole.ensures.leaves)
+    woke c.rest.ensures.same c.rest.ensures.over (subst (λ (x : TreeDraft). LeavesLeaf c.args.is_closed c.wake-limits.result x.walk c.leave-is_whole.new.limits c.leave-is_whole.new.self true) c.deref_mut-held.ensures.value c.if-not-is_whole.ensures.leaves)
     (written_back tree held draft c.rest.result c.leave-is_whole.new.self held.unshown c.deref_mut-held.ensures.value c.deref_mut-draft.ensures.value
     ∙ ap (λ (x : TreeDraft). moved tree c.rest.result c.leave-is_whole.new.self x.unshown) c.deref_mut-held.ensures.value)
     c.seen-seen.ensures

@@ -1,21 +1,17 @@
-use Rattle.std.proofs.Common.{◌≡◌, [], ap, sym, subst, ◌∙◌}
+use Rattle.std.proofs.Common.{ap, sym, subst, ◌∙◌}
 use Rattle.crew_terms.specs.Plan.{empty_plan}
-use Rattle.crew_terms.specs.Limits.{root_limits}
 use Rattle.crew_terms.specs.Verdict.{IsPlanOf}
 use Rattle.dossier_terms.specs.Reading.{routes_due}
-use Rattle.node_limits.specs.Trail.{Trail}
 use Rattle.cert_checker.specs.Due.{Awaits, IsBegun, draft_of}
-use Rattle.cert_checker.proofs.PoolRows.{begun, empty_is_plan, rest_is_root}
+use Rattle.cert_checker.proofs.PoolRows.{begun, empty_is_plan}
 use Rattle.cert_checker.proofs.pool.begin_pool.Goals as goal
 
 pub due_routes-requires : goal.due_routes-requires
 due_routes-requires c =
     let i = c.args.base.instance in
-    let t : c.in_ok-limits.limits ≡ record { limits = root_limits i; past = []; spare = 0 } = c.in_ok-limits.ensures in
     subst IsBegun (sym c.in_ok-draft.ensures.ok) (record {
       plan = subst (IsPlanOf i) (sym (c.in_ok-plan.ensures ∙ ap empty_plan c.tasks.ensures.count)) (empty_is_plan i);
-      root = rest_is_root i c.in_ok-limits.limits c.rest-limits.result (ap (λ (x : Trail). x.limits) t) (ap (λ (x : Trail). x.past) t)
-          c.rest-limits.ensures.same c.rest-limits.ensures.over;
+      root = c.in_ok-limits.ensures;
     })
 
 pub returns : goal.returns

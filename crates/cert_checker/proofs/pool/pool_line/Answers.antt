@@ -30,7 +30,7 @@ returns c = λ reading e.
     let le : h.0 ≤ h.1 = omega (arith, ints) in
     let kept : c.natural.result ≡ h.0 = natural_is line.kept h.0 c.natural.result k h.4 c.natural.ensures in
     let routes : c.natural-2.result ≡ h.1 = natural_is line.routes h.1 c.natural-2.result n h.5 c.natural-2.ensures in
-    let begun = subst (λ (b : Base). Awaits due (routes_due (begin b.form b.instance b.nodes c.natural.result) c.natural-2.result)) c.into_inner.ensures c.in_ok-due.ensures in
+    let begun = subst (λ (b : Base). Awaits due (routes_due (begin b.form b.instance b.nodes c.natural.result) c.natural-2.result)) c.into_inner-base.ensures c.in_ok-due.ensures in
     let next : Awaits due (routes_due (begin form i budget h.0) h.1) =
     subst (λ m. Awaits due (routes_due (begin form i budget h.0) m)) routes
     (subst (λ m. Awaits due (routes_due (begin form i budget m) c.natural-2.result)) kept begun) in

@@ -17,5 +17,5 @@ returns c =
     let h = c.args.draft.value.base.instance in
     let alike : IsAlike i h = subst (λ x. IsAlike x h) (sym c.self.view_is) c.requires in
     let begun : c.begin.new.self ≡ record old.reader { due = Price } = c.begin.ensures.rest ∙ ap (λ (t : TreeDraft). record t.reader { due = Price }) same in
-    let sums : HasRoom (root_limits h) held.sums = subst (λ (t : TreeDraft). HasRoom (root_limits h) t.sums) (sym same) (sums_for i h alike (root_limits h) refl old.sums c.self.invariant.shares) in
-    record { is = refl; room = record { leaves = reader_for i h alike old.reader c.begin.new.self c.self.invariant.leaves begun; shares = sums } }
+    let sums : HasRoom (root_limits h) held.sums = subst (λ (t : TreeDraft). HasRoom (root_limits h) t.sums) (sym same) (sums_for i h alike (root_limits h) refl old.sums c.self.invariant.room.shares) in
+    record { is = refl; room = record { leaves = reader_for i h alike old.reader c.begin.new.self c.self.invariant.room.leaves begun; shares = sums } }
