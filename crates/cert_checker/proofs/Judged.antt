@@ -1,18 +1,21 @@
 -- where a checker stands after it judged a line
-use Rattle.std.proofs.Common.{◌≡◌, ◌+◌, ℕ, refl}
+use Rattle.std.proofs.Common.{◌≡◌, ◌+◌, ℕ, [], refl, subst}
 use Rattle.std.specs.Prelude.{Result, Ok, Err}
 use Rattle.crew_terms.specs.Words.{Words}
 use Rattle.dossier_terms.specs.Dossier.{Dossier}
 use Rattle.dossier_terms.specs.declared.Reason.{Reason}
 use Rattle.dossier_terms.specs.Reading.{Reading, Form, Answer, More as Goes, Whole as Ends, No as Refuses}
 use Rattle.dossier_terms.specs.Table.{Says}
-use Rattle.cert_checker.specs.Due.{Tells}
-use Rattle.cert_checker.specs.Checked.{IsEnded, IsOpen, IsJudged, IsReached, IsTrueYes, said_of, StandsAfter}
-use Rattle.cert_checker.specs.Kept.{IsSettled, kept_state}
+use Rattle.head_check.specs.declared.due.HeadDue.TheVariants as heads
+use Rattle.cert_checker.specs.Due.{Awaits, IsOfTree, Tells}
+use Rattle.cert_checker.specs.Checked.{IsEnded, IsOpen, IsJudged, IsPastTree, IsReached, IsTrueYes, said_of, StandsAfter}
+use Rattle.cert_checker.specs.Kept.{IsKeptFrom, IsSettled, kept_state}
 use Rattle.cert_checker.specs.Said.{IsSaidOf}
 use Rattle.cert_checker.specs.declared.checker.Said.{Said}
 use Rattle.cert_checker.specs.declared.checker.State.{State}
 use Rattle.cert_checker.specs.declared.checker.State.TheVariants as states
+use Rattle.cert_checker.specs.declared.due.Due.{Due}
+use Rattle.cert_checker.specs.declared.due.Due.TheVariants.{Head, Pool, Route, Plan, Job, Tree, Node, Why, Share, Spare, Leaf, End}
 use Rattle.cert_checker.specs.declared.due.Step.{Step}
 use Rattle.cert_checker.specs.declared.due.Step.TheVariants.{More, Whole}
 
@@ -52,6 +55,33 @@ judged lines reading words step said reached tells one says = let it = answered 
   count = refl;
   stands = it.stands;
 }
+
+-- the first line is due of what is kept where nothing was read
+pub first_kept : IsKeptFrom (Head heads.Form)
+first_kept = (Form, ([], refl), (tt, tt, refl))
+
+-- what stands for a line behind the line `tree` is of a tree
+pub of_tree : (due : Due) (r : Reading) → Awaits due r → IsPastTree r → IsOfTree due
+of_tree (Head heads.Form) r awaits past = subst IsPastTree awaits.2 past
+of_tree (Head (heads.Size form)) r awaits past = subst IsPastTree awaits.2 past
+of_tree (Head (heads.Place head more)) r awaits past = subst IsPastTree awaits.2 past
+of_tree (Head (heads.Travel head more)) r awaits past = subst IsPastTree awaits.2 past
+of_tree (Head (heads.Team head more)) r awaits past = subst IsPastTree awaits.2 past
+of_tree (Head (heads.Task head more)) r awaits past = subst IsPastTree awaits.2 past
+of_tree (Head (heads.Frozen head)) r awaits past = subst IsPastTree awaits.2 past
+of_tree (Head (heads.Keep head more from)) r awaits past = subst IsPastTree awaits.2 past
+of_tree (Head (heads.Whole base)) r awaits past = subst IsPastTree awaits.2 past
+of_tree (Pool base) r awaits past = subst IsPastTree awaits past
+of_tree (Route b more) r awaits past = subst IsPastTree awaits.1 past
+of_tree (Plan b) r awaits past = subst IsPastTree awaits.1 past
+of_tree (Job b more from) r awaits past = subst IsPastTree awaits.1 past
+of_tree (Tree b) r awaits past = subst IsPastTree awaits.1 past
+of_tree (Node tree) r awaits past = tt
+of_tree (Why tree choice) r awaits past = tt
+of_tree (Share tree more from) r awaits past = tt
+of_tree (Spare tree) r awaits past = tt
+of_tree (Leaf tree is_closed) r awaits past = tt
+of_tree (End tree seen) r awaits past = tt
 
 -- behind a whole dossier a line is due
 pub ended_is_open : (at : State) → IsEnded at → IsOpen at

@@ -202,7 +202,6 @@ impl Checker {
     /// Judges one more line, without its LF. After a line that is refused every later call gives that answer again,
     /// and after want of memory every later call does that. Behind the line `tree` of a dossier memory is not wanting to
     /// its end.
-    #[inline(always)]
     pub fn line(&mut self, line: &[u8]) -> Result<Said, AllocError>
         requires plain { IsLine line.now }
         requires few { self.old.lines < LONGEST_INPUT }
@@ -220,18 +219,20 @@ impl Checker {
         ensures spent { self.old.at ≡ State.Spent → IsErr result }
         ensures memory { OnErr result (self.new ≡ record self.old { at = State.Spent }) }
     {
-        match mem::replace(&mut self.state, State::Spent) {
-            State::Due(due) => self.judge_line(due, line),
+        // One call for both, so that all that judges a line is inlined once.
+        let due = match mem::replace(&mut self.state, State::Spent) {
+            State::Due(due) => due,
             State::Whole(ended) => {
                 self.room = Some(TreeRoom::of(ended));
-                self.judge_line(Due::Head(HeadDue::Form), line)
+                Due::Head(HeadDue::Form)
             }
             State::Refused { line, reason } => {
                 put_back(&mut self.state, State::Refused { line, reason });
-                Ok(Said::No { line, reason })
+                return Ok(Said::No { line, reason });
             }
-            State::Spent => Err(AllocError),
-        }
+            State::Spent => return Err(AllocError),
+        };
+        self.judge_line(due, line)
     }
 
     /// Whether a dossier is whole, and no line was read after it.

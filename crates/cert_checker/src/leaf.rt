@@ -13,7 +13,6 @@ use node_limits::Limits;
 use std::alloc::Global;
 
 /// A line of the numbers of a leaf.
-#[inline(always)]
 pub fn number_line(
     alloc: Global,
     mut tree: Box<TreeDraft>,
@@ -41,7 +40,6 @@ pub fn number_line(
 }
 
 /// The line `end`.
-#[inline(always)]
 pub fn end_line(
     tree: Box<TreeDraft>,
     seen: TreeCounts,

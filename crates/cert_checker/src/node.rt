@@ -167,7 +167,6 @@ fn leaf_line(mut tree: Box<TreeDraft>, is_closed: bool) -> Result<Step, Reason>
 }
 
 /// A line of a node.
-#[inline(always)]
 pub fn node_line(alloc: Global, tree: Box<TreeDraft>, words: LineWords<'_>) -> Result<Step, Reason>
     requires { IsAwaited (Due.Node tree) }
     ensures { IsStep (Due.Node tree) words.entry result }

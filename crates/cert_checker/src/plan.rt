@@ -12,7 +12,6 @@ use plan_check::check_plan;
 use std::alloc::Global;
 
 /// What is said where so many jobs are to come, of tasks from `from` on: where there is none, of the plan.
-#[inline(always)]
 fn judge_job(draft: Box<BegunDossier>, more: u32, from: u32) -> Result<Step, Reason>
     requires { IsBegun draft.value }
     ensures { Tells (after_job (draft_of draft.value) more from) result }
@@ -32,7 +31,6 @@ fn judge_job(draft: Box<BegunDossier>, more: u32, from: u32) -> Result<Step, Rea
 }
 
 /// The line `plan`.
-#[inline(always)]
 pub fn plan_line(mut draft: Box<BegunDossier>, words: LineWords<'_>) -> Result<Step, Reason>
     requires { IsAwaited (Due.Plan draft) }
     ensures { IsStep (Due.Plan draft) words.entry result }
@@ -46,7 +44,6 @@ pub fn plan_line(mut draft: Box<BegunDossier>, words: LineWords<'_>) -> Result<S
 }
 
 /// A line `do`.
-#[inline(always)]
 pub fn job_line(
     alloc: Global,
     mut draft: Box<BegunDossier>,

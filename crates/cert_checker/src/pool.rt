@@ -65,7 +65,6 @@ fn begin_pool(
 }
 
 /// The line `pool`.
-#[inline(always)]
 pub fn pool_line(
     alloc: Global,
     room: &mut Option<TreeRoom>,
@@ -96,7 +95,6 @@ fn judge_route(draft: Box<BegunDossier>, more: u64, verdict: PoolVerdict) -> Res
 }
 
 /// A line `route`.
-#[inline(always)]
 pub fn route_line(
     alloc: Global,
     mut draft: Box<BegunDossier>,

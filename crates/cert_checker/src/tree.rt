@@ -59,7 +59,6 @@ fn begin_tree(
 }
 
 /// The line `tree`.
-#[inline(always)]
 pub fn tree_line(
     alloc: Global,
     room: &mut Option<TreeRoom>,

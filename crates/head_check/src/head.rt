@@ -1,5 +1,4 @@
-// The lines of an instance: `size`, `place`, `travel`, `team` and `task`, behind the first line of the dossier. Each line
-// goes through one of these calls, so they are inlined.
+// The lines of an instance: `size`, `place`, `travel`, `team` and `task`, behind the first line of the dossier.
 ghost use Rattle.std.specs.Prelude.{◌≡◌, ◌<◌, ◌+◌, ℕ, suc, List, pos, map, length, OnOk, IsTrue};
 ghost use Rattle.crew_terms.specs.Rules.{IsTeamCount};
 ghost use Rattle.crew_terms.specs.declared.TheConstants.{LAST_MINUTE};
@@ -101,7 +100,6 @@ fn due_places(alloc: Global, head: Box<Head>, more: u32) -> Result<HeadDue, Refu
 }
 
 /// The first line.
-#[inline(always)]
 pub fn form_line(words: LineWords<'_>) -> Result<HeadDue, Refusal>
     ensures { IsHeadStep HeadDue.Form words.entry result }
 {
@@ -111,7 +109,6 @@ pub fn form_line(words: LineWords<'_>) -> Result<HeadDue, Refusal>
 }
 
 /// The line `size`.
-#[inline(always)]
 pub fn size_line(alloc: Global, form: DossierForm, words: LineWords<'_>) -> Result<HeadDue, Refusal>
     ensures { IsHeadStep (HeadDue.Size form) words.entry result }
 {
@@ -138,7 +135,6 @@ fn add_place(alloc: Global, mut head: Box<Head>, more: u32, name: Name) -> Resul
 }
 
 /// A line `place`.
-#[inline(always)]
 pub fn place_line(
     alloc: Global,
     head: Box<Head>,
@@ -192,7 +188,6 @@ fn add_travel(
 }
 
 /// A line `travel`.
-#[inline(always)]
 pub fn travel_line(
     alloc: Global,
     head: Box<Head>,
@@ -229,7 +224,6 @@ fn add_team(
 }
 
 /// A line `team`.
-#[inline(always)]
 pub fn team_line(
     alloc: Global,
     head: Box<Head>,
@@ -281,7 +275,6 @@ fn add_task(
 }
 
 /// A line `task`.
-#[inline(always)]
 pub fn task_line(
     alloc: Global,
     head: Box<Head>,

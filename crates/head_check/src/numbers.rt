@@ -52,7 +52,6 @@ pub(crate) fn number_list(alloc: Global, numbers: &LineNumbers<'_>) -> Result<Ve
 }
 
 /// The numbers of teams, copied out of a line. As many as a task may need take no memory of their own.
-#[inline(always)]
 pub fn team_list(
     alloc: Global,
     teams: &LineNumbers<'_>,
