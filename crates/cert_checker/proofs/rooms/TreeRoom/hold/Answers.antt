@@ -1,6 +1,5 @@
 use Rattle.std.proofs.Common.{◌≡◌, ap, refl, subst, sym, ◌∙◌}
 use Rattle.crew_terms.specs.Limits.{root_limits}
-use Rattle.leaf_check.specs.declared.reader.LeafReader.{LeafReader}
 use Rattle.leaf_check.specs.declared.reader.LeafDue.TheVariants.{Price}
 use Rattle.share_check.specs.Summed.{HasRoom}
 use Rattle.cert_checker.specs.Rooms.{IsAlike}
