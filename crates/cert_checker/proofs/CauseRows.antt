@@ -28,7 +28,7 @@ use Rattle.cert_checker.specs.Rules.{after_fault, after_loose, after_share, afte
 use Rattle.cert_checker.specs.declared.due.BegunDossier.{BegunDossier as Held}
 use Rattle.cert_checker.specs.declared.due.LooseDraft.{LooseDraft}
 use Rattle.cert_checker.specs.declared.due.TreeDraft.{TreeDraft}
-use Rattle.cert_checker.proofs.LeafRows.{stays, rested, rested_back}
+use Rattle.cert_checker.proofs.LeafRows.{stays, rested, rested_back, with_room}
 
 -- room for the shares of a node of the instance is room for those of another
 pub room_of : (n m : Limits) (s : ShareSums) → n.instance ≡ m.instance → HasRoom n s → HasRoom m s
@@ -46,29 +46,11 @@ room_in n whole shares s sums = record { all = sums.all.count; count = sums.coun
 pub with_sums : (tree : TreeDraft) (s : ShareSums) (fs : List Above) → IsAtNode tree fs → HasRoom (limits_below (root_limits tree.draft.value.base.instance) fs) s → IsAtNode (record tree { sums = s }) fs
 with_sums tree s fs node room =
     let root = root_limits tree.draft.value.base.instance in
-    record {
-      claimed = node.claimed;
-      over = node.over;
-      at = node.at;
-      depth = node.depth;
-      spare = node.spare;
-      unshown = node.unshown;
-      reader = node.reader;
-      sums = room_of (limits_below root fs) root s (instance_below root fs) room;
-    }
+    with_room tree tree.reader tree.loose s fs node node.reader (room_of (limits_below root fs) root s (instance_below root fs) room)
 
 -- the node stays where it is with another loose cause
 with_loose : (tree : TreeDraft) (loose : LooseDraft) (fs : List Above) → IsAtNode tree fs → IsAtNode (record tree { loose = loose }) fs
-with_loose tree loose fs node = record {
-  claimed = node.claimed;
-  over = node.over;
-  at = node.at;
-  depth = node.depth;
-  spare = node.spare;
-  unshown = node.unshown;
-  reader = node.reader;
-  sums = node.sums;
-}
+with_loose tree loose fs node = with_room tree tree.reader loose tree.sums fs node node.reader node.sums
 
 -- ---- overflows
 

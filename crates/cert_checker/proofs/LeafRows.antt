@@ -26,7 +26,10 @@ use Rattle.leaf_check.specs.declared.reader.LeafStep.TheVariants as steps
 use Rattle.tree_walk.specs.Way.{IsAt, IsLeaf}
 use Rattle.cert_checker.specs.Due.{HasLeafRoom, IsInLeaf, IsAtNode, IsStep, draft_of, site_of}
 use Rattle.cert_checker.specs.Rooms.{IsReaderFor}
+use Rattle.share_check.specs.Summed.{HasRoom}
+use Rattle.share_check.specs.declared.sums.ShareSums.{ShareSums}
 use Rattle.cert_checker.specs.declared.due.BegunDossier.{BegunDossier as Held}
+use Rattle.cert_checker.specs.declared.due.LooseDraft.{LooseDraft}
 use Rattle.cert_checker.specs.declared.due.TreeDraft.{TreeDraft}
 use Rattle.cert_checker.specs.declared.due.Due.TheVariants.{End as EndLine}
 use Rattle.cert_checker.specs.declared.due.Step.TheVariants.{Whole}
@@ -70,9 +73,11 @@ rested_back tree held draft rest e f = written_back tree held draft rest held.wa
 abbrev pub read_by : TreeDraft → Rest → LeafReader → TreeDraft
 read_by tree rest reader = record (rested tree rest) { reader = reader }
 
--- the node stays where it is with another reader for its instance
-pub with_reader : (tree : TreeDraft) (reader : LeafReader) (fs : List Above) → IsAtNode tree fs → IsReaderFor tree.draft.value.base.instance reader → IsAtNode (record tree { reader = reader }) fs
-with_reader tree reader fs node ready = record {
+-- the node stays where it is with other room for its instance
+pub with_room : (tree : TreeDraft) (reader : LeafReader) (loose : LooseDraft) (sums : ShareSums) (fs : List Above) → IsAtNode tree fs
+    → IsReaderFor tree.draft.value.base.instance reader → HasRoom (root_limits tree.draft.value.base.instance) sums
+    → IsAtNode (record tree { reader = reader; loose = loose; sums = sums }) fs
+with_room tree reader loose sums fs node ready room = record {
   claimed = node.claimed;
   over = node.over;
   at = node.at;
@@ -80,8 +85,12 @@ with_reader tree reader fs node ready = record {
   spare = node.spare;
   unshown = node.unshown;
   reader = ready;
-  sums = node.sums;
+  sums = room;
 }
+
+-- the same with another reader alone
+pub with_reader : (tree : TreeDraft) (reader : LeafReader) (fs : List Above) → IsAtNode tree fs → IsReaderFor tree.draft.value.base.instance reader → IsAtNode (record tree { reader = reader }) fs
+with_reader tree reader fs node ready = with_room tree reader tree.loose tree.sums fs node ready node.sums
 
 -- the goal is that of the place
 pub goal_at : (tree : TreeDraft) (t : Trail) → t ≡ trail_over tree.draft.value.base.instance tree.draft.value.limits
