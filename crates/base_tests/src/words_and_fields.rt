@@ -1,5 +1,5 @@
 // Tests of words, numbers, clocks and rows.
-use crate::asserts::{holds_at, same};
+use crate::asserts::{holds_at, same, same_at};
 use field_table::{
     Cause, Cuts, Field, FieldFault, Kind, Row, Schema, Words, fields, read_at, read_clock,
     read_number, write_clock, write_number,
@@ -25,6 +25,17 @@ fn assert_numbers(rt: &impl Abort, cuts: &mut Cuts, line: &[u8], wanted: &[Optio
     for (n, number) in wanted.iter().enumerate() {
         holds_at(rt, n < words.count() && words.number(n) == *number, &n);
     }
+}
+
+/// Asserts the first word of a line of 41 words, the number that it spells, and that the last word is 7.
+fn assert_first(rt: &impl Abort, cuts: &mut Cuts, line: &[u8], word: &[u8], number: Option<i64>) {
+    assert!(rt; line.len() <= 200);
+    let words = cuts.split(line);
+    same_at(rt, &words.count(), &41, &word);
+    assert!(rt; words.count() == 41);
+    holds_at(rt, words.word(0) == word, &word);
+    same_at(rt, &words.number(0), &number, &word);
+    same_at(rt, &words.number(40), &Some(7), &word);
 }
 
 #[test]
@@ -62,33 +73,50 @@ fn reads_each_words_number(rt: HostRuntime) -> Result<(), Fail> {
     Ok(())
 }
 
+/// Words, and the number that each spells, if any.
+const FORMS: [(&[u8], Option<i64>); 21] = [
+    (b"", None),
+    (b"7", Some(7)),
+    (b"10", Some(10)),
+    (b"1440", Some(1440)),
+    (b"00", None),
+    (b"07", None),
+    (b"-", None),
+    (b"-0", None),
+    (b"-1", Some(-1)),
+    (b"12x", None),
+    (b"x12", None),
+    (b"1-2", None),
+    (b"+1", None),
+    (b"12345678901234567", Some(12_345_678_901_234_567)),
+    (b"123456789012345678", Some(123_456_789_012_345_678)),
+    (b"012345678901234567", None),
+    (b"12345678901234567x", None),
+    (b"123456789012345678x", None),
+    (b"1234567890123456789", Some(1_234_567_890_123_456_789)),
+    (b"9999999999999999999", None),
+    (b"-9223372036854775808", Some(i64::MIN)),
+];
+
 #[test]
 fn reads_the_number_of_each_form_of_word(rt: HostRuntime) -> Result<(), Fail> {
     let mut cuts = Cuts::new(rt.alloc())?;
-    for (word, number) in [
-        (b"".as_slice(), None),
-        (b"7", Some(7)),
-        (b"10", Some(10)),
-        (b"1440", Some(1440)),
-        (b"00", None),
-        (b"07", None),
-        (b"-", None),
-        (b"-0", None),
-        (b"-1", Some(-1)),
-        (b"12x", None),
-        (b"x12", None),
-        (b"1-2", None),
-        (b"+1", None),
-        (b"12345678901234567", Some(12_345_678_901_234_567)),
-        (b"123456789012345678", Some(123_456_789_012_345_678)),
-        (b"012345678901234567", None),
-        (b"12345678901234567x", None),
-        (b"123456789012345678x", None),
-        (b"1234567890123456789", Some(1_234_567_890_123_456_789)),
-        (b"9999999999999999999", None),
-        (b"-9223372036854775808", Some(i64::MIN)),
-    ] {
+    for (word, number) in FORMS {
         assert_numbers(&rt, &mut cuts, word, &[number]);
+    }
+    Ok(())
+}
+
+#[test]
+fn reads_the_same_numbers_at_the_front_of_a_long_line(rt: HostRuntime) -> Result<(), Fail> {
+    let alloc = rt.alloc();
+    let mut cuts = Cuts::new(alloc)?;
+    for (word, number) in FORMS {
+        let mut line = Vec::from_slice(alloc, word)?;
+        for _ in 0..40 {
+            line.extend_from_slice(b" 7")?;
+        }
+        assert_first(&rt, &mut cuts, &line, word, number);
     }
     Ok(())
 }

@@ -1,5 +1,5 @@
 -- laws of the plan without a job
-use Rattle.std.proofs.Common.{◌≡◌, ℕ, zero, suc, sym, refl, length, None, Some}
+use Rattle.std.proofs.Common.{◌≡◌, ℕ, zero, suc, refl, length, None, Some}
 use Rattle.std.proofs.lemmas.List.{length-replicate}
 use Rattle.crew_terms.specs.Instance.{Instance}
 use Rattle.crew_terms.specs.Plan.{Job, empty_plan, job_of}

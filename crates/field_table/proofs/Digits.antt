@@ -8,6 +8,7 @@ use Rattle.std.proofs.lemmas.List.{take-append-drop, take_more, length-take-le, 
 use Rattle.std.proofs.lemmas.List.Elements.{All-from_get_or}
 use Rattle.std.proofs.Math.Nat.{pow-suc}
 use Rattle.std.specs.Prelude.{All}
+use Rattle.field_table.specs.Digits.{IsFrontNumber}
 use Rattle.std.proofs.lemmas.Str.Parse.{IsNumeralModel, numerals_by_fold}
 use Rattle.std.proofs.lemmas.Fmt.{decimal-digits_value, digits_value-decimal, digits_decimal, first_decimal, decimal_digit, decimal_nonempty}
 
@@ -95,6 +96,42 @@ pub front_spelled : (bytes : List ℕ) (count n : ℕ) → count ≤ length byte
 front_spelled bytes count n l digits value small some plain =
     let long : length (take count bytes) ≡ count = length-take-le count bytes l in
     decimal_read (take count bytes) n digits (omega arith) (λ e. long ∙ plain (sym (get_or-take count bytes 0 0 some) ∙ e)) value (omega arith)
+
+-- the first bytes, so many, are digits, and this is the number that they are
+pub record AreReadAs (bytes : List ℕ) (count n : ℕ) : Type 0 where
+  pub small : n < 10 ^ count
+  pub value : read_on 0 (take count bytes) ≡ n
+  pub digits : all_ascii_digits (take count bytes) ≡ true
+
+-- at most 18 of them are no large number
+pub short_value : (bytes : List ℕ) (count n : ℕ) → AreReadAs bytes count n → count ≤ 18 → n < 10 ^ 18
+short_value bytes count n held short = below_power count n held.small short
+
+-- one digit more is read
+pub read_further : (bytes : List ℕ) (count n : ℕ) → AreReadAs bytes count n → count < length bytes → is_ascii_digit (get_or bytes count 0) ≡ true → get_or bytes count 0 - 48 < 10
+    → AreReadAs bytes (count + 1) (10 * n + (get_or bytes count 0 - 48))
+read_further bytes count n held within digit below = record {
+  small = power_more count n (get_or bytes count 0 - 48) held.small below;
+  value = value_more bytes count n within held.value;
+  digits = digits_more bytes count within held.digits digit;
+}
+
+-- what is read is a number at the front, where it ends and no other 0 begins it
+pub front_number : (bytes : List ℕ) (count n : ℕ) → AreReadAs bytes count n → count ≤ length bytes → count ≤ 18 → 0 < count → ¬ ((1 < count) × (get_or bytes 0 0 ≡ 48))
+    → (count < length bytes → get_or bytes count 0 ≡ 32) → IsFrontNumber bytes (record { count = count; value = n })
+front_number bytes count n held within short some plain ended =
+    let small = short_value bytes count n held short in
+    record {
+      within = within;
+      digits = held.digits;
+      small = small;
+      spelled = front_spelled bytes count n within held.digits held.value small some (at (cases_eq count 1));
+      ended = ended;
+    }
+  where
+    at : (count ≡ 1) ⊎ (count ≡ 1 → ⊥) → get_or bytes 0 0 ≡ 48 → count ≡ 1
+    at (inl one) e = one
+    at (inr more) e = absurd (plain ((let l : 1 < count = omega arith in l), e))
 
 -- digits are no spaces
 pub no_digit_space : (word : List ℕ) → all_ascii_digits word ≡ true → All (λ b. b ≢ 32) word

@@ -1,14 +1,16 @@
 -- the words of a line, cut by cut
 use Rattle.std.proofs.Common.{◌≡◌, ◌≢◌, ◌≤◌, ◌<◌, ◌+◌, ◌-◌, ◌++◌, [], ◌∷◌, ℕ, suc, List, length, take, drop, get_or, eqb, true, false, ap, sym, refl, ◌∙◌, arith, subst, append_assoc, length-drop}
+use Rattle.std.proofs.Math.ListN.{set, length-set}
 use Rattle.std.proofs.Math.Seq.{drop-cons}
 use Rattle.std.specs.Prelude.{All, slice_range}
 use Rattle.std.specs.Str.{all_ascii_digits}
 use Rattle.std.proofs.lemmas.Bool.{ne_eqb}
-use Rattle.std.proofs.lemmas.List.{map-append, drop-drop, take_all, take-append-drop}
+use Rattle.std.proofs.lemmas.List.{map-append, drop-drop, take_all, take_more_set, take-append-drop}
+use Rattle.std.proofs.lemmas.List.Elements.{All-push}
 use Rattle.std.proofs.lemmas.List.Splits.{slice_split_at, slice_split_none}
 use Rattle.crew_terms.specs.Words.{words_of}
 use Rattle.field_table.proofs.Digits.{no_digit_space}
-use Rattle.field_table.specs.Pieces.{pieces_of, piece_of}
+use Rattle.field_table.specs.Pieces.{pieces_of, piece_of, IsCutOf, IsCutUpTo, IsWordAt}
 use Rattle.field_table.specs.declared.cuts.Cut.{Cut}
 
 -- no space in it
@@ -53,3 +55,49 @@ pub no_space : (line : List ℕ) (from count : ℕ) → all_ascii_digits (take c
 no_space line from count h =
     let e : from + count - from ≡ count = omega arith in
     subst (λ n. All (λ b. b ≢ 32) (take n (drop from line))) (sym e) (no_digit_space (take count (drop from line)) h)
+
+-- a line is cut up to this place, in room for all its words
+pub record IsCutIn (line : List ℕ) (cuts : List Cut) (count from : ℕ) : Type 0 where
+  pub room : length line < length cuts
+  pub cut : IsCutUpTo line cuts count from
+
+-- one more word is cut
+pub cut_further : (line : List ℕ) (cuts : List Cut) (count from : ℕ) (cut : Cut) → IsCutIn line cuts count from → from ≤ length line
+    → IsWordAt line from cut → IsCutIn line (set cuts count cut) (count + 1) (cut.until + 1)
+cut_further line cuts count from cut held here word =
+    let before : List Cut = take count cuts in
+    let begins = word.begins in
+    let within = word.is_cut.within in
+    let order = word.is_cut.order in
+    let earlier = held.cut.order in
+    let words = held.cut.words here in
+    let room = held.room in
+    let inside : count < length cuts = omega arith in
+    let more : take (count + 1) (set cuts count cut) ≡ before ++ cut ∷ [] = take_more_set cuts count cut inside in
+    record {
+      room = rw length-set held.room;
+      cut = record {
+        order = omega arith;
+        within = omega arith;
+        are_cuts = rw more (All-push (IsCutOf line) before cut held.cut.are_cuts word.is_cut);
+        words = λ next.
+            let within : cut.until < length line = omega arith in
+            rw more (word_ends line before cut order within word.whole (word.ended within) (rw begins words));
+        all = λ over.
+            let last : cut.until ≡ length line = omega arith in
+            rw more (words_end line before cut last word.whole (rw begins words));
+      };
+    }
+
+-- nothing is cut yet
+pub uncut : (line : List ℕ) (cuts : List Cut) → length line < length cuts → IsCutIn line cuts 0 0
+uncut line cuts room = record {
+  room = room;
+  cut = record {
+    order = omega arith;
+    within = omega arith;
+    are_cuts = λ k d l. absurd (omega arith);
+    words = λ _. refl;
+    all = λ over. absurd (omega arith);
+  };
+}

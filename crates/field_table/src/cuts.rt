@@ -1,12 +1,14 @@
 // The words of a line.
-ghost use Rattle.std.specs.Prelude.{◌≡◌, ◌≢◌, ◌≤◌, ◌<◌, ◌+◌, [], List, ℕ, ℤ, FitsSigned, Some, length, take, slice_get, slice_index, slice_index_or, vec_capacity, vec_len, All, MatchOption};
+ghost use Rattle.std.specs.Prelude.{◌≡◌, ◌≢◌, ◌≤◌, ◌<◌, ◌+◌, [], List, ℕ, ℤ, FitsSigned, None, Some, length, take, drop, slice_get, slice_index, slice_index_or, slice_range, vec_capacity, vec_len, All, MatchOption, IsFalse};
 ghost use Rattle.std.specs.Int.{w64};
 ghost use Rattle.std.specs.Fmt.{signed_decimal};
 ghost use Rattle.crew_terms.specs.Words.{words_of};
 ghost use Rattle.crew_terms.specs.declared.TheConstants.{LONGEST_LINE};
-ghost use Rattle.field_table.specs.Pieces.{piece_of, pieces_of, IsCutOf, IsNumberOf};
+ghost use Rattle.field_table.specs.Digits.{IsFrontNumber};
+ghost use Rattle.field_table.specs.Pieces.{piece_of, pieces_of, IsCutOf, IsCutUpTo, IsNumberOf, IsWordAt};
+ghost use Rattle.field_table.specs.declared.cuts.TheConstants.{FAR};
 
-use crate::numbers::{read_number, short_number};
+use crate::numbers::{Digits, number_within, read_number, short_number};
 use crew_terms::LONGEST_LINE;
 use std::alloc::{AllocError, Global};
 use std::marker::Model;
@@ -47,6 +49,9 @@ const NO_WORD: Cut = Cut {
     until: 0,
     number: None,
 };
+
+/// So many bytes of a line are more than a short number has digits, and few lines but those of many numbers have as many.
+const FAR: usize = 64;
 
 /// The words of one line, which borrow the line and the room for its cuts.
 #[derive(Drop)]
@@ -137,67 +142,132 @@ fn make_room(cuts: &mut Vec<Cut>, length: usize)
     }
 }
 
-/// How many bytes stand before the first space, or all where there is none.
-fn count_to_space(bytes: &[u8]) -> usize
-    ensures within { result ≤ length bytes.now }
-    ensures whole { All (λ b. b ≢ 32) (take result bytes.now) }
-    ensures end { result < length bytes.now → slice_index bytes.now result ≡ 32 }
+/// The first place from this one on at which a space stands, or the end of the line.
+fn space_from(line: &[u8], from: usize) -> usize
+    requires { from ≤ length line.now }
+    ensures order { from ≤ result }
+    ensures within { result ≤ length line.now }
+    ensures whole { All (λ b. b ≢ 32) (slice_range line.now from result) }
+    ensures end { result < length line.now → slice_index line.now result ≡ 32 }
 {
-    for (i, b) in bytes.iter().enumerate() {
-        if *b == b' ' {
-            return i;
-        }
+    let mut until = from;
+    while until < line.len() && line[until] != b' ' {
+        until += 1;
     }
-    bytes.len()
+    until
 }
 
-/// The number that a word spells, if any. One that begins with no digit and no `-` is not read.
-fn word_number(word: &[u8]) -> Option<i64>
-    ensures { IsNumberOf result word.now }
+/// Whether a word begins as a number does: with a digit or `-`.
+fn begins_as_number(word: &[u8]) -> bool
+    ensures { IsFalse result → IsNumberOf None word.now }
 {
     if word.is_empty() {
-        return None;
+        return false;
     }
-    if word[0] == b'-' || word[0].is_ascii_digit() {
-        return read_number(word);
-    }
-    None
+    word[0] == b'-' || word[0].is_ascii_digit()
 }
 
-/// The word that begins at this place, whatever it is.
-fn any_cut_at(line: &[u8], from: usize) -> Cut
-    requires from { from ≤ length line.now }
-    ensures from { result.from ≡ from }
-    ensures cut { IsCutOf line.now result }
-    ensures whole { All (λ b. b ≢ 32) (piece_of line.now result) }
-    ensures end { result.until < length line.now → slice_index line.now result.until ≡ 32 }
+/// Writes the cut of a word that begins as a number does, from one place to before another.
+// Few words are read here, so what it takes is not to be set up for the others.
+#[inline(never)]
+fn cut_number(cut: &mut Cut, line: &[u8], from: usize, until: usize) -> usize
+    requires order { from ≤ until }
+    requires within { until ≤ length line.now }
+    ensures from { cut.new.from ≡ from }
+    ensures until { cut.new.until ≡ until }
+    ensures number { IsNumberOf cut.new.number (slice_range line.now from until) }
+    ensures end { result ≡ until }
 {
-    let rest = &line[from..];
-    let word = &rest[..count_to_space(rest)];
-    Cut {
+    *cut = Cut {
         from,
-        until: from + word.len(),
-        number: word_number(word),
+        until,
+        number: read_number(&line[from..until]),
+    };
+    until
+}
+
+/// Writes the cut of the word that begins at this place, whatever it is, and gives the place after its last byte.
+// Into its room, and never inlined: a cut that is given back would go over the stack, that of a short number too.
+#[inline(never)]
+fn cut_any(cut: &mut Cut, line: &[u8], from: usize) -> usize
+    requires { from ≤ length line.now }
+    ensures word { IsWordAt line.now from cut.new }
+    ensures until { result ≡ cut.new.until }
+{
+    let until = space_from(line, from);
+    if begins_as_number(&line[from..until]) {
+        return cut_number(cut, line, from, until);
+    }
+    *cut = Cut {
+        from,
+        until,
+        number: None,
+    };
+    until
+}
+
+/// Writes the cut of the digits that stand at this place, and gives the place after the last of them.
+#[inline(always)]
+fn cut_digits(cut: &mut Cut, line: &[u8], from: usize, digits: Digits) -> usize
+    requires from { from ≤ length line.now }
+    requires digits { IsFrontNumber (drop from line.now) digits }
+    ensures begins { cut.new.from ≡ from }
+    ensures is_cut { IsCutOf line.now cut.new }
+    ensures whole { All (λ b. b ≢ 32) (piece_of line.now cut.new) }
+    ensures ended { cut.new.until < length line.now → slice_index line.now cut.new.until ≡ 32 }
+    ensures until { result ≡ cut.new.until }
+{
+    let until = from + digits.count;
+    *cut = Cut {
+        from,
+        until,
+        number: Some(digits.value as i64),
+    };
+    until
+}
+
+/// Writes the cut of the word that begins at this place, and gives the place after its last byte. A short number is read
+/// in the same pass.
+#[inline(always)]
+fn cut_word(cut: &mut Cut, line: &[u8], from: usize) -> usize
+    requires { from ≤ length line.now }
+    ensures word { IsWordAt line.now from cut.new }
+    ensures until { result ≡ cut.new.until }
+{
+    match short_number(&line[from..]) {
+        Some(digits) => cut_digits(cut, line, from, digits),
+        None => cut_any(cut, line, from),
     }
 }
 
-/// The word that begins at this place; a short number is read in the same pass.
-fn cut_at(line: &[u8], from: usize) -> Cut
-    requires from { from ≤ length line.now }
-    ensures from { result.from ≡ from }
-    ensures cut { IsCutOf line.now result }
-    ensures whole { All (λ b. b ≢ 32) (piece_of line.now result) }
-    ensures end { result.until < length line.now → slice_index line.now result.until ≡ 32 }
+/// The same, where so many bytes of the line are left that a short number ends before it does.
+#[inline(always)]
+fn cut_far_word(cut: &mut Cut, line: &[u8], from: usize) -> usize
+    requires { from + FAR ≤ length line.now }
+    ensures word { IsWordAt line.now from cut.new }
+    ensures until { result ≡ cut.new.until }
 {
-    let rest = &line[from..];
-    if let Some(digits) = short_number(rest) {
-        return Cut {
-            from,
-            until: from + digits.count,
-            number: Some(digits.value as i64),
-        };
+    match number_within(&line[from..]) {
+        Some(digits) => cut_digits(cut, line, from, digits),
+        None => cut_any(cut, line, from),
     }
-    any_cut_at(line, from)
+}
+
+/// Cuts a long line until few of its bytes are left, and gives how many words were cut, and where the next one begins.
+// Most of an input is long lines of numbers, so their loop stands by itself.
+#[inline(never)]
+fn cut_front(cuts: &mut [Cut], line: &[u8]) -> (usize, usize)
+    requires room { length line.now < length cuts.old }
+    requires short { length line.now ≤ LONGEST_LINE }
+    ensures { IsCutUpTo line.now cuts.new result.0 result.1 }
+{
+    let mut from = 0;
+    let mut count = 0;
+    while from + FAR <= line.len() {
+        from = cut_far_word(&mut cuts[count], line, from) + 1;
+        count += 1;
+    }
+    (count, from)
 }
 
 /// Cuts a line at each space, and gives how many words it has.
@@ -208,13 +278,13 @@ fn cut_line(cuts: &mut [Cut], line: &[u8]) -> usize
     ensures words { pieces_of line.now (take result cuts.new) ≡ words_of line.now }
     ensures cuts { All (IsCutOf line.now) (take result cuts.new) }
 {
-    let mut from = 0;
-    let mut count = 0;
+    let (mut count, mut from) = (0, 0);
+    if line.len() >= FAR {
+        (count, from) = cut_front(cuts, line);
+    }
     while from <= line.len() {
-        let cut = cut_at(line, from);
-        cuts[count] = cut;
+        from = cut_word(&mut cuts[count], line, from) + 1;
         count += 1;
-        from = cut.until + 1;
     }
     count
 }

@@ -1,5 +1,5 @@
 // Numbers and their canonical decimals.
-ghost use Rattle.std.specs.Prelude.{suc, negsuc, ◌≡◌, ◌≢◌, ◌≤◌, ◌<◌, ◌^◌, ℕ, ℤ, FitsSigned, Some, length, take, drop, slice_index, IfSome, MatchOption};
+ghost use Rattle.std.specs.Prelude.{suc, negsuc, ◌≡◌, ◌≢◌, ◌≤◌, ◌<◌, ◌^◌, ◌↔◌, ℕ, ℤ, FitsSigned, Some, length, take, drop, slice_index, IfSome, MatchOption, IsTrue};
 ghost use Rattle.std.specs.Int.{w64};
 ghost use Rattle.std.specs.Fmt.{decimal, signed_decimal};
 ghost use Rattle.field_table.specs.Digits.{IsFrontNumber};
@@ -16,6 +16,15 @@ pub(crate) struct Digits {
     pub(crate) value: u64,
 }
 
+/// Whether so many digits begin with a 0 that is not all of them.
+#[inline(always)]
+fn has_leading_zero(bytes: &[u8], count: usize) -> bool
+    requires { count ≤ length bytes.now }
+    ensures { IsTrue result ↔ ((1 < count) × (slice_index bytes.now 0 ≡ 48)) }
+{
+    count > 1 && bytes[0] == b'0'
+}
+
 /// The number of at most 18 digits at the front, and how many these are, where a space or the end follows its decimal.
 // Each word of a line begins here: the loop is of a known length, which the compiler unrolls, and stands in its caller.
 #[inline(always)]
@@ -28,7 +37,7 @@ pub(crate) fn short_number(bytes: &[u8]) -> Option<Digits>
     let mut value = 0u64;
     for count in 0..SHORT + 1 {
         if count == bytes.len() || bytes[count] == b' ' {
-            if count > 1 && bytes[0] == b'0' {
+            if has_leading_zero(bytes, count) {
                 return None;
             }
             return Some(Digits { count, value });
@@ -37,6 +46,30 @@ pub(crate) fn short_number(bytes: &[u8]) -> Option<Digits>
             return None;
         }
         value = 10 * value + (bytes[count] - b'0') as u64;
+    }
+    None
+}
+
+/// The same, of bytes that are more than these digits may be: no end is looked for.
+// It stands in its caller as that does.
+#[inline(always)]
+pub(crate) fn number_within(bytes: &[u8]) -> Option<Digits>
+    requires { 18 < length bytes.now }
+    ensures { IfSome result (λ front. IsFrontNumber bytes.now front) }
+{
+    let mut value = 0u64;
+    for count in 0..SHORT + 1 {
+        let b = bytes[count];
+        if !b.is_ascii_digit() {
+            if b != b' ' || count == 0 {
+                return None;
+            }
+            if has_leading_zero(bytes, count) {
+                return None;
+            }
+            return Some(Digits { count, value });
+        }
+        value = 10 * value + (b - b'0') as u64;
     }
     None
 }

@@ -1,9 +1,0 @@
-use Rattle.std.proofs.Common.{arith}
-use Rattle.field_table.proofs.Signed.{empty_spells_none, spells_none}
-use Rattle.field_table.proofs.cuts.word_number.Goals as goal
-
-pub returns-then-is_empty : goal.returns-then-is_empty
-returns-then-is_empty c = empty_spells_none c.args.word.now (grind arith)
-
-pub returns : goal.returns
-returns c = spells_none c.args.word.now c.if-word-eq45.false (grind arith)
