@@ -1,5 +1,5 @@
 -- travel times between places, as far as they are given
-use Rattle.std.specs.Prelude.{◌≡◌, ◌≢◌, ◌≤◌, ◌<◌, ◌==◌, ◌⊎◌, ℕ, Bool, true, false, List, Option, None, Some, IfSome, map, unwrap_or, if◌then◌else◌}
+use Rattle.std.specs.Prelude.{◌≡◌, ◌≢◌, ◌≤◌, ◌<◌, ◌==◌, ◌⊎◌, ℕ, List, Option, None, map, unwrap_or, if◌then◌else◌}
 use Rattle.std.specs.List.{range_with_len}
 
 -- how many places there are, the time that was given from the one to the other, and the minutes between different places of

@@ -1,5 +1,6 @@
 -- a team's tasks in order, and their first clash
-use Rattle.std.specs.Prelude.{◌≡◌, ◌≤◌, ◌<◌, ℕ, List, length, slice_index_or, Contains}
+use Rattle.std.specs.Prelude.{◌≡◌, ◌≤◌, ◌<◌, ℕ, List, length, slice_index, slice_index_or, Contains}
+use Rattle.std.specs.Int.{bit_at}
 use Rattle.crew_terms.specs.Instance.{Instance}
 use Rattle.crew_terms.specs.Plan.{Plan, Does}
 use Rattle.crew_terms.specs.Verdict.{IsBefore, IsFirstClash}
@@ -18,6 +19,10 @@ pub record AreTurns (p : Plan) (k n : ℕ) (turns : List Turn) : Type 0 where
   pub order : IsInOrder turns
   pub done : (v : Turn) → Contains turns v → Does p k v.task v.start × (v.task < n)
   pub all : (j t : ℕ) → j < n → Does p k j t → Contains turns (record { start = t; task = j })
+
+-- sets of the teams of the first tasks: who does one of these is in its set
+abbrev pub AreTeamSets : Plan → List ℕ → Type 0
+AreTeamSets p sets = (k j t : ℕ) → j < length sets → Does p k j t → bit_at (slice_index sets j) k ≡ 1
 
 -- a clash of team k is told, the first
 pub record IsClash (i : Instance) (p : Plan) (k : ℕ) (told : PlanVerdict) : Type 0 where

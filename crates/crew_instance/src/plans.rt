@@ -72,8 +72,17 @@ impl Plan {
         ensures err { OnErr result (self.new ≡ self.old) }
     {
         let teams = SmallVec::from_slice(self.alloc, teams)?;
-        self.slots[i as usize] = Some(Slot { start, teams });
+        self.assign_list(i, start, teams);
         Ok(())
+    }
+
+    /// Has the teams of this list begin task `i` at minute `start`, in place of what the plan had of the task. The plan
+    /// takes the list over; no memory is taken.
+    pub fn assign_list(&mut self, i: u32, start: u32, teams: SmallVec<u32, MOST_TEAMS_PER_TASK>)
+        requires { i < length self.old }
+        ensures { self.new ≡ slice_set self.old i (Some (job_by start teams.items)) }
+    {
+        self.slots[i as usize] = Some(Slot { start, teams });
     }
 
     /// Leaves task `i` unassigned.

@@ -171,12 +171,22 @@ fn refuses_too_many(rt: HostRuntime) -> Result<(), Fail> {
 #[test]
 fn tells_names_apart(rt: HostRuntime) -> Result<(), Fail> {
     let mut day = Builder::new(rt.alloc());
-    for called in [b"AB1".as_slice(), b"B1", b"CB1", b"AC1", b"AB2"] {
+    for called in [
+        b"AB1".as_slice(),
+        b"B1",
+        b"CB1",
+        b"AC1",
+        b"AB2",
+        b"STAND-A1",
+        b"STAND-A12",
+        b"STAND-A13",
+        b"STAND-B13",
+    ] {
         let called = name(called)?;
         same_at(&rt, &day.place(called), &Ok(()), &called);
         same_at(&rt, &day.place(called), &Err(BuildFault::SameName), &called);
     }
-    same(&rt, &day.places(), &5);
+    same(&rt, &day.places(), &9);
     Ok(())
 }
 

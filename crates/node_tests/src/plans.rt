@@ -4,10 +4,10 @@ ghost use Rattle.crew_fixtures.specs.Sizes.{HasSizes};
 
 use crate::asserts::{same, same_at};
 use crew_fixtures::{FixtureFault, Job, far_builder, gate_task, is_plan_of, plan_of, team, visit};
-use crew_instance::{Builder, Instance};
+use crew_instance::{Builder, Instance, TurnRoom};
 use crew_terms::{Pair, PlanVerdict, Task, Team};
 use node_limits::Limits;
-use plan_check::{check_plan, in_limits, tasks_of};
+use plan_check::{check_plan, check_plan_in, in_limits, tasks_of};
 use std::alloc::Global;
 use std::test::Fail;
 
@@ -88,6 +88,26 @@ fn tells_each_fault(rt: HostRuntime) -> Result<(), Fail> {
     let day = day(rt.alloc())?;
     for (job, fault) in FAULTS {
         same_at(&rt, &verdict(rt.alloc(), &day, &[job])?, &fault, &job);
+    }
+    Ok(())
+}
+
+#[test]
+fn tells_the_same_in_room_that_is_kept(rt: HostRuntime) -> Result<(), Fail> {
+    let alloc = rt.alloc();
+    let day = day(alloc)?;
+    let mut room = TurnRoom::new();
+    for (count, told) in [
+        (3, PlanVerdict::Legal),
+        (2, PlanVerdict::Clash(0, 0, 2)),
+        (1, PlanVerdict::Legal),
+        (3, PlanVerdict::Legal),
+    ] {
+        let plan = plan_of(alloc, 6, &ONE_AFTER_ANOTHER[..count])?;
+        if !is_plan_of(&day, &plan) {
+            return Err("a plan of another day")?;
+        }
+        same_at(&rt, &check_plan_in(&day, &plan, &mut room), &told, &count);
     }
     Ok(())
 }

@@ -3,7 +3,7 @@ ghost use Rattle.std.specs.Prelude.{◌≡◌, ◌<◌, ◌↔◌, ℕ, length, 
 ghost use Rattle.crew_terms.specs.Legal.{IsLegal, KeepsFrozen};
 ghost use Rattle.crew_terms.specs.Verdict.{IsFirstUnkept, IsPlanOf, IsVerdict};
 
-use crew_instance::{Instance, Plan, feasibility};
+use crew_instance::{Instance, Plan, TurnRoom, feasibility_in};
 use crew_terms::PlanVerdict;
 
 /// Whether the plan has the frozen job of task `j`, if there is one.
@@ -39,8 +39,17 @@ pub fn check_plan(instance: &Instance, plan: &Plan) -> PlanVerdict
     ensures verdict { IsVerdict instance.now plan.now result }
     ensures legal { (result ≡ PlanVerdict.Legal) ↔ IsLegal instance.now plan.now }
 {
+    check_plan_in(instance, plan, &mut TurnRoom::new())
+}
+
+/// What `check_plan` tells, in room that the caller keeps from plan to plan.
+pub fn check_plan_in(instance: &Instance, plan: &Plan, room: &mut TurnRoom) -> PlanVerdict
+    requires { IsPlanOf instance.now plan.now }
+    ensures verdict { IsVerdict instance.now plan.now result }
+    ensures legal { (result ≡ PlanVerdict.Legal) ↔ IsLegal instance.now plan.now }
+{
     if let Some(j) = first_unkept(instance, plan) {
         return PlanVerdict::Frozen(j);
     }
-    feasibility(instance, plan)
+    feasibility_in(instance, plan, room)
 }

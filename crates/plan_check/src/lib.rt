@@ -5,7 +5,7 @@ mod check;
 mod visits;
 mod within;
 
-pub use check::check_plan;
+pub use check::{check_plan, check_plan_in};
 pub use crew_instance::{Plan, unassigned};
 pub use crew_terms::{PlanVerdict, Visit};
 pub use visits::tasks_of;

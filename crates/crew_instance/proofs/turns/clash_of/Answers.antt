@@ -8,7 +8,7 @@ use Rattle.crew_instance.proofs.turns.clash_of.Goals as goal
 pub can_follow-requires-clause-from : goal.can_follow-requires-clause-from
 can_follow-requires-clause-from c =
     let are : AreTurns c.args.plan.now c.args.k (length c.args.plan.now) c.as_slice-turns.result.now =
-    subst (AreTurns c.args.plan.now c.args.k (length c.args.plan.now)) (sym c.as_slice-turns.ensures.value) c.fill_turns.ensures in
+    subst (AreTurns c.args.plan.now c.args.k (length c.args.plan.now)) (sym c.as_slice-turns.ensures.value) c.fill_among.ensures in
     let l = task_known c.args.plan.now c.args.k _ _ (turn_done c.args.plan.now c.args.k _ c.as_slice-turns.result.now are (c.loop-i.i - 1) (omega arith)) in
     let w = c.requires.plan.whole in
     omega arith
@@ -16,7 +16,7 @@ can_follow-requires-clause-from c =
 pub can_follow-requires-clause-to : goal.can_follow-requires-clause-to
 can_follow-requires-clause-to c =
     let are : AreTurns c.args.plan.now c.args.k (length c.args.plan.now) c.as_slice-turns.result.now =
-    subst (AreTurns c.args.plan.now c.args.k (length c.args.plan.now)) (sym c.as_slice-turns.ensures.value) c.fill_turns.ensures in
+    subst (AreTurns c.args.plan.now c.args.k (length c.args.plan.now)) (sym c.as_slice-turns.ensures.value) c.fill_among.ensures in
     let l = task_known c.args.plan.now c.args.k _ _ (turn_done c.args.plan.now c.args.k _ c.as_slice-turns.result.now are c.loop-i.i (omega arith)) in
     let w = c.requires.plan.whole in
     omega arith
@@ -24,7 +24,7 @@ can_follow-requires-clause-to c =
 pub returns-then-not-can_follow : goal.returns-then-not-can_follow
 returns-then-not-can_follow c =
     let are : AreTurns c.args.plan.now c.args.k (length c.args.plan.now) c.as_slice-turns.result.now =
-    subst (AreTurns c.args.plan.now c.args.k (length c.args.plan.now)) (sym c.as_slice-turns.ensures.value) c.fill_turns.ensures in
+    subst (AreTurns c.args.plan.now c.args.k (length c.args.plan.now)) (sym c.as_slice-turns.ensures.value) c.fill_among.ensures in
     let e : (c.loop-i.i - 1) + 1 ≡ c.loop-i.i = let a = c.loop-i.auto.i in omega arith in
     let broken : Follows c.args.instance.now c.as_slice-turns.result.now (c.loop-i.i - 1) ((c.loop-i.i - 1) + 1) → ⊥ =
     λ h. let t : c.can_follow.result ≡ true = c.can_follow.ensures.1 (subst (λ b. Follows c.args.instance.now c.as_slice-turns.result.now (c.loop-i.i - 1) b) e h) in let f = c.if-not-can_follow.true in cc in
@@ -43,5 +43,5 @@ loop-i-preserved c =
 pub returns : goal.returns
 returns c =
     let are : AreTurns c.args.plan.now c.args.k (length c.args.plan.now) c.as_slice-turns.result.now =
-    subst (AreTurns c.args.plan.now c.args.k (length c.args.plan.now)) (sym c.as_slice-turns.ensures.value) c.fill_turns.ensures in
+    subst (AreTurns c.args.plan.now c.args.k (length c.args.plan.now)) (sym c.as_slice-turns.ensures.value) c.fill_among.ensures in
     no_clash_from c.args.plan.now c.args.k c.as_slice-turns.result.now are c.args.instance.now (λ a l. c.loop-i.invariant a (let m = c.loop-i-test.false in omega arith))
