@@ -28,19 +28,19 @@ pub enum HeadDue {
     },
     Place {
         head: Box<Head>,
-        more: u32,
+        more: u64,
     },
     Travel {
         head: Box<Head>,
-        more: u32,
+        more: u64,
     },
     Team {
         head: Box<Head>,
-        more: u32,
+        more: u64,
     },
     Task {
         head: Box<Head>,
-        more: u32,
+        more: u64,
     },
     /// The line `frozen`.
     Frozen {

@@ -21,18 +21,14 @@ use dossier_terms::{DossierForm, Reason};
 use field_table::LineWords;
 use std::alloc::{AllocError, Global};
 
-/// What is due where so many tasks are to come.
-fn due_tasks(alloc: Global, head: Box<Head>, more: u32) -> Result<HeadDue, Refusal>
-    requires { HasTasksLeft head.value more }
+/// What is due where no task is to come.
+// Once a dossier: room for what it moves is not to be made for each task.
+#[inline(never)]
+fn due_behind_tasks(alloc: Global, head: Box<Head>) -> Result<HeadDue, Refusal>
+    requires { HasTasksLeft head.value 0 }
     ensures { let i = read_of head.value in
-        HeadTells (Goes (tasks_due (opening_of head.value) more i)) result }
+        HeadTells (Goes (tasks_due (opening_of head.value) 0 i)) result }
 {
-    if more > 0 {
-        return Ok(HeadDue::Task {
-            head,
-            more: more - 1,
-        });
-    }
     if let DossierForm::Two = head.form {
         return Ok(HeadDue::Frozen { head });
     }
@@ -51,8 +47,23 @@ fn due_tasks(alloc: Global, head: Box<Head>, more: u32) -> Result<HeadDue, Refus
     Ok(HeadDue::Whole { base })
 }
 
+/// What is due where so many tasks are to come.
+fn due_tasks(alloc: Global, head: Box<Head>, more: u64) -> Result<HeadDue, Refusal>
+    requires { HasTasksLeft head.value more }
+    ensures { let i = read_of head.value in
+        HeadTells (Goes (tasks_due (opening_of head.value) more i)) result }
+{
+    if more > 0 {
+        return Ok(HeadDue::Task {
+            head,
+            more: more - 1,
+        });
+    }
+    due_behind_tasks(alloc, head)
+}
+
 /// What is due where so many teams are to come.
-fn due_teams(alloc: Global, head: Box<Head>, more: u32) -> Result<HeadDue, Refusal>
+fn due_teams(alloc: Global, head: Box<Head>, more: u64) -> Result<HeadDue, Refusal>
     requires { HasTeamsLeft head.value more }
     ensures { let i = read_of head.value in
         HeadTells (Goes (teams_due (opening_of head.value) more i)) result }
@@ -64,11 +75,11 @@ fn due_teams(alloc: Global, head: Box<Head>, more: u32) -> Result<HeadDue, Refus
         });
     }
     let tasks = head.size.tasks;
-    due_tasks(alloc, head, tasks)
+    due_tasks(alloc, head, tasks as u64)
 }
 
 /// What is due where so many rows of travel times are to come.
-fn due_travels(alloc: Global, head: Box<Head>, more: u32) -> Result<HeadDue, Refusal>
+fn due_travels(alloc: Global, head: Box<Head>, more: u64) -> Result<HeadDue, Refusal>
     requires { HasRowsLeft head.value more }
     ensures { let i = read_before_rows head.value more in
         HeadTells (Goes (travels_due (opening_of head.value) more i)) result }
@@ -80,11 +91,11 @@ fn due_travels(alloc: Global, head: Box<Head>, more: u32) -> Result<HeadDue, Ref
         });
     }
     let teams = head.size.teams;
-    due_teams(alloc, head, teams)
+    due_teams(alloc, head, teams as u64)
 }
 
 /// What is due where so many places are to come.
-fn due_places(alloc: Global, head: Box<Head>, more: u32) -> Result<HeadDue, Refusal>
+fn due_places(alloc: Global, head: Box<Head>, more: u64) -> Result<HeadDue, Refusal>
     requires { HasPlacesLeft head.value more }
     ensures { let i = places_of head.value in
         HeadTells (Goes (places_due (opening_of head.value) more i)) result }
@@ -96,7 +107,7 @@ fn due_places(alloc: Global, head: Box<Head>, more: u32) -> Result<HeadDue, Refu
         });
     }
     let places = head.size.places;
-    due_travels(alloc, head, places)
+    due_travels(alloc, head, places as u64)
 }
 
 /// The first line.
@@ -114,17 +125,19 @@ pub fn size_line(alloc: Global, form: DossierForm, words: LineWords<'_>) -> Resu
 {
     fault_is_refused();
     let size = read_size(words)?;
+    let (places, teams, tasks) = (size.places, size.teams, size.tasks);
+    let builder = Builder::with_room(alloc, places as usize, teams as usize, tasks as usize)?;
     let head = Head {
         form,
         size,
-        builder: Builder::new(alloc),
+        builder,
     };
     let head = Box::new(alloc, head)?;
-    due_places(alloc, head, size.places)
+    due_places(alloc, head, size.places as u64)
 }
 
 /// Adds a place that a line spells.
-fn add_place(alloc: Global, mut head: Box<Head>, more: u32, name: Name) -> Result<HeadDue, Refusal>
+fn add_place(alloc: Global, mut head: Box<Head>, more: u64, name: Name) -> Result<HeadDue, Refusal>
     requires { Holds (HeadDue.Place head more) }
     ensures { let i = places_of head.value in
         HeadTells (after_place (opening_of head.value) more i name) result }
@@ -138,7 +151,7 @@ fn add_place(alloc: Global, mut head: Box<Head>, more: u32, name: Name) -> Resul
 pub fn place_line(
     alloc: Global,
     head: Box<Head>,
-    more: u32,
+    more: u64,
     words: LineWords<'_>,
 ) -> Result<HeadDue, Refusal>
     requires { Holds (HeadDue.Place head more) }
@@ -172,7 +185,7 @@ fn set_row(
 fn add_travel(
     alloc: Global,
     mut head: Box<Head>,
-    more: u32,
+    more: u64,
     times: &LineNumbers<'_>,
 ) -> Result<HeadDue, Refusal>
     requires held { Holds (HeadDue.Travel head more) }
@@ -182,7 +195,7 @@ fn add_travel(
         → HeadTells (after_travel (opening_of head.value) more i row) result }
 {
     let held = &mut *head;
-    let from = held.builder.places() as u32 - 1 - more;
+    let from = (held.builder.places() as u64 - 1 - more) as u32;
     set_row(alloc, &mut held.builder, from, times)?;
     due_travels(alloc, head, more)
 }
@@ -191,7 +204,7 @@ fn add_travel(
 pub fn travel_line(
     alloc: Global,
     head: Box<Head>,
-    more: u32,
+    more: u64,
     words: LineWords<'_>,
 ) -> Result<HeadDue, Refusal>
     requires { Holds (HeadDue.Travel head more) }
@@ -206,7 +219,7 @@ pub fn travel_line(
 fn add_team(
     alloc: Global,
     mut head: Box<Head>,
-    more: u32,
+    more: u64,
     team: Team,
     rises: bool,
 ) -> Result<HeadDue, Refusal>
@@ -227,7 +240,7 @@ fn add_team(
 pub fn team_line(
     alloc: Global,
     head: Box<Head>,
-    more: u32,
+    more: u64,
     words: LineWords<'_>,
 ) -> Result<HeadDue, Refusal>
     requires { Holds (HeadDue.Team head more) }
@@ -256,7 +269,7 @@ pub fn team_line(
 fn add_task(
     alloc: Global,
     mut head: Box<Head>,
-    more: u32,
+    more: u64,
     task: Task,
     rises: bool,
 ) -> Result<HeadDue, Refusal>
@@ -278,7 +291,7 @@ fn add_task(
 pub fn task_line(
     alloc: Global,
     head: Box<Head>,
-    more: u32,
+    more: u64,
     words: LineWords<'_>,
 ) -> Result<HeadDue, Refusal>
     requires { Holds (HeadDue.Task head more) }

@@ -44,9 +44,10 @@ pub(crate) fn number_list(alloc: Global, numbers: &LineNumbers<'_>) -> Result<Ve
     requires { AreBelow (LAST_MINUTE + 1) numbers.now }
     ensures { IfOk result (λ list. list.items ≡ naturals numbers.now) }
 {
-    let mut list = Vec::with_capacity(alloc, numbers.len())?;
+    // Written in place: a push would look for room each time.
+    let mut list = vec![in alloc; 0u32; numbers.len()]?;
     for n in 0..numbers.len() {
-        list.push(number_at(numbers, n))?;
+        list[n] = number_at(numbers, n);
     }
     Ok(list)
 }

@@ -20,5 +20,5 @@ returns c =
     let h = c.in_ok-size.ensures in
     let is = c.in_ok-head.ensures.ok in
     told_by c.due_places.result c.due_places.ensures (λ said rest. size_more c.args.form c.args.words z said h.0 h.1
-    (subst (λ d. Goes (places_due (record { form = c.args.form; size = z }) z.places (instance_so_far d 0)) said) c.new.ensures
+    (subst (λ d. Goes (places_due (record { form = c.args.form; size = z }) z.places (instance_so_far d 0)) said) c.in_ok-builder.ensures
     (subst (λ (h : Head). Goes (places_due (opening_of h) z.places (places_of h)) said) is rest)))
