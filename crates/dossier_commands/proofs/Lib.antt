@@ -1,3 +1,4 @@
 pub mod Refusals
 pub mod LineByLine
 pub mod Said
+pub mod YesLine

@@ -1,5 +1,5 @@
 -- an input as a reading finds it: dossiers that are whole, and the first line that is refused
-use Rattle.std.specs.Prelude.{◌≡◌, ◌≢◌, ◌≤◌, ◌<◌, ◌+◌, ◌-◌, ◌^◌, ◌++◌, ℕ, suc, List, [], ◌∷◌, Option, None, Some, length, map, All}
+use Rattle.std.specs.Prelude.{◌≡◌, ◌≢◌, ◌≤◌, ◌<◌, ◌+◌, ◌-◌, ◌++◌, ℕ, suc, List, [], ◌∷◌, Option, None, Some, length, map, All}
 use Rattle.std.specs.List.{flat_map}
 use Rattle.crew_terms.specs.Words.{IsLine, words_of, with_feed}
 use Rattle.crew_terms.specs.declared.TheConstants.{LONGEST_INPUT}

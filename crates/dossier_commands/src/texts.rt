@@ -1,5 +1,5 @@
 // The texts that are written: for a good dossier its yes line or its roster, and `no` for the first line that is refused.
-ghost use Rattle.std.specs.Prelude.{◌≡◌};
+ghost use Rattle.std.specs.Prelude.{◌≡◌, ◌≤◌, length, take};
 ghost use Rattle.crew_io.specs.Puts.{Puts};
 ghost use Rattle.dossier_terms.specs.Dossier.{Dossier};
 ghost use Rattle.dossier_terms.specs.Texts.{yes_line, no_line};
@@ -9,33 +9,38 @@ ghost use Rattle.dossier_commands.specs.Outputs.{output_of};
 
 use crate::output::Output;
 use cert_checker::{Checker, Verdict};
+use crew_io::put::put_all;
 use crew_io::sink::{Sink, WriteFault};
 use crew_terms::PlanVerdict;
 use dossier_terms::Reason;
-use line_out::{Part, put_line, put_word};
+use line_out::{LineRoom, Part, add_bytes, add_count, line_room, put_line, put_word};
 use roster_print::rosters;
+
+/// Writes the yes line of a good dossier, of which the verdict tells what it says, into the room, and gives where it ends.
+// Word by word, so that each is copied as the constant that it is.
+#[inline(always)]
+fn gather_yes(room: &mut LineRoom, verdict: Verdict) -> usize
+    ensures within { result ≤ length room.new }
+    ensures line { (d : Dossier) → verdict ≡ verdict_of d → take result room.new ≡ yes_line d }
+{
+    let at = add_bytes(room, 0, b"yes");
+    let at = add_count(room, at, b"unassigned", verdict.unassigned);
+    let at = add_count(room, at, b"bound", verdict.bound);
+    let at = add_count(room, at, b"splits", verdict.splits);
+    let at = add_count(room, at, b"closed", verdict.closed);
+    let at = add_count(room, at, b"open", verdict.left_open);
+    let at = add_count(room, at, b"unshown", verdict.unshown);
+    add_bytes(room, at, b"\n")
+}
 
 /// Writes the yes line of a good dossier, of which the verdict tells what it says. A fault leaves a front of it.
 pub fn put_yes<K: Sink>(out: &mut K, verdict: Verdict) -> Result<(), WriteFault>
     ensures { (d : Dossier) → verdict ≡ verdict_of d
         → Puts K.Sink (yes_line d) out.old out.new result }
 {
-    let parts = [
-        Part::Word(b"yes"),
-        Part::Word(b"unassigned"),
-        Part::Number(verdict.unassigned as u64),
-        Part::Word(b"bound"),
-        Part::Number(verdict.bound as u64),
-        Part::Word(b"splits"),
-        Part::Number(verdict.splits as u64),
-        Part::Word(b"closed"),
-        Part::Number(verdict.closed as u64),
-        Part::Word(b"open"),
-        Part::Number(verdict.left_open as u64),
-        Part::Word(b"unshown"),
-        Part::Number(verdict.unshown as u64),
-    ];
-    put_line(out, &parts)
+    let mut room = line_room();
+    let end = gather_yes(&mut room, verdict);
+    put_all(out, &room[..end])
 }
 
 /// A number as a part of a line.

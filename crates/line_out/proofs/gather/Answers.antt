@@ -18,5 +18,9 @@ loop-part-preserved c =
     let i = c.loop-part.part-index in
     let split = c.in-Some.ensures.cases.0 in
     let below : i + 1 < length parts = (let l = ap length split in let t = c.loop-part-test.true in omega arith) in
-    two_steps _ _ _ _ _ _ _ c.loop-part.invariant (gap_later part_word parts i (omega arith)) (ap part_word (next_part parts _ _ i _ split)) c.in_ok-add_byte.ensures c.in_ok-add_part-2.ensures
-    ∙ sym (joined part_word parts (i + 1) _ below)
+    record {
+      within = c.in_ok-at-3.ensures.within;
+      so_far =
+          two_steps _ _ _ _ _ _ _ c.loop-part.invariant.so_far (gap_later part_word parts i (omega arith)) (ap part_word (next_part parts _ _ i _ split)) c.in_ok-at-2.ensures.added c.in_ok-at-3.ensures.added
+          ∙ sym (joined part_word parts (i + 1) _ below);
+    }

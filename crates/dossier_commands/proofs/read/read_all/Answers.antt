@@ -1,4 +1,4 @@
-use Rattle.std.proofs.Common.{◌≡◌, Result, Ok, subst, ap, refl, ◌∙◌}
+use Rattle.std.proofs.Common.{◌≡◌, Result, Ok, subst, ap, refl}
 use Rattle.std.proofs.lemmas.Result.{IfOk-from_err}
 use Rattle.crew_io.specs.Chains.{writes_none, writes_then, puts_tell}
 use Rattle.crew_io.specs.Draws.{reads_none, reads_then}
