@@ -1,5 +1,5 @@
 -- where a checker stands after it judged a line
-use Rattle.std.proofs.Common.{◌≡◌, ◌+◌, ℕ, [], refl, subst}
+use Rattle.std.proofs.Common.{◌≡◌, ◌≢◌, ◌+◌, ℕ, [], refl, subst}
 use Rattle.std.specs.Prelude.{Result, Ok, Err}
 use Rattle.crew_terms.specs.Words.{Words}
 use Rattle.dossier_terms.specs.Dossier.{Dossier}
@@ -10,7 +10,7 @@ use Rattle.head_check.specs.declared.due.HeadDue.TheVariants as heads
 use Rattle.cert_checker.specs.Due.{Awaits, IsOfTree, Tells}
 use Rattle.cert_checker.specs.Checked.{IsEnded, IsOpen, IsJudged, IsPastTree, IsReached, IsTrueYes, said_of, StandsAfter}
 use Rattle.cert_checker.specs.Kept.{IsKeptFrom, IsSettled, kept_state}
-use Rattle.cert_checker.specs.Said.{IsSaidOf}
+use Rattle.cert_checker.specs.Said.{IsSaidAt}
 use Rattle.cert_checker.specs.declared.checker.Said.{Said}
 use Rattle.cert_checker.specs.declared.checker.State.{State}
 use Rattle.cert_checker.specs.declared.checker.State.TheVariants as states
@@ -27,7 +27,7 @@ pub record IsAnswered (reading : Reading) (words : Words) (number : ℕ) (step :
   pub stands : StandsAfter number answer (kept_state number step)
 
 -- what is told of a step is the answer of the table
-pub answered : (reading : Reading) (words : Words) (number : ℕ) (step : Result Step Reason) (said : Said) → Tells (Says reading words) step → IsSaidOf number step said
+pub answered : (reading : Reading) (words : Words) (number : ℕ) (step : Result Step Reason) (said : Said) → Tells (Says reading words) step → IsSaidAt (kept_state number step) said
     → IsAnswered reading words number step said
 answered reading words number (Ok (More next)) said tells says = record { answer = Goes tells.0; is = tells.1; says = says; stands = tells.2 }
 answered reading words number (Ok (Whole ended)) said tells says = record { answer = Ends tells.0; is = tells.1; says = says tells.0 tells.2; stands = tells.2 }
@@ -42,10 +42,16 @@ settles reading words number (Ok (More next)) reached tells goes ends = (tells.0
 settles reading words number (Ok (Whole ended)) reached tells goes ends = (tells.0, tells.2, ends reading words tells.0 reached tells.1)
 settles reading words number (Err reason) reached tells goes ends = tt
 
+-- what is kept after a step is there
+pub not_spent : (number : ℕ) (step : Result Step Reason) → kept_state number step ≢ states.Spent
+not_spent number (Ok (More next)) is = cc
+not_spent number (Ok (Whole ended)) is = cc
+not_spent number (Err reason) is = cc
+
 -- a step is what the table says
 pub judged : (lines : ℕ) (reading : Reading) (words : Words) (step : Result Step Reason) (said : Said) → IsReached reading → Tells (Says reading words) step
     → ((d : Reading) (ws : Words) (a b : Answer) → IsReached d → Says d ws a → Says d ws b → b ≡ a)
-    → IsSaidOf (lines + 1) step said
+    → IsSaidAt (kept_state (lines + 1) step) said
     → IsJudged lines reading words said (record { lines = lines + 1; at = kept_state (lines + 1) step })
 judged lines reading words step said reached tells one says = let it = answered reading words (lines + 1) step said tells says in record {
   answer = it.answer;

@@ -1,5 +1,5 @@
 // The checker: what it has read, and what it says of one more line.
-ghost use Rattle.std.specs.Prelude.{◌≡◌, ◌≤◌, ◌<◌, ◌+◌, ◌^◌, ◌↔◌, ℕ, Some, None, Ok, IfOk, OnErr, IsErr, IsOk, IsTrue, IfSome};
+ghost use Rattle.std.specs.Prelude.{◌≡◌, ◌≢◌, ◌≤◌, ◌<◌, ◌+◌, ◌^◌, ◌↔◌, ℕ, Some, None, Ok, IfOk, OnOk, OnErr, IsErr, IsOk, IsTrue, IfSome};
 ghost use Rattle.crew_terms.specs.Words.{IsLine, words_of};
 ghost use Rattle.crew_terms.specs.declared.TheConstants.{LONGEST_INPUT};
 ghost use Rattle.dossier_terms.specs.declared.Reason.{Reason};
@@ -8,14 +8,14 @@ ghost use Rattle.dossier_terms.specs.Reading.{Reading};
 ghost use Rattle.cert_checker.specs.Checked.{IsDueAt, IsEnded, IsJudged, IsOpen, IsPastTree, IsReached, IsTrueYes, IsWholeAt, fresh_checker, refused_at, stop_reason_of, verdict_of};
 ghost use Rattle.cert_checker.specs.Due.{Awaits, IsEndOf, IsOfTree};
 ghost use Rattle.cert_checker.specs.Kept.{IsKeptFrom, kept_state};
-ghost use Rattle.cert_checker.specs.Said.{IsSaidOf};
+ghost use Rattle.cert_checker.specs.Said.{IsSaidAt};
 
 use crate::due::{Due, EndedDossier, Step};
 use crate::judge::judge;
 use crate::laws::{one_answer, reached_goes_on, whole_is_true};
 use crate::rooms::TreeRoom;
 use cert_format::Refusal;
-use crew_instance::{Instance, Plan, unassigned};
+use crew_instance::{Instance, Plan, TurnRoom, unassigned};
 use dossier_terms::Reason;
 use field_table::Cuts;
 use head_check::HeadDue;
@@ -77,6 +77,8 @@ pub struct Checker {
     state: State,
     // The room of the last dossier's tree.
     room: Option<TreeRoom>,
+    // The room in which the jobs of each plan are looked through.
+    turns: Box<TurnRoom>,
 }
 
 impl Model for Checker {
@@ -116,28 +118,18 @@ fn put_back(state: &mut State, next: State)
     mem::forget(mem::replace(state, next));
 }
 
-/// Keeps what a step at the line of this number leads to, and gives what is said of that line.
+/// Keeps what a step at the line of this number leads to.
 #[inline(always)]
-fn settle(state: &mut State, step: Result<Step, Reason>, line: u64) -> Said
+fn settle(state: &mut State, step: Result<Step, Reason>, line: u64)
     requires taken { state.old ≡ State.Spent }
-    ensures said { IsSaidOf line step result }
     ensures kept { state.new ≡ kept_state line step }
 {
-    match step {
-        Ok(Step::More(due)) => {
-            put_back(state, State::Due(due));
-            Said::More
-        }
-        Ok(Step::Whole(ended)) => {
-            let verdict = whole_verdict(&ended);
-            put_back(state, State::Whole(ended));
-            Said::Whole(verdict)
-        }
-        Err(reason) => {
-            put_back(state, State::Refused { line, reason });
-            Said::No { line, reason }
-        }
-    }
+    let next = match step {
+        Ok(Step::More(due)) => State::Due(due),
+        Ok(Step::Whole(ended)) => State::Whole(ended),
+        Err(reason) => State::Refused { line, reason },
+    };
+    put_back(state, next);
 }
 
 /// The reason that tells why no line comes.
@@ -157,12 +149,14 @@ impl Checker {
         ensures { IfOk result (λ c. c ≡ fresh_checker) }
     {
         let cuts = Cuts::new(alloc)?;
+        let turns = Box::new(alloc, TurnRoom::new())?;
         Ok(Checker {
             alloc,
             cuts,
             lines: 0,
             state: State::Due(Due::Head(HeadDue::Form)),
             room: None,
+            turns,
         })
     }
 
@@ -176,32 +170,86 @@ impl Checker {
 
     /// Judges the line that is due, which was taken out of the state.
     #[inline(always)]
-    fn judge_line(&mut self, due: Due, line: &[u8]) -> Result<Said, AllocError>
+    fn judge_line(&mut self, due: Due, line: &[u8]) -> Result<(), AllocError>
         requires taken { self.old.at ≡ State.Spent }
         requires kept { IsKeptFrom due }
         requires plain { IsLine line.now }
         requires few { self.old.lines < LONGEST_INPUT }
-        ensures judged { (reading : Reading) → IsReached reading → Awaits due reading → IfOk result
-            (λ said. IsJudged self.old.lines reading (words_of line.now) said self.new) }
+        ensures judged { (reading : Reading) → IsReached reading → Awaits due reading → OnOk result
+            ((said : Said) → IsSaidAt self.new.at said
+            → IsJudged self.old.lines reading (words_of line.now) said self.new) }
         ensures room { IsOfTree due → IsOk result }
         ensures memory { OnErr result (self.new ≡ record self.old { at = State.Spent }) }
+        ensures kept { OnOk result (self.new.at ≢ State.Spent) }
     {
         one_answer();
         reached_goes_on();
         whole_is_true();
         let words = self.cuts.split(line);
-        let step = match judge(self.alloc, &mut self.room, due, words) {
+        let turns = &mut *self.turns;
+        let step = match judge(self.alloc, &mut self.room, turns, due, words) {
             Ok(step) => Ok(step),
             Err(Refusal::No(reason)) => Err(reason),
             Err(Refusal::OutOfMemory) => return Err(AllocError),
         };
         self.lines += 1;
-        Ok(settle(&mut self.state, step, self.lines))
+        settle(&mut self.state, step, self.lines);
+        Ok(())
+    }
+
+    /// Judges one more line, as `line` does, which tells what is said of it.
+    // One call for all that judges a line, which is inlined into it once, and gives nothing over memory.
+    #[inline(never)]
+    fn advance(&mut self, line: &[u8]) -> Result<(), AllocError>
+        requires plain { IsLine line.now }
+        requires few { self.old.lines < LONGEST_INPUT }
+        ensures judged { (due : Reading) → IsReached due → IsDueAt self.old.at due → OnOk result
+            ((said : Said) → IsSaidAt self.new.at said
+            → IsJudged self.old.lines due (words_of line.now) said self.new) }
+        ensures room { (due : Reading) → IsPastTree due → IsDueAt self.old.at due → IsOk result }
+        ensures refused { (number : ℕ) (reason : Reason) →
+            self.old.at ≡ State.Refused number reason → IsOk result × (self.new ≡ self.old) }
+        ensures spent { self.old.at ≡ State.Spent → IsErr result }
+        ensures memory { OnErr result (self.new ≡ record self.old { at = State.Spent }) }
+        ensures kept { OnOk result (self.new.at ≢ State.Spent) }
+    {
+        let due = match mem::replace(&mut self.state, State::Spent) {
+            State::Due(due) => due,
+            State::Whole(ended) => {
+                self.room = Some(TreeRoom::of(ended));
+                Due::Head(HeadDue::Form)
+            }
+            State::Refused { line, reason } => {
+                put_back(&mut self.state, State::Refused { line, reason });
+                return Ok(());
+            }
+            State::Spent => return Err(AllocError),
+        };
+        self.judge_line(due, line)
+    }
+
+    /// What is said of the line that was judged last.
+    #[inline(always)]
+    fn said(&self) -> Said
+        requires { self.now.at ≢ State.Spent }
+        ensures { IsSaidAt self.now.at result }
+    {
+        match &self.state {
+            State::Due(_) => Said::More,
+            State::Whole(ended) => Said::Whole(whole_verdict(ended)),
+            State::Refused { line, reason } => Said::No {
+                line: *line,
+                reason: *reason,
+            },
+            State::Spent => unreachable!(),
+        }
     }
 
     /// Judges one more line, without its LF. After a line that is refused every later call gives that answer again,
     /// and after want of memory every later call does that. Behind the line `tree` of a dossier memory is not wanting to
     /// its end.
+    // Inlined where lines are read, so that what is said of a line is not laid out in memory to be looked at.
+    #[inline(always)]
     pub fn line(&mut self, line: &[u8]) -> Result<Said, AllocError>
         requires plain { IsLine line.now }
         requires few { self.old.lines < LONGEST_INPUT }
@@ -219,20 +267,8 @@ impl Checker {
         ensures spent { self.old.at ≡ State.Spent → IsErr result }
         ensures memory { OnErr result (self.new ≡ record self.old { at = State.Spent }) }
     {
-        // One call for both, so that all that judges a line is inlined once.
-        let due = match mem::replace(&mut self.state, State::Spent) {
-            State::Due(due) => due,
-            State::Whole(ended) => {
-                self.room = Some(TreeRoom::of(ended));
-                Due::Head(HeadDue::Form)
-            }
-            State::Refused { line, reason } => {
-                put_back(&mut self.state, State::Refused { line, reason });
-                return Ok(Said::No { line, reason });
-            }
-            State::Spent => return Err(AllocError),
-        };
-        self.judge_line(due, line)
+        self.advance(line)?;
+        Ok(self.said())
     }
 
     /// Whether a dossier is whole, and no line was read after it.

@@ -93,9 +93,9 @@ pub enum Due {
     /// A line `do`.
     Job {
         draft: Box<BegunDossier>,
-        more: u32,
+        more: u64,
         /// The least task that the line may be of: the one after that of the line before.
-        from: u32,
+        from: u64,
     },
     /// The line `tree`.
     Tree {

@@ -14,6 +14,7 @@ use crate::pool::{pool_line, route_line};
 use crate::rooms::TreeRoom;
 use crate::tree::tree_line;
 use cert_format::Refusal;
+use crew_instance::TurnRoom;
 use field_table::LineWords;
 use head_check::{HeadDue, judge_head};
 use std::alloc::Global;
@@ -46,6 +47,7 @@ fn head_line(alloc: Global, due: HeadDue, words: LineWords<'_>) -> Result<Step, 
 pub fn judge(
     alloc: Global,
     room: &mut Option<TreeRoom>,
+    turns: &mut TurnRoom,
     due: Due,
     words: LineWords<'_>,
 ) -> Result<Step, Refusal>
@@ -57,8 +59,8 @@ pub fn judge(
         Due::Head(due) => head_line(alloc, due, words),
         Due::Pool { base } => pool_line(alloc, room, base, words),
         Due::Route { draft, more } => route_line(alloc, draft, more, words),
-        Due::Plan { draft } => Ok(plan_line(draft, words)?),
-        Due::Job { draft, more, from } => job_line(alloc, draft, more, from, words),
+        Due::Plan { draft } => Ok(plan_line(turns, draft, words)?),
+        Due::Job { draft, more, from } => job_line(alloc, turns, draft, more, from, words),
         Due::Tree { draft } => tree_line(alloc, room, draft, words),
         Due::Node { tree } => Ok(node_line(alloc, tree, words)?),
         Due::Why { tree, choice } => Ok(why_line(alloc, tree, choice, words)?),

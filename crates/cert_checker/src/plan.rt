@@ -4,15 +4,36 @@ ghost use Rattle.cert_checker.specs.Due.{IsAwaited, IsBegun, IsStep, IsStepWithR
 
 use crate::due::{BegunDossier, Due, Step};
 use cert_format::{JobLine, PlanLine, Refusal, fault_is_refused, read_job, read_plan};
+use crew_instance::TurnRoom;
 use crew_terms::PlanVerdict;
 use dossier_terms::Reason;
 use field_table::LineWords;
 use head_check::numbers::team_list;
-use plan_check::check_plan;
+use plan_check::check_plan_in;
 use std::alloc::Global;
 
+/// What is said of the plan, which has all its jobs.
+// Once a dossier, so that what it needs is not set up for each job.
+#[inline(never)]
+fn judge_plan(turns: &mut TurnRoom, draft: Box<BegunDossier>) -> Result<Step, Reason>
+    requires { IsBegun draft.value }
+    ensures { Tells (after_job (draft_of draft.value) 0 0) result }
+{
+    let held = &*draft;
+    match check_plan_in(&held.base.instance, &held.plan, turns) {
+        PlanVerdict::Legal => Ok(Step::More(Due::Tree { draft })),
+        verdict => Err(Reason::Plan(verdict)),
+    }
+}
+
 /// What is said where so many jobs are to come, of tasks from `from` on: where there is none, of the plan.
-fn judge_job(draft: Box<BegunDossier>, more: u32, from: u32) -> Result<Step, Reason>
+#[inline(always)]
+fn judge_job(
+    turns: &mut TurnRoom,
+    draft: Box<BegunDossier>,
+    more: u64,
+    from: u64,
+) -> Result<Step, Reason>
     requires { IsBegun draft.value }
     ensures { Tells (after_job (draft_of draft.value) more from) result }
 {
@@ -23,15 +44,15 @@ fn judge_job(draft: Box<BegunDossier>, more: u32, from: u32) -> Result<Step, Rea
             from,
         }));
     }
-    let held = &*draft;
-    match check_plan(&held.base.instance, &held.plan) {
-        PlanVerdict::Legal => Ok(Step::More(Due::Tree { draft })),
-        verdict => Err(Reason::Plan(verdict)),
-    }
+    judge_plan(turns, draft)
 }
 
 /// The line `plan`.
-pub fn plan_line(mut draft: Box<BegunDossier>, words: LineWords<'_>) -> Result<Step, Reason>
+pub fn plan_line(
+    turns: &mut TurnRoom,
+    mut draft: Box<BegunDossier>,
+    words: LineWords<'_>,
+) -> Result<Step, Reason>
     requires { IsAwaited (Due.Plan draft) }
     ensures { IsStep (Due.Plan draft) words.entry result }
 {
@@ -40,15 +61,16 @@ pub fn plan_line(mut draft: Box<BegunDossier>, words: LineWords<'_>) -> Result<S
     let tasks = held.base.instance.tasks() as u32;
     let PlanLine { unassigned, bound } = read_plan(words, tasks)?;
     held.bound = bound;
-    judge_job(draft, tasks - unassigned, 0)
+    judge_job(turns, draft, (tasks - unassigned) as u64, 0)
 }
 
 /// A line `do`.
 pub fn job_line(
     alloc: Global,
+    turns: &mut TurnRoom,
     mut draft: Box<BegunDossier>,
-    more: u32,
-    from: u32,
+    more: u64,
+    from: u64,
     words: LineWords<'_>,
 ) -> Result<Step, Refusal>
     requires { IsAwaited (Due.Job draft more from) }
@@ -59,10 +81,10 @@ pub fn job_line(
     let teams = held.base.instance.teams() as u32;
     let tasks = held.base.instance.tasks() as u32;
     let JobLine { task, start, teams } = read_job(words, teams, tasks)?;
-    if task < from {
+    if (task as u64) < from {
         return Err(Refusal::No(Reason::Shape));
     }
     let teams = team_list(alloc, &teams)?;
-    held.plan.assign(task, start, teams.as_slice())?;
-    Ok(judge_job(draft, more, task + 1)?)
+    held.plan.assign_list(task, start, teams);
+    Ok(judge_job(turns, draft, more, task as u64 + 1)?)
 }

@@ -46,10 +46,10 @@ judge_job-requires c =
     let b : BegunDossier = c.deref_mut-held.result.now in
     let i = b.base.instance in
     let job : Job = record { start = line.start; teams = h.0 } in
-    let listed : c.as_slice.result.now ≡ h.0 = c.as_slice.ensures ∙ c.in_ok-teams.ensures ∙ ap naturals h.1 ∙ naturals-pos h.0 in
+    let listed : c.in_ok-teams.teams.items ≡ h.0 = c.in_ok-teams.ensures ∙ ap naturals h.1 ∙ naturals-pos h.0 in
     let fits = subst (λ m. IsDoLine m (length i.tasks) (line.task, job)) c.teams-teams.ensures.count (subst (λ n. IsDoLine c.teams-teams.result n (line.task, job)) c.tasks-tasks.ensures.count h.2) in
     let begun = subst IsBegun (sym c.deref_mut-held.ensures.value) c.requires.1.0 in record {
-      plan = subst (IsPlanOf i) (sym (c.in_ok-assign.ensures.ok ∙ ap (λ ks. slice_set b.plan line.task (Some (record job { teams = ks }))) listed))
+      plan = subst (IsPlanOf i) (sym (c.assign_list.ensures ∙ ap (λ ks. slice_set b.plan line.task (Some (record job { teams = ks }))) listed))
           (plan_of_more i b.plan line.task line.start h.0 begun.plan fits.task fits.teams);
       root = begun.root;
     }
@@ -62,11 +62,11 @@ told c = λ reading a.
     let b : BegunDossier = c.deref_mut-held.result.now in
     let i = b.base.instance in
     let job : Job = record { start = line.start; teams = h.0 } in
-    let listed : c.as_slice.result.now ≡ h.0 = c.as_slice.ensures ∙ c.in_ok-teams.ensures ∙ ap naturals h.1 ∙ naturals-pos h.0 in
+    let listed : c.in_ok-teams.teams.items ≡ h.0 = c.in_ok-teams.ensures ∙ ap naturals h.1 ∙ naturals-pos h.0 in
     let fits = subst (λ m. IsDoLine m (length i.tasks) (line.task, job)) c.teams-teams.ensures.count (subst (λ n. IsDoLine c.teams-teams.result n (line.task, job)) c.tasks-tasks.ensures.count h.2) in
-    let plan : c.assign.new.self ≡ slice_set b.plan line.task (Some job) = c.in_ok-assign.ensures.ok ∙ ap (λ ks. slice_set b.plan line.task (Some (record job { teams = ks }))) listed in
+    let plan : c.assign_list.new.self ≡ slice_set b.plan line.task (Some job) = c.assign_list.ensures ∙ ap (λ ks. slice_set b.plan line.task (Some (record job { teams = ks }))) listed in
     let next : line.task + 1 ≡ suc line.task = omega arith in
-    let rules = after_job (record (draft_of b) { plan = c.assign.new.self }) c.args.more (line.task + 1) in
+    let rules = after_job (record (draft_of b) { plan = c.assign_list.new.self }) c.args.more (line.task + 1) in
     subst (λ r. Tells (Says r c.args.words) c.judge_job.result) (sym (a.1 ∙ ap (λ (d : BegunDossier). Jobs (draft_of d) c.args.more c.args.from) (sym c.deref_mut-held.ensures.value)))
     (tells_row rules (job_row (draft_of b) c.args.more c.args.from c.args.words) c.judge_job.result
     (λ said rest. job_says (draft_of b) c.args.more c.args.from c.args.words (line.task, job) said fits h.3

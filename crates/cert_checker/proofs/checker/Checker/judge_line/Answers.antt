@@ -1,11 +1,14 @@
-use Rattle.std.proofs.Common.{◌+◌, ap, subst, sym}
+use Rattle.std.proofs.Common.{◌≢◌, ◌+◌, ap, subst, sym}
 use Rattle.std.specs.Prelude.{Err}
 use Rattle.crew_terms.specs.Words.{words_of}
 use Rattle.cert_format.specs.declared.refusals.Refusal.{Refusal}
 use Rattle.cert_checker.specs.Checked.{IsJudged}
 use Rattle.cert_checker.specs.Due.{IsStep, IsStepWithRoom}
 use Rattle.cert_checker.specs.Kept.{kept_state}
-use Rattle.cert_checker.proofs.Judged.{judged}
+use Rattle.cert_checker.specs.Said.{IsSaidAt}
+use Rattle.cert_checker.specs.declared.checker.State.{State}
+use Rattle.cert_checker.specs.declared.checker.State.TheVariants as states
+use Rattle.cert_checker.proofs.Judged.{judged, not_spent}
 use Rattle.cert_checker.proofs.checker.Checker.judge_line.Goals as goal
 use Rattle.cert_checker.proofs.checker.Checker.judge_line.Goals.{After-settle, in-Ok, in-Err-No}
 
@@ -19,8 +22,12 @@ told c = subst (λ ws. IsStep c.args.due ws c.match-judge.step) c.split-words.en
     ])
 
 pub returns-clause-judged : goal.returns-clause-judged
-returns-clause-judged c = λ reading reached awaits.
-    subst (λ state. IsJudged c.args.self.now.lines reading (words_of c.args.line.now) c.settle.result (record { lines = c.self.inside.lines + 1; at = state })) (sym c.settle.ensures.kept)
-    (subst (λ n. IsJudged n reading (words_of c.args.line.now) c.settle.result (record { lines = c.self.inside.lines + 1; at = kept_state (c.self.inside.lines + 1) c.match-judge.step })) (ap (λ v. v.lines) c.self.view_is)
-    (judged c.self.inside.lines reading (words_of c.args.line.now) c.match-judge.step c.settle.result
-    reached (told (goal.at.returns-clause-judged c).After-settle reading awaits) c.one_answer.ensures c.settle.ensures.said))
+returns-clause-judged c = λ reading reached awaits said says.
+    let kept = c.settle.ensures.kept in
+    subst (λ state. IsJudged c.args.self.now.lines reading (words_of c.args.line.now) said (record { lines = c.self.inside.lines + 1; at = state })) (sym kept)
+    (subst (λ n. IsJudged n reading (words_of c.args.line.now) said (record { lines = c.self.inside.lines + 1; at = kept_state (c.self.inside.lines + 1) c.match-judge.step })) (ap (λ v. v.lines) c.self.view_is)
+    (judged c.self.inside.lines reading (words_of c.args.line.now) c.match-judge.step said
+    reached (told (goal.at.returns-clause-judged c).After-settle reading awaits) c.one_answer.ensures (subst (λ (s : State). IsSaidAt s said) kept says)))
+
+pub returns-clause-kept : goal.returns-clause-kept
+returns-clause-kept c = subst (λ (s : State). s ≢ states.Spent) (sym c.settle.ensures.kept) (not_spent (c.self.inside.lines + 1) c.match-judge.step)
