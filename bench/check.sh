@@ -3,7 +3,7 @@
 # with the greatest instance, of those of a small airport, and of the smallest there are; a leaf of the greatest day, with
 # all its potentials, three numbers for each task or one for each minute, in both forms; and a pool, a deep tree in form 1, and
 # one in form 2 each of whose splits shows a loose cause, of half the size and of the whole. With words: only these of them,
-# as leaf_runs; or trees_counted, which counts instructions of smaller such trees, and wants valgrind.
+# as leaf_runs; or trees_counted, which counts instructions of smaller such trees, and wants valgrind. CREW and OTHER: see timing.sh.
 set -eu
 here=$(cd "$(dirname "${BASH_SOURCE[0]}")" && pwd)
 . "$here/timing.sh"
