@@ -11,7 +11,7 @@ use Rattle.day_terms.specs.declared.Entry.TheVariants.{Place, Travel, RouteTime,
 use Rattle.day_terms.specs.State.{DayState, NamedJob}
 use Rattle.day_terms.specs.Instances.{day_instance, plan_of_jobs}
 use Rattle.day_terms.specs.Faulty.{below, clashes, faulty_task, is_bad, is_first_clash, is_next, precedes}
-use Rattle.day_terms.specs.Work.{is_job_of, needs_team}
+use Rattle.day_terms.specs.Work.{first_by_task, is_job_of, needs_team}
 use Rattle.day_terms.specs.Entries.{after_entry}
 use Rattle.day_terms.specs.Refusal.{faulty_work, gone_work, work_against}
 
@@ -76,6 +76,9 @@ no_faulty_work s none = ap (option_map (λ j. (task_of (day_instance s) j).name)
 none_gone : (s : DayState) (test : NamedJob → Bool) → s.frozen ≡ [] → option_map (λ (job : NamedJob). job.task) (find test s.frozen) ≡ None
 none_gone s test none = ap (λ jobs. option_map (λ (job : NamedJob). job.task) (find test jobs)) none
 
+none_first : (s : DayState) (test : NamedJob → Bool) → s.frozen ≡ [] → option_map (λ (job : NamedJob). job.task) (first_by_task s (filter test s.frozen)) ≡ None
+none_first s test none = ap (λ jobs. option_map (λ (job : NamedJob). job.task) (first_by_task s (filter test jobs))) none
+
 neither : (first second : Option (List ℕ)) → first ≡ None → second ≡ None → option_or first second ≡ None
 neither first second e f = rw (e, f) refl
 
@@ -91,7 +94,7 @@ nothing_forbidden s (Cancel task) none = neither (gone_work s (Cancel task)) _ (
 nothing_forbidden s (Move task earliest latest) none = no_faulty_work (after_entry s (Move task earliest latest)) none
 nothing_forbidden s (Longer task minutes) none = no_faulty_work (after_entry s (Longer task minutes)) none
 nothing_forbidden s (Needs task teams) none = no_faulty_work (after_entry s (Needs task teams)) none
-nothing_forbidden s (Sick team) none = neither (gone_work s (Sick team)) _ (none_gone s (needs_team team) none) (no_faulty_work (after_entry s (Sick team)) none)
+nothing_forbidden s (Sick team) none = neither (gone_work s (Sick team)) _ (none_first s (needs_team team) none) (no_faulty_work (after_entry s (Sick team)) none)
 nothing_forbidden s (Shift team from until) none = no_faulty_work (after_entry s (Shift team from until)) none
 nothing_forbidden s (Skill team skill) none = no_faulty_work (after_entry s (Skill team skill)) none
 nothing_forbidden s (Unskill team skill) none = no_faulty_work (after_entry s (Unskill team skill)) none

@@ -2,7 +2,7 @@
 use Rattle.std.specs.Prelude.{ℕ, List, Option, bytes_eq, find, length, map, option_map, position, unwrap_or, if◌then◌else◌}
 use Rattle.crew_terms.specs.Instance.{Instance}
 use Rattle.crew_terms.specs.Plan.{Plan, Job}
-use Rattle.day_terms.specs.State.{DayState, NamedJob, is_team, is_way}
+use Rattle.day_terms.specs.State.{DayState, NamedJob, is_task, is_team, is_way}
 
 -- the time that was given from the one place to the other
 abbrev pub minutes_given : DayState → List ℕ → List ℕ → Option ℕ
@@ -15,6 +15,10 @@ minutes_by_name s from to = unwrap_or (minutes_given s from to) (if bytes_eq fro
 -- the number of the team that has the name; as many as there are teams, where none has it
 abbrev pub team_number : DayState → List ℕ → ℕ
 team_number s name = unwrap_or (position (is_team name) s.teams) (length s.teams)
+
+-- the number of the task that has the name; as many as there are tasks, where none has it
+abbrev pub task_number : DayState → List ℕ → ℕ
+task_number s name = unwrap_or (position (is_task name) s.tasks) (length s.tasks)
 
 -- the job with its teams' numbers
 abbrev pub job_by_number : DayState → NamedJob → Job

@@ -1,10 +1,10 @@
 -- why an entry is refused in a state
-use Rattle.std.specs.Prelude.{◌≡◌, ◌-◌, ◌||◌, ℕ, Bool, List, [], ◌∷◌, Option, None, find, length, not, nat_le, nat_lt, option_map}
+use Rattle.std.specs.Prelude.{◌≡◌, ◌-◌, ◌||◌, ℕ, Bool, List, [], ◌∷◌, Option, None, filter, find, length, not, nat_le, nat_lt, option_map}
 use Rattle.std.specs.Option.{option_or}
 use Rattle.std.specs.Map.{lookup}
 use Rattle.crew_terms.specs.declared.TheConstants.{MOST_PLACES, MOST_TEAMS, MOST_TASKS, MOST_TEAMS_PER_TASK, WIDEST_WINDOW}
 use Rattle.day_terms.specs.State.{DayState, has_place, has_team, has_task}
-use Rattle.day_terms.specs.Work.{faulty_job, is_job_of, needs_team}
+use Rattle.day_terms.specs.Work.{faulty_job, first_by_task, is_job_of, needs_team}
 use Rattle.day_terms.specs.Entries.{after_entry}
 use Rattle.day_terms.specs.Rounds.{first_missing}
 use Rattle.day_terms.specs.declared.Entry.{Entry}
@@ -72,10 +72,10 @@ refusal_by_lists s (Plan nodes) = option_map (λ p. MissingTravel p.0 p.1) (firs
 refusal_by_lists s (Now time) = option_map (λ p. MissingTravel p.0 p.1) (first_missing s)
 refusal_by_lists s (Thaw task) = first_of ((not (has_task s task), NoTask) ∷ [])
 
--- the frozen task that would be gone, or the first of which the team would be
+-- the frozen task that would be gone, or, by number, the first of which the team would be
 abbrev pub gone_work : DayState → Entry → Option (List ℕ)
 gone_work s (Cancel task) = option_map (λ job. job.task) (find (is_job_of task) s.frozen)
-gone_work s (Sick team) = option_map (λ job. job.task) (find (needs_team team) s.frozen)
+gone_work s (Sick team) = option_map (λ job. job.task) (first_by_task s (filter (needs_team team) s.frozen))
 gone_work s entry = None
 
 -- the first frozen task of which the teams can't do the job

@@ -1,11 +1,11 @@
 -- the last plan by names, and jobs that are frozen
-use Rattle.std.specs.Prelude.{◌+◌, ◌++◌, ◌||◌, ℕ, Bool, List, [], ◌∷◌, Option, None, Some, bytes_eq, flat_map, is_some, length, map, nat_eq, option_map, if◌then◌else◌}
+use Rattle.std.specs.Prelude.{◌+◌, ◌++◌, ◌||◌, ℕ, Bool, List, [], ◌∷◌, Option, None, Some, bytes_eq, flat_map, fold, is_some, length, map, nat_eq, nat_lt, option_map, if◌then◌else◌}
 use Rattle.std.specs.List.{list_any}
 use Rattle.crew_terms.specs.declared.TheConstants.{LAST_MINUTE}
 use Rattle.crew_terms.specs.Instance.{Instance, task_of, team_of}
 use Rattle.crew_terms.specs.Plan.{Plan, Job, job_of}
 use Rattle.day_terms.specs.State.{DayState, NamedJob}
-use Rattle.day_terms.specs.Instances.{day_instance, plan_of_jobs}
+use Rattle.day_terms.specs.Instances.{day_instance, plan_of_jobs, task_number}
 use Rattle.day_terms.specs.Faulty.{below, faulty_task}
 
 -- ---- the last plan
@@ -44,3 +44,12 @@ faulty_job s jobs = option_map (λ j. (task_of (day_instance s) j).name) (faulty
 -- with one more, if its task has none and the teams can do it with these
 abbrev pub with_frozen : DayState → List NamedJob → NamedJob → List NamedJob
 with_frozen s frozen job = if list_any (is_job_of job.task) frozen || is_some (faulty_job s (frozen ++ job ∷ [])) then frozen else frozen ++ job ∷ []
+
+-- of the job that was found and this one, the one whose task has the lesser number
+abbrev pub lesser_by_task : DayState → Option NamedJob → NamedJob → Option NamedJob
+lesser_by_task s None job = Some job
+lesser_by_task s (Some found) job = Some (if nat_lt (task_number s job.task) (task_number s found.task) then job else found)
+
+-- of these jobs, the one whose task has the least number
+abbrev pub first_by_task : DayState → List NamedJob → Option NamedJob
+first_by_task s jobs = fold (lesser_by_task s) None jobs

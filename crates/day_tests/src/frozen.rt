@@ -172,6 +172,24 @@ fn forbids_to_thaw_what_others_need(rt: HostRuntime) -> Result<(), Fail> {
     refuses(&rt, rt.alloc(), &mut desk, b"thaw,X", fault)
 }
 
+/// Two tasks, of which the first begins later.
+const LATER_FIRST: &[&[u8]] = &[
+    b"place,BASE",
+    b"team,T1,BASE,06:00,14:00,",
+    b"task,A,BASE,08:00,08:00,10,1,",
+    b"task,C,BASE,07:00,07:00,10,1,",
+];
+
+#[test]
+fn sick_names_the_first_task_by_number(rt: HostRuntime) -> Result<(), Fail> {
+    let fault = ChangeFault::FrozenWork { task: name(b"A")? };
+    let mut desk = Desk::new(rt.alloc());
+    give(rt.alloc(), &mut desk, LATER_FIRST)?;
+    plan(rt.alloc(), &mut desk)?;
+    give(rt.alloc(), &mut desk, &[b"now,10:00"])?;
+    refuses(&rt, rt.alloc(), &mut desk, b"sick,T1", fault)
+}
+
 #[test]
 fn takes_what_leaves_it_possible(rt: HostRuntime) -> Result<(), Fail> {
     let mut desk = begun(rt.alloc())?;

@@ -1,6 +1,6 @@
 -- what an entry that changes the lists makes of jobs, and what frozen jobs say to it
-use Rattle.std.proofs.Common.{◌≡◌, ◌++◌, ◌||◌, Bool, true, false, not, List, [], ◌∷◌, Some, None, length, map, filter, refl, sym, ap, subst, ◌∙◌, if◌then◌else◌}
-use Rattle.std.specs.Prelude.{All, bytes_eq, find, option_map}
+use Rattle.std.proofs.Common.{◌≡◌, ◌++◌, ◌||◌, Bool, true, false, not, List, [], ◌∷◌, Option, Some, None, length, map, filter, fold, refl, sym, ap, subst, ◌∙◌, if◌then◌else◌}
+use Rattle.std.specs.Prelude.{All, bytes_eq, find, nat_lt, option_map}
 use Rattle.std.specs.List.{list_any}
 use Rattle.std.specs.Option.{option_or}
 use Rattle.std.proofs.lemmas.List.Elements.{All-cons, All-filter, All-head, All-nil, All-tail, All-weaker}
@@ -12,8 +12,9 @@ use Rattle.crew_terms.specs.declared.Team.{Team}
 use Rattle.day_terms.specs.ByTest.{by_test}
 use Rattle.day_terms.specs.Entries.{after_entry}
 use Rattle.day_terms.specs.Refusal.{faulty_work, gone_work, refusal_by_lists, work_against}
+use Rattle.day_terms.specs.Instances.{task_number}
 use Rattle.day_terms.specs.State.{DayState, NamedJob, is_team}
-use Rattle.day_terms.specs.Work.{faulty_job, is_job_of, needs_team}
+use Rattle.day_terms.specs.Work.{faulty_job, first_by_task, is_job_of, lesser_by_task, needs_team}
 use Rattle.day_terms.specs.declared.Entry.{Entry}
 use Rattle.day_terms.specs.declared.Entry.TheVariants.{Place, Travel, RouteTime, DefaultTravel, Team as NewTeam, Task as NewTask, Cancel, Move, Longer, Needs, Sick, Shift, Skill, Unskill, Plan, Now, Thaw}
 use Rattle.flight_changes.specs.Limits.{AreDoable, AreTeamsKnown, IsListEntry, IsState, IsWork}
@@ -65,6 +66,19 @@ module _ (s : DayState) (last frozen : List NamedJob) where
   jobs_after (Plan nodes) is = absurd is
   jobs_after (Now time) is = absurd is
   jobs_after (Thaw task) is = absurd is
+
+-- the job whose task has the least number is the same, whatever jobs there are
+module _ (s : DayState) (last frozen : List NamedJob) where
+  same_lesser : (found : Option NamedJob) (job : NamedJob) → lesser_by_task (with_jobs s last frozen) found job ≡ lesser_by_task s found job
+  same_lesser None job = refl
+  same_lesser (Some found) job = refl
+
+  first_after : (jobs : List NamedJob) (found : Option NamedJob) → fold (lesser_by_task (with_jobs s last frozen)) found jobs ≡ fold (lesser_by_task s) found jobs
+  first_after [] found = refl
+  first_after (job ∷ jobs) found = ap (λ a. fold (lesser_by_task (with_jobs s last frozen)) a jobs) (same_lesser found job) ∙ first_after jobs (lesser_by_task s found job)
+
+  pub same_first : (jobs : List NamedJob) → first_by_task (with_jobs s last frozen) jobs ≡ first_by_task s jobs
+  same_first jobs = first_after jobs None
 
 -- what frozen work says to an entry that changes the lists
 pub work_is : (s : DayState) (e : Entry) → IsListEntry e → work_against s e ≡ option_or (gone_work s e) (faulty_work (after_entry s e))
@@ -202,6 +216,23 @@ none_left_out test [] none = refl
 none_left_out test (job ∷ jobs) none =
     by_test (test job) (λ u. let e : Some job.task ≡ None = rw u at none in cc) (λ u. rw u (ap (λ rest. job ∷ rest) (none_left_out test jobs (rw u at none))))
 
+none_mapped : (o : Option NamedJob) → option_map (λ (job : NamedJob). job.task) o ≡ None → o ≡ None
+none_mapped None none = refl
+none_mapped (Some job) none = cc
+
+-- what is found stays found
+found_stays : (s : DayState) (jobs : List NamedJob) (found : NamedJob) → fold (lesser_by_task s) (Some found) jobs ≡ None → ⊥
+found_stays s [] found none = cc
+found_stays s (job ∷ jobs) found none = found_stays s jobs (if nat_lt (task_number s job.task) (task_number s found.task) then job else found) none
+
+none_first_left_out : (s : DayState) (test : NamedJob → Bool) (jobs : List NamedJob) → option_map (λ job. job.task) (first_by_task s (filter test jobs)) ≡ None
+    → filter (λ job. not (test job)) jobs ≡ jobs
+none_first_left_out s test [] none = refl
+none_first_left_out s test (job ∷ jobs) none =
+    by_test (test job)
+    (λ u. absurd (found_stays s (filter test jobs) job (none_mapped (fold (lesser_by_task s) (Some job) (filter test jobs)) (rw u at none))))
+    (λ u. rw u (ap (λ rest. job ∷ rest) (none_first_left_out s test jobs (rw u at none))))
+
 -- all frozen jobs are left where none is gone
 pub all_left : (s : DayState) (e : Entry) → gone_work s e ≡ None → left_jobs e s.frozen ≡ s.frozen
 all_left s (Place name) none = refl
@@ -214,7 +245,7 @@ all_left s (Cancel task) none = none_left_out (is_job_of task) s.frozen none
 all_left s (Move task earliest latest) none = refl
 all_left s (Longer task minutes) none = refl
 all_left s (Needs task teams) none = refl
-all_left s (Sick team) none = none_left_out (needs_team team) s.frozen none
+all_left s (Sick team) none = none_first_left_out s (needs_team team) s.frozen none
 all_left s (Shift team from until) none = refl
 all_left s (Skill team skill) none = refl
 all_left s (Unskill team skill) none = refl

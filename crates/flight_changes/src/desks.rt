@@ -13,9 +13,7 @@ ghost use Rattle.flight_changes.specs.Faults.{fault_of};
 ghost use Rattle.flight_changes.specs.Limits.{IsListEntry};
 
 use crate::faults::ChangeFault;
-use crate::jobs::{
-    NamedJob, PlannedJobs, copies, end_jobs, end_jobs_of, first_job_of, first_job_with,
-};
+use crate::jobs::{NamedJob, PlannedJobs, copies, end_jobs, end_jobs_of, first_job_of};
 use crate::lists::Lists;
 use crew_instance::Instance;
 use crew_laws::empty_plan_is_feasible;
@@ -138,13 +136,13 @@ impl Desk {
         Ok(())
     }
 
-    /// The frozen task that would be gone, or the first of which the team would be.
+    /// The frozen task that would be gone, or, by number, the first of which the team would be.
     fn gone_work(&self, entry: &Entry) -> Option<Name>
         ensures { result ≡ gone_work self.now entry.now }
     {
         match entry {
             Entry::Cancel { task } => Some(first_job_of(&self.frozen, task)?.task()),
-            Entry::Sick { team } => Some(first_job_with(&self.frozen, team)?.task()),
+            Entry::Sick { team } => Some(self.lists.first_job_with(&self.frozen, team)?.task()),
             _ => None,
         }
     }

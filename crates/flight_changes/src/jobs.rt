@@ -103,13 +103,6 @@ pub(crate) fn first_job_of<'a>(jobs: &'a [NamedJob], task: &Name) -> Option<&'a 
     jobs.iter().find(|job| job.is_of(task))
 }
 
-/// The first of these that needs the team.
-pub(crate) fn first_job_with<'a>(jobs: &'a [NamedJob], team: &Name) -> Option<&'a NamedJob>
-    ensures { option_copied result ≡ find (needs_team team.now) jobs.now }
-{
-    jobs.iter().find(|job| job.needs(team))
-}
-
 /// Takes the jobs of the task out of these.
 pub(crate) fn end_jobs_of(jobs: &mut Vec<NamedJob>, task: &Name)
     ensures { jobs.new.items ≡ filter (λ job. not (is_job_of task.now job)) jobs.old.items }

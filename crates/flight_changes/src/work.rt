@@ -1,10 +1,10 @@
 // What the teams can do of jobs by names.
-ghost use Rattle.std.specs.Prelude.{◌≡◌, ◌<◌, true, [], None, All, IfOk, OnOk, length, map, slice_index_or, slice_set};
+ghost use Rattle.std.specs.Prelude.{◌≡◌, ◌<◌, true, [], None, All, IfOk, OnOk, filter, length, map, option_copied, slice_index_or, slice_set};
 ghost use Rattle.crew_terms.specs.Instance.{no_task};
 ghost use Rattle.crew_terms.specs.Plan.{job_of};
-ghost use Rattle.day_terms.specs.Instances.{day_instance, plan_of_jobs, team_number};
+ghost use Rattle.day_terms.specs.Instances.{day_instance, plan_of_jobs, task_number, team_number};
 ghost use Rattle.day_terms.specs.State.{has_team};
-ghost use Rattle.day_terms.specs.Work.{faulty_job, with_frozen};
+ghost use Rattle.day_terms.specs.Work.{faulty_job, first_by_task, lesser_by_task, needs_team, with_frozen};
 ghost use Rattle.flight_changes.specs.Limits.{AreDoable, AreTeamsKnown};
 
 use crate::jobs::{NamedJob, first_job_of, has_job_of};
@@ -33,6 +33,51 @@ impl Lists {
             numbers.push(self.number_of_team(team))?;
         }
         Ok(numbers)
+    }
+
+    /// The number of the task that has the name; as many as there are tasks, where none has it.
+    fn number_of_task(&self, name: &Name) -> usize
+        ensures { result ≡ task_number self.now name.now }
+    {
+        let tasks = self.tasks.len();
+        self.tasks.get_index_of(name).unwrap_or(tasks)
+    }
+
+    /// Of the job that was found and this one, the one whose task has the lesser number.
+    fn lesser_by_task<'a>(
+        &self,
+        found: Option<&'a NamedJob>,
+        job: &'a NamedJob,
+    ) -> Option<&'a NamedJob>
+        ensures { option_copied result ≡
+            lesser_by_task self.now (option_copied found.entry) job.now }
+    {
+        let Some(first) = found else {
+            return Some(job);
+        };
+        if self.number_of_task(&job.task()) < self.number_of_task(&first.task()) {
+            Some(job)
+        } else {
+            Some(first)
+        }
+    }
+
+    /// Of the jobs that need the team, the one whose task has the least number.
+    pub(crate) fn first_job_with<'a>(
+        &self,
+        jobs: &'a [NamedJob],
+        team: &Name,
+    ) -> Option<&'a NamedJob>
+        ensures { option_copied result ≡
+            first_by_task self.now (filter (needs_team team.now) jobs.now) }
+    {
+        let mut first = None;
+        for job in jobs {
+            if job.needs(team) {
+                first = self.lesser_by_task(first, job);
+            }
+        }
+        first
     }
 
     /// The name of task `j`.

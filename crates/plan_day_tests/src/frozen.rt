@@ -94,6 +94,24 @@ fn what_has_begun_forbids_changes(rt: HostRuntime) -> Result<(), Fail> {
     assert_taken(&rt, alloc, b"now,07:10\nmove,A,07:00,07:30\n")
 }
 
+/// The task that begins later is the first.
+const LATER_FIRST: &[u8] = b"place,BASE
+team,T,BASE,06:00,14:00,
+task,A,BASE,08:00,08:00,10,1,
+task,C,BASE,07:00,07:00,10,1,
+plan,1
+now,10:00
+sick,T
+";
+
+#[test]
+fn sick_names_the_first_task_by_number(rt: HostRuntime) -> Result<(), Fail> {
+    let (status, output) = answer(rt.alloc(), "day", LATER_FIRST)?;
+    assert_eq!(rt; status, Status::Refused);
+    assert!(rt; output.ends_with(b"end\nrefused 7 FrozenWork A\n"));
+    Ok(())
+}
+
 #[test]
 fn nothing_is_frozen_that_begins_at_the_time(rt: HostRuntime) -> Result<(), Fail> {
     assert_taken(&rt, rt.alloc(), b"now,07:00\nsick,T1\n")?;

@@ -1,3 +1,4 @@
 pub mod Added
 pub mod Day
 pub mod Told
+pub mod Named

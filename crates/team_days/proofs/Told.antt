@@ -2,14 +2,25 @@
 use Rattle.std.proofs.Common.{◌≡◌, ◌≢◌, ◌≤◌, ◌<◌, ◌⊎◌, inl, inr, ℕ, Option, None, Some, arith, refl, sym, subst, ◌∙◌}
 use Rattle.std.specs.Prelude.{◌↔◌, IfSome, MatchOption}
 use Rattle.std.proofs.lemmas.Bool.{cases_order}
-use Rattle.crew_terms.specs.Instance.{Instance, CanFollow}
+use Rattle.crew_terms.specs.Instance.{Instance, CanFollow, IsQualified, IsInShift}
 use Rattle.crew_terms.specs.Plan.{Plan, Does}
 use Rattle.crew_terms.specs.Legal.{IsFit, IsFeasible}
 use Rattle.crew_instance.specs.declared.turns.Turn.{Turn}
 use Rattle.team_days.specs.declared.obstacles.Obstacle.{Obstacle}
 use Rattle.team_days.specs.declared.obstacles.Obstacle.TheVariants.{Free, Skill, Shift, Busy}
 use Rattle.team_days.specs.Free.{IsLastBefore, IsFirstAfter, IsFreeFor}
-use Rattle.team_days.specs.Obstacles.{IsNextFrom, IsObstacle, LacksSkill, IsOffShift, BeginsThen, ComesLate, GoesOnLate, HasNone}
+use Rattle.team_days.specs.Obstacles.{IsNextFrom}
+
+-- the first that holds of these: team k lacks a skill, is off its shift, begins a task then, comes too late from what it does before, comes too late to what it does after, or is free
+pub data IsObstacle (i : Instance) (p : Plan) (k j t : ℕ) (told : Obstacle) : Type 0 where
+  LacksSkill : (broken : IsQualified i k j → ⊥) (is : told ≡ Skill) → IsObstacle i p k j t told
+  IsOffShift : (qualified : IsQualified i k j) (broken : IsInShift i k j t → ⊥) (is : told ≡ Shift) → IsObstacle i p k j t told
+  BeginsThen : (fit : IsFit i j t k) (h : ℕ) (does : Does p k h t) (is : told ≡ Busy h) → IsObstacle i p k j t told
+  ComesLate : (fit : IsFit i j t k) (idle : (g : ℕ) → Does p k g t → ⊥)
+      (h s : ℕ) (last : IsLastBefore p k t h s) (broken : CanFollow i h s j t → ⊥) (is : told ≡ Busy h) → IsObstacle i p k j t told
+  GoesOnLate : (fit : IsFit i j t k) (idle : (g : ℕ) → Does p k g t → ⊥) (comes : (h s : ℕ) → IsLastBefore p k t h s → CanFollow i h s j t)
+      (h u : ℕ) (first : IsFirstAfter p k t h u) (broken : CanFollow i j t h u → ⊥) (is : told ≡ Busy h) → IsObstacle i p k j t told
+  HasNone : (free : IsFreeFor i p k j t) (is : told ≡ Free) → IsObstacle i p k j t told
 
 abbrev pub IsBeforeIt : Plan → ℕ → ℕ → Option Turn → Type 0
 IsBeforeIt p k t o = MatchOption o ((h s : ℕ) → Does p k h s → t ≤ s) (λ v. IsLastBefore p k t v.task v.start)
@@ -19,7 +30,7 @@ IsNextIt p k t o = MatchOption o ((h s : ℕ) → Does p k h s → s < t) (IsNex
 
 module _ (i : Instance) (p : Plan) (k j t : ℕ) (feasible : IsFeasible i p) where
   -- a team begins one task at a minute
-  one_task : (h g s : ℕ) → Does p k h s → Does p k g s → h ≡ g
+  pub one_task : (h g s : ℕ) → Does p k h s → Does p k g s → h ≡ g
   one_task h g s d e = by (cases_order h g)
     where
       by : (h ≡ g) ⊎ ((h < g) ⊎ (g < h)) → h ≡ g
@@ -28,7 +39,7 @@ module _ (i : Instance) (p : Plan) (k j t : ℕ) (feasible : IsFeasible i p) whe
       by (inr (inr a)) = absurd (feasible.apart k h g s s d e (λ same. omega arith) refl)
 
   -- the last task before a minute is one alone
-  one_last : (h s g r : ℕ) → IsLastBefore p k t h s → IsLastBefore p k t g r → (s ≡ r) × (h ≡ g)
+  pub one_last : (h s g r : ℕ) → IsLastBefore p k t h s → IsLastBefore p k t g r → (s ≡ r) × (h ≡ g)
   one_last h s g r a b = (same, one_task h g r (subst (λ x. Does p k h x) same a.does) b.does)
     where
       order : (r ≤ s) ⊎ (t ≤ r) → (s ≤ r) ⊎ (t ≤ s) → s ≡ r
@@ -40,7 +51,7 @@ module _ (i : Instance) (p : Plan) (k j t : ℕ) (feasible : IsFeasible i p) whe
       same = order (a.last g r b.does) (b.last h s a.does)
 
   -- and so is the first after it
-  one_first : (h s g r : ℕ) → IsFirstAfter p k t h s → IsFirstAfter p k t g r → (s ≡ r) × (h ≡ g)
+  pub one_first : (h s g r : ℕ) → IsFirstAfter p k t h s → IsFirstAfter p k t g r → (s ≡ r) × (h ≡ g)
   one_first h s g r a b = (same, one_task h g r (subst (λ x. Does p k h x) same a.does) b.does)
     where
       order : (r ≤ t) ⊎ (s ≤ r) → (s ≤ t) ⊎ (r ≤ s) → s ≡ r

@@ -5,15 +5,16 @@ ghost use Rattle.crew_terms.specs.Legal.{IsFeasible};
 ghost use Rattle.crew_terms.specs.Plan.{Plan as Jobs, Does};
 ghost use Rattle.crew_instance.specs.Turns.{AreTurns};
 ghost use Rattle.team_days.specs.Free.{IsFreeFor, IsLastBefore};
-ghost use Rattle.team_days.specs.Obstacles.{IsCountBefore, IsNextFrom, IsObstacle, IsTeamDay, IsTurnOf};
+ghost use Rattle.team_days.specs.Obstacles.{IsCountBefore, IsNextFrom, IsTeamDay, IsTurnOf, obstacle_of};
 
 use arrayvec::ArrayVec;
 use crew_instance::{Instance, Plan, Turn, fill_turns};
 
 /// What keeps a team from taking a task at a minute into its day.
-#[derive(Clone, Copy, Debug, PartialEq, Eq)]
+#[derive(Clone, Copy, Debug, Default, PartialEq, Eq)]
 pub enum Obstacle {
     /// Nothing does.
+    #[default]
     Free,
     /// The team lacks a skill of the task.
     Skill,
@@ -119,7 +120,7 @@ pub fn obstacle_in(instance: &Instance, turns: &[Turn], k: u32, j: u32, t: u32) 
     requires window { t ≤ (task_of instance.now j).latest }
     requires day { IsTeamDay instance.now k turns.now }
     ensures { (p : Jobs) → IsFeasible instance.now p → AreTurns p k (length p) turns.now
-        → IsObstacle instance.now p k j t result }
+        → result ≡ obstacle_of instance.now p k j t }
 {
     if !instance.qualified(k, j) {
         return Obstacle::Skill;
@@ -162,7 +163,7 @@ pub fn obstacle_at(instance: &Instance, plan: &Plan, k: u32, j: u32, t: u32) -> 
     requires team { k < length instance.now.teams }
     requires task { j < length instance.now.tasks }
     requires window { t ≤ (task_of instance.now j).latest }
-    ensures obstacle { IsObstacle instance.now plan.now k j t result }
+    ensures obstacle { result ≡ obstacle_of instance.now plan.now k j t }
     ensures free { (result ≡ Obstacle.Free) ↔ IsFreeFor instance.now plan.now k j t }
 {
     let mut turns = ArrayVec::new();

@@ -1,0 +1,10 @@
+pub mod Follow
+pub mod Told
+pub mod Turns
+pub mod Chains
+pub mod Neighbours
+pub mod SoFar
+pub mod Least
+pub mod Tight
+pub mod Whole
+pub mod Unique

@@ -1,0 +1,4 @@
+pub mod Rising
+pub mod Free
+pub mod Texts
+pub mod Rows
