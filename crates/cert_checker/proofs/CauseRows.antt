@@ -9,7 +9,7 @@ use Rattle.crew_num.specs.declared.Overflow.{Overflow}
 use Rattle.crew_num.specs.Exact.{IsExact, IsOverflow}
 use Rattle.crew_terms.specs.Words.{Words}
 use Rattle.crew_terms.specs.Limits.{Limits, Route, root_limits}
-use Rattle.search_terms.specs.Shares.{Share as ShareOf, IsRouteIn}
+use Rattle.share_terms.specs.Shares.{Share as ShareOf, IsRouteIn}
 use Rattle.dossier_terms.specs.declared.Reason.TheVariants as reasons
 use Rattle.dossier_terms.specs.Causes.{NoCause, Shares, Part, IsPartOf, IsLooseAt, share_of, column_of, choice_of}
 use Rattle.dossier_terms.specs.CauseTable.{why_row, share_row, spare_row, tasks_at, open_at}

@@ -28,7 +28,7 @@ use Rattle.route_pool.specs.Numbers.{AreNumbersOf}
 use Rattle.route_pool.specs.Verdict.{IsPoolVerdict, pool_after}
 use Rattle.route_pool.specs.declared.pool.PoolVerdict.{PoolVerdict}
 use Rattle.route_pool.specs.declared.pool.PoolVerdict.TheVariants.{Added, NotRoute, Repeated}
-use Rattle.cert_format.specs.Fields.{visit_numbers}
+use Rattle.line_in.specs.Fields.{visit_numbers}
 use Rattle.cert_checker.specs.Due.{IsRoot, Tells, draft_of}
 use Rattle.cert_checker.specs.Rules.{TellsRoute}
 use Rattle.cert_checker.specs.declared.due.BegunDossier.{BegunDossier as Held}

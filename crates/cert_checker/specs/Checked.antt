@@ -27,9 +27,13 @@ pub record Checked : Type 0 where
   pub lines : ℕ
   pub at : State
 
--- a checker that has read nothing yet
+-- a checker that has read nothing yet, behind so many lines
+abbrev pub opened_at : ℕ → Checked
+opened_at lines = record { lines = lines; at = states.Due (Head heads.Form) }
+
+-- the same behind none
 abbrev pub fresh_checker : Checked
-fresh_checker = record { lines = 0; at = states.Due (Head heads.Form) }
+fresh_checker = opened_at 0
 
 -- ---- what a checker stands for
 

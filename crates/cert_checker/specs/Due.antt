@@ -5,7 +5,7 @@ use Rattle.crew_terms.specs.Instance.{Instance}
 use Rattle.crew_terms.specs.Limits.{Route as TeamRoute, root_limits}
 use Rattle.crew_terms.specs.Branches.{InFirst, InSecond}
 use Rattle.crew_terms.specs.Verdict.{IsPlanOf}
-use Rattle.search_terms.specs.Shares.{Share as ShareOf, IsRouteIn}
+use Rattle.share_terms.specs.Shares.{Share as ShareOf, IsRouteIn}
 use Rattle.dossier_terms.specs.Causes.{Shares, share_of, unshown_in}
 use Rattle.dossier_terms.specs.Dossier.{Dossier, Written, unshown}
 use Rattle.dossier_terms.specs.Reading.{Reading, Answer, More as Goes, Whole as Ends, No as Refuses, whole, limits_of, limits_below, Pools, Routes, Plans, Jobs, Trees, Nodes, Whys, Parts, Spares, Ends as EndDue, Begun as Read, Above, LeafSite, SplitSite}
@@ -30,8 +30,8 @@ use Rattle.cert_checker.specs.declared.due.Due.{Due}
 use Rattle.cert_checker.specs.declared.due.Due.TheVariants.{Head, Pool, Route, Plan, Job, Tree, Node, Why, Share, Spare, Leaf, End}
 use Rattle.cert_checker.specs.declared.due.Step.{Step}
 use Rattle.cert_checker.specs.declared.due.Step.TheVariants.{More, Whole}
-use Rattle.cert_format.specs.declared.refusals.Refusal.{Refusal}
-use Rattle.cert_format.specs.declared.refusals.Refusal.TheVariants.{No, OutOfMemory}
+use Rattle.line_in.specs.declared.refusals.Refusal.{Refusal}
+use Rattle.line_in.specs.declared.refusals.Refusal.TheVariants.{No, OutOfMemory}
 use Rattle.dossier_terms.specs.declared.Reason.{Reason}
 
 abbrev pub draft_of : BegunDossier → Read

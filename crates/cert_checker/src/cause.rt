@@ -3,7 +3,7 @@
 ghost use Rattle.std.specs.Prelude.{◌≡◌, ◌≤◌, ◌<◌, ◌+◌, ◌^◌, ◌↔◌, ℕ, pos, List, length, IsTrue};
 ghost use Rattle.crew_num.specs.Exact.{IsExact, IsOverflow};
 ghost use Rattle.crew_terms.specs.Instance.{Instance as DayInstance};
-ghost use Rattle.search_terms.specs.Shares.{IsRouteIn};
+ghost use Rattle.share_terms.specs.Shares.{IsRouteIn};
 ghost use Rattle.dossier_terms.specs.Causes.{Cause, Shares, Overflowed, Spent};
 ghost use Rattle.dossier_terms.specs.Reading.{Above, parts_due};
 ghost use Rattle.dossier_terms.specs.Ranges.{IsNowWord, IsSpareLine};
@@ -12,14 +12,13 @@ ghost use Rattle.cert_checker.specs.Rules.{after_fault, after_loose, after_share
 
 use crate::due::{Due, LooseDraft, Step, TreeDraft};
 use crate::node::first_child;
-use cert_format::{
-    ShareLine, WhyLine, WideNumbers, fault_is_refused, read_share, read_spare, read_why,
-};
+use cert_format::{ShareLine, WhyLine, fault_is_refused, read_share, read_spare, read_why};
 use crew_instance::unassigned;
 use crew_num::{Op, Overflow, add, mul, sub};
 use crew_terms::Choice;
 use dossier_terms::Reason;
 use field_table::LineWords;
+use line_in::WideNumbers;
 use node_limits::Limits;
 use route_check::{RouteVerdict, check_route};
 use route_terms::Route;

@@ -1,11 +1,12 @@
 // The checker: what it has read, and what it says of one more line.
-ghost use Rattle.std.specs.Prelude.{◌≡◌, ◌≢◌, ◌≤◌, ◌<◌, ◌+◌, ◌^◌, ◌↔◌, ℕ, Some, None, Ok, IfOk, OnOk, OnErr, IsErr, IsOk, IsTrue, IfSome};
+ghost use Rattle.std.specs.Prelude.{◌≡◌, ◌≢◌, ◌≤◌, ◌<◌, ◌+◌, ◌^◌, ◌↔◌, ℕ, Some, None, Ok, IfOk, OnOk, OnErr, IsErr, IsOk, IsTrue, IfSome, length};
 ghost use Rattle.crew_terms.specs.Words.{IsLine, words_of};
 ghost use Rattle.crew_terms.specs.declared.TheConstants.{LONGEST_INPUT};
 ghost use Rattle.dossier_terms.specs.declared.Reason.{Reason};
+ghost use Rattle.dossier_terms.specs.Causes.{column_of};
 ghost use Rattle.dossier_terms.specs.Dossier.{Dossier};
 ghost use Rattle.dossier_terms.specs.Reading.{Reading};
-ghost use Rattle.cert_checker.specs.Checked.{IsDueAt, IsEnded, IsJudged, IsOpen, IsPastTree, IsReached, IsTrueYes, IsWholeAt, fresh_checker, refused_at, stop_reason_of, verdict_of};
+ghost use Rattle.cert_checker.specs.Checked.{IsDueAt, IsEnded, IsJudged, IsOpen, IsPastTree, IsReached, IsTrueYes, IsWholeAt, fresh_checker, opened_at, refused_at, stop_reason_of, verdict_of};
 ghost use Rattle.cert_checker.specs.Due.{Awaits, IsEndOf, IsOfTree};
 ghost use Rattle.cert_checker.specs.Kept.{IsKeptFrom, kept_state};
 ghost use Rattle.cert_checker.specs.Said.{IsSaidAt};
@@ -14,11 +15,12 @@ use crate::due::{Due, EndedDossier, Step};
 use crate::judge::judge;
 use crate::laws::{one_answer, reached_goes_on, whole_is_true};
 use crate::rooms::TreeRoom;
-use cert_format::Refusal;
 use crew_instance::{Instance, Plan, TurnRoom, unassigned};
+use crew_terms::Visit;
 use dossier_terms::Reason;
 use field_table::Cuts;
 use head_check::HeadDue;
+use line_in::Refusal;
 use std::alloc::{AllocError, Global};
 use std::marker::Model;
 use std::mem;
@@ -148,12 +150,21 @@ impl Checker {
     pub fn open(alloc: Global) -> Result<Checker, AllocError>
         ensures { IfOk result (λ c. c ≡ fresh_checker) }
     {
+        Checker::open_at(alloc, 0)
+    }
+
+    /// A checker that has read nothing yet, where so many lines come before the first line of a dossier. They count as
+    /// lines that are judged.
+    pub fn open_at(alloc: Global, lines: u64) -> Result<Checker, AllocError>
+        requires { lines ≤ LONGEST_INPUT }
+        ensures { IfOk result (λ c. c ≡ opened_at lines) }
+    {
         let cuts = Cuts::new(alloc)?;
         let turns = Box::new(alloc, TurnRoom::new())?;
         Ok(Checker {
             alloc,
             cuts,
-            lines: 0,
+            lines,
             state: State::Due(Due::Head(HeadDue::Form)),
             room: None,
             turns,
@@ -317,6 +328,55 @@ impl Checker {
     {
         match &self.state {
             State::Whole(ended) => &ended.tree.draft.plan,
+            _ => unreachable!(),
+        }
+    }
+
+    /// The node budget of the dossier that is whole.
+    pub fn nodes(&self) -> u32
+        requires { IsEnded self.now.at }
+        ensures { (d : Dossier) → IsWholeAt self.now.at d → result ≡ d.budget }
+    {
+        match &self.state {
+            State::Whole(ended) => ended.tree.draft.base.nodes,
+            _ => unreachable!(),
+        }
+    }
+
+    /// How many routes in its pool come from the round before. They are its first ones.
+    pub fn kept(&self) -> usize
+        requires { IsEnded self.now.at }
+        ensures { (d : Dossier) → IsWholeAt self.now.at d → result ≡ d.kept }
+    {
+        match &self.state {
+            State::Whole(ended) => ended.tree.draft.kept as usize,
+            _ => unreachable!(),
+        }
+    }
+
+    /// How many routes its pool has.
+    pub fn pool_len(&self) -> usize
+        requires { IsEnded self.now.at }
+        ensures { (d : Dossier) → IsWholeAt self.now.at d → result ≡ length d.pool }
+    {
+        match &self.state {
+            State::Whole(ended) => ended.tree.draft.pool.len(),
+            _ => unreachable!(),
+        }
+    }
+
+    /// The route at the place `c` of its pool, from 0: its team and its visits.
+    pub fn route(&self, c: usize) -> (u32, &[Visit])
+        requires ended { IsEnded self.now.at }
+        requires below { (d : Dossier) → IsWholeAt self.now.at d → c < length d.pool }
+        ensures { (d : Dossier) → IsWholeAt self.now.at d
+            → record { team = result.0; visits = result.1.now } ≡ column_of d.pool c }
+    {
+        match &self.state {
+            State::Whole(ended) => {
+                let route = ended.tree.draft.pool.route(c);
+                (route.team(), route.visits())
+            }
             _ => unreachable!(),
         }
     }

@@ -1,7 +1,7 @@
 // One line of a dossier, judged by the row of the table that is due. The calls through which each line goes are inlined,
 // so that what is due is moved once, and not from call to call.
 ghost use Rattle.std.specs.Prelude.{◌≢◌, Err};
-ghost use Rattle.cert_format.specs.declared.refusals.Refusal.TheVariants.{OutOfMemory};
+ghost use Rattle.line_in.specs.declared.refusals.Refusal.TheVariants.{OutOfMemory};
 ghost use Rattle.head_check.specs.Head.{Holds as HoldsHead, IsLineDue, reading_of};
 ghost use Rattle.cert_checker.specs.Due.{Awaits, IsAwaited, IsOfTree, IsStepWithRoom};
 
@@ -13,10 +13,10 @@ use crate::plan::{job_line, plan_line};
 use crate::pool::{pool_line, route_line};
 use crate::rooms::TreeRoom;
 use crate::tree::tree_line;
-use cert_format::Refusal;
 use crew_instance::TurnRoom;
 use field_table::LineWords;
 use head_check::{HeadDue, judge_head};
+use line_in::Refusal;
 use std::alloc::Global;
 
 /// What is due behind a line of the head.

@@ -3,12 +3,13 @@ ghost use Rattle.dossier_terms.specs.BodyTable.{after_job};
 ghost use Rattle.cert_checker.specs.Due.{IsAwaited, IsBegun, IsStep, IsStepWithRoom, Tells, draft_of};
 
 use crate::due::{BegunDossier, Due, Step};
-use cert_format::{JobLine, PlanLine, Refusal, fault_is_refused, read_job, read_plan};
+use cert_format::{JobLine, PlanLine, fault_is_refused, read_job, read_plan};
 use crew_instance::TurnRoom;
 use crew_terms::PlanVerdict;
 use dossier_terms::Reason;
 use field_table::LineWords;
 use head_check::numbers::team_list;
+use line_in::Refusal;
 use plan_check::check_plan_in;
 use std::alloc::Global;
 

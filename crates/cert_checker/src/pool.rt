@@ -7,11 +7,12 @@ ghost use Rattle.cert_checker.specs.Rules.{TellsRoute};
 
 use crate::due::{BegunDossier, Due, Step};
 use crate::rooms::{TreeRoom, root_for};
-use cert_format::{PoolLine, Refusal, RouteLine, fault_is_refused, read_pool, read_route};
+use cert_format::{PoolLine, RouteLine, fault_is_refused, read_pool, read_route};
 use crew_instance::Plan;
 use dossier_terms::Reason;
 use field_table::LineWords;
 use head_check::Base;
+use line_in::Refusal;
 use node_limits::Limits;
 use route_pool::{Pool, PoolVerdict};
 use std::alloc::{AllocError, Global};

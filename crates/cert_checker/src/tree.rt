@@ -7,11 +7,12 @@ ghost use Rattle.cert_checker.specs.Rules.{TellsCounts};
 
 use crate::due::{BegunDossier, Due, Step};
 use crate::rooms::{TreeRoom, room_for};
-use cert_format::{Refusal, fault_is_refused, read_tree};
+use cert_format::{fault_is_refused, read_tree};
 use crew_instance::unassigned;
 use crew_terms::TreeCounts;
 use dossier_terms::Reason;
 use field_table::LineWords;
+use line_in::Refusal;
 use node_limits::Limits;
 use std::alloc::{AllocError, Global};
 use tree_walk::Walk;

@@ -15,11 +15,11 @@ use Rattle.dossier_terms.specs.Lines.{op_word, overflow_line, spare_line}
 use Rattle.dossier_terms.specs.Ranges.{BeginsWhy, IsWhy, IsWhyOverflow, IsOverflowLine, IsSpareLine}
 use Rattle.dossier_terms.specs.Rules.{IsShape}
 use Rattle.dossier_terms.specs.Apart.{op_one}
-use Rattle.cert_format.specs.Fields.{SpellBelow}
+use Rattle.line_in.specs.Fields.{SpellBelow}
 use Rattle.cert_format.specs.declared.kinds.LineKind.{LineKind}
 use Rattle.cert_format.specs.declared.kinds.LineKind.TheVariants as kinds
 use Rattle.cert_format.specs.Lines.{IsWhyLine, IsShareOf, IsSpareOf, HasWhyShape, NoneShape, LooseShape, OverflowShape, SpentShape}
-use Rattle.cert_format.proofs.WideWords.{dec_vast, sdec_vast, one_list}
+use Rattle.line_in.proofs.WideWords.{dec_vast, sdec_vast, one_list}
 
 -- ---- a line says one thing
 

@@ -15,13 +15,14 @@ use Rattle.dossier_terms.specs.Apart.{not_both, pair_not_window}
 use Rattle.std.specs.List.{flat_map}
 use Rattle.crew_terms.specs.Limits.{Limits}
 use Rattle.crew_terms.specs.Minutes.{minute_count}
-use Rattle.cert_format.specs.Fields.{visit_numbers, run_numbers}
+use Rattle.line_in.specs.Fields.{visit_numbers, run_numbers}
 use Rattle.cert_format.specs.Lines.{IsFaultOf, HasNodeShape, WindowShape, PairShape, BareShape, OpenShape, ClosedShape, HasWhyShape, NoneShape, LooseShape, OverflowShape, SpentShape}
 use Rattle.cert_format.specs.declared.kinds.LineKind.TheVariants as kinds
-use Rattle.cert_format.specs.declared.kinds.LineFault.{LineFault}
-use Rattle.cert_format.specs.declared.kinds.LineFault.TheVariants.{Shape, Number, Name}
+use Rattle.line_in.specs.declared.faults.LineFault.{LineFault}
+use Rattle.line_in.specs.declared.faults.LineFault.TheVariants.{Shape, Number, Name}
 use Rattle.cert_format.proofs.CauseLines.{begins_why, one_why}
-use Rattle.cert_format.specs.Expected.{expect_of, potentials_expect, reason_for}
+use Rattle.cert_format.specs.Expected.{expect_of, potentials_expect}
+use Rattle.line_in.specs.Faults.{reason_for}
 
 -- whether a line begins with a word
 begins : (w : List ℕ) (ws : Words) → Begins w ws ⊎ (Begins w ws → ⊥)

@@ -19,49 +19,19 @@ use Rattle.field_table.specs.declared.fields.Field.{Field}
 use Rattle.field_table.specs.declared.fields.Kind.TheVariants.{Number}
 use Rattle.cert_format.specs.declared.kinds.LineKind.{LineKind}
 use Rattle.cert_format.specs.declared.kinds.LineKind.TheVariants as kinds
-use Rattle.cert_format.specs.Fields.{IsIn, SpellIn, SpellVisits, IsRowOf}
+use Rattle.line_in.specs.Fields.{IsIn, SpellIn, SpellPrices, SpellVisits, IsRowOf}
 use Rattle.dossier_terms.specs.Ranges.{IsRouteLine}
 use Rattle.dossier_terms.specs.Counted.{visits_length}
 use Rattle.cert_format.specs.Lines.{IsRouteOf, IsPriceLine, IsExtraLine, IsWorthLine, IsPhiLine}
-use Rattle.cert_format.proofs.Accepted.{cast, number_field, row_of}
-use Rattle.cert_format.proofs.Fields.{accepted}
-use Rattle.cert_format.proofs.Wrong.{NoneRead, none_of}
-
--- ---- ranges
-
-abbrev pub price_field : Field
-price_field = record { low = neg_ℤ (pos MOST_PRICE); high = pos MOST_PRICE; kind = Number }
-
-abbrev pub potential_field : Field
-potential_field = record { low = negsuc 9223372036854775807; high = pos 9223372036854775807; kind = Number }
-
-fits : (n : ℤ) → negsuc 9223372036854775807 ≤ℤ n → n ≤ℤ pos 9223372036854775807 → FitsSigned w64 n
-fits (pos n) low high = record { sfits = omega (arith, ints) }
-fits (negsuc n) low high = record { sfits = omega (arith, ints) }
-
-pub price_fits : (n : ℤ) → IsPrice n → FitsSigned w64 n
-price_fits n is = let low = is.least in let high = is.most in fits n (omega (arith, ints)) (omega (arith, ints))
-
-price_in : (n : ℤ) → IsPrice n → IsIn price_field n
-price_in n is = record { fits = price_fits n is; low = is.least; high = is.most }
-
-in_price : (n : ℤ) → IsIn price_field n → IsPrice n
-in_price n is = record { least = is.low; most = is.high }
-
-pub signed_in : (n : ℤ) → IsSigned n → IsIn potential_field n
-signed_in n is = record { fits = is; low = grind (arith, ints, is); high = grind (arith, ints, is) }
-
-in_signed : (n : ℤ) → IsIn potential_field n → IsSigned n
-in_signed n is = is.fits
-
-pub worth_fits : (n : ℤ) → IsWorthNumber n → FitsSigned w64 n
-worth_fits n is = let low = is.least in let high = is.most in fits n (omega (arith, ints)) (omega (arith, ints))
+use Rattle.line_in.proofs.Accepted.{cast, number_field, row_of}
+use Rattle.line_in.proofs.Fields.{accepted}
+use Rattle.line_in.proofs.NoneRead.{NoneRead, none_of}
+use Rattle.line_in.proofs.PriceRanges.{potential_field, fits, signed_in, in_signed, each_as}
 
 -- ---- as many numbers as are due
 
-each_as : {P Q : ℤ → Type 0} → ((n : ℤ) → P n → Q n) → (ns : List ℤ) → AllByRecursion P ns → AllByRecursion Q ns
-each_as f [] h = tt
-each_as f (n ∷ ns) h = (f n h.0, each_as f ns h.1)
+pub worth_fits : (n : ℤ) → IsWorthNumber n → FitsSigned w64 n
+worth_fits n is = let low = is.least in let high = is.most in fits n (omega (arith, ints)) (omega (arith, ints))
 
 counted : {In : ℤ → Type 0} (field : Field) → ((n : ℤ) → IsIn field n → In n) → (count : ℕ) (ns : List ℤ) (ws : Words) → SpellIn field ns ws → length ws ≡ count → AreNumbers In count ns
 counted field f count ns ws s all = record { count = sym (length-map ns signed_decimal) ∙ ap length (sym s.spelled) ∙ all; each = each_as f ns s.each }
@@ -69,29 +39,32 @@ counted field f count ns ws s all = record { count = sym (length-map ns signed_d
 spelled : {In : ℤ → Type 0} (field : Field) → ((n : ℤ) → In n → IsIn field n) → (count : ℕ) (ns : List ℤ) (ws : Words) → AreNumbers In count ns → ws ≡ map signed_decimal ns → SpellIn field ns ws
 spelled field f count ns ws are is = record { each = each_as f ns are.each; spelled = is }
 
+priced : (count : ℕ) (ns : List ℤ) (ws : Words) → SpellPrices ns ws → length ws ≡ count → AreNumbers IsPrice count ns
+priced count ns ws s all = record { count = sym (length-map ns signed_decimal) ∙ ap length (sym s.spelled) ∙ all; each = s.each }
+
 -- ---- prices, extras and potentials
 
-pub price_line_of : (tasks : ℕ) (ws : Words) (ns : List ℤ) → IsShape (codes "price") tasks ws → SpellIn price_field ns (drop 1 ws) → IsPriceLine tasks ws (kinds.Price ns)
+pub price_line_of : (tasks : ℕ) (ws : Words) (ns : List ℤ) → IsShape (codes "price") tasks ws → SpellPrices ns (drop 1 ws) → IsPriceLine tasks ws (kinds.Price ns)
 price_line_of tasks ws ns (rest, is, all) s =
     let here : drop 1 ws ≡ rest = ap (drop 1) is in (
-      counted price_field in_price tasks ns (drop 1 ws) s (ap length here ∙ all),
+      priced tasks ns (drop 1 ws) s (ap length here ∙ all),
       is ∙ ap (λ xs. codes "price" ∷ xs) (sym here ∙ s.spelled),
     )
 
-pub no_price : (tasks : ℕ) (ws : Words) → ((ns : List ℤ) → SpellIn price_field ns (drop 1 ws) → ⊥) → (kind : LineKind) → IsPriceLine tasks ws kind → ⊥
-no_price tasks ws none (kinds.Price ns) (are, is) = none ns (spelled price_field price_in tasks ns (drop 1 ws) are (ap (drop 1) is))
+pub no_price : (tasks : ℕ) (ws : Words) → ((ns : List ℤ) → SpellPrices ns (drop 1 ws) → ⊥) → (kind : LineKind) → IsPriceLine tasks ws kind → ⊥
+no_price tasks ws none (kinds.Price ns) (are, is) = none ns (record { each = are.each; spelled = ap (drop 1) is })
 no_price tasks ws none _ h = absurd h
 
-pub extra_line_of : (task count : ℕ) (ws : Words) (ns : List ℤ) → IsRowOf (codes "extra") task count ws → SpellIn price_field ns (drop 2 ws) → IsExtraLine task count ws (kinds.Extra task ns)
+pub extra_line_of : (task count : ℕ) (ws : Words) (ns : List ℤ) → IsRowOf (codes "extra") task count ws → SpellPrices ns (drop 2 ws) → IsExtraLine task count ws (kinds.Extra task ns)
 extra_line_of task count ws ns (rest, is, all) s =
     let here : drop 2 ws ≡ rest = ap (drop 2) is in (
       refl,
-      counted price_field in_price count ns (drop 2 ws) s (ap length here ∙ all),
+      priced count ns (drop 2 ws) s (ap length here ∙ all),
       is ∙ ap (λ xs. codes "extra" ∷ decimal task ∷ xs) (sym here ∙ s.spelled),
     )
 
-pub no_extra : (task count : ℕ) (ws : Words) → ((ns : List ℤ) → SpellIn price_field ns (drop 2 ws) → ⊥) → (kind : LineKind) → IsExtraLine task count ws kind → ⊥
-no_extra task count ws none (kinds.Extra j ns) (same, are, is) = none ns (spelled price_field price_in count ns (drop 2 ws) are (ap (drop 2) is))
+pub no_extra : (task count : ℕ) (ws : Words) → ((ns : List ℤ) → SpellPrices ns (drop 2 ws) → ⊥) → (kind : LineKind) → IsExtraLine task count ws kind → ⊥
+no_extra task count ws none (kinds.Extra j ns) (same, are, is) = none ns (record { each = are.each; spelled = ap (drop 2) is })
 no_extra task count ws none _ h = absurd h
 
 pub phi_line_of : (task count : ℕ) (ws : Words) (ns : List ℤ) → IsRowOf (codes "phi") task count ws → SpellIn potential_field ns (drop 2 ws) → IsPhiLine task count ws (kinds.Phi task ns)

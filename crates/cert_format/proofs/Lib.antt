@@ -1,15 +1,8 @@
-pub mod Fields
-pub mod WideWords
 pub mod CauseLines
 pub mod Names
-pub mod Rests
-pub mod Visits
-pub mod Rows
-pub mod Accepted
 pub mod Wrong
 pub mod LeafLines
 pub mod NodeLines
-pub mod Pairs
 pub mod Runs
 pub mod OneAnswer
 pub mod Faults

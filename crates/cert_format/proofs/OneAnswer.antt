@@ -20,14 +20,15 @@ use Rattle.cert_format.specs.declared.kinds.Expect.{Expect}
 use Rattle.cert_format.specs.declared.kinds.Expect.TheVariants as expected
 use Rattle.cert_format.specs.declared.kinds.LineKind.{LineKind}
 use Rattle.cert_format.specs.declared.kinds.LineKind.TheVariants as kinds
-use Rattle.cert_format.specs.declared.kinds.LineFault.{LineFault}
-use Rattle.cert_format.specs.declared.kinds.LineFault.TheVariants.{Shape, Number, Name}
+use Rattle.line_in.specs.declared.faults.LineFault.{LineFault}
+use Rattle.line_in.specs.declared.faults.LineFault.TheVariants.{Shape, Number, Name}
 use Rattle.cert_format.specs.Lines.{IsFormLine, IsSizeLine, IsFrozenLine, IsKeepLine, IsStepsOf, IsPlaceLine, IsTimesLine, IsTeamOf, IsTaskOf, IsPoolLine, IsRouteOf, IsPlanLine, IsJobLine, IsTreeLine, IsNodeLine, IsPriceLine, IsExtraLine, IsWorthLine, IsPhiLine, IsEndLine, IsLineOf, WindowShape, PairShape, BareShape, OpenShape, ClosedShape, HasShape, HasNames, IsFaultOf, ReadsLine}
-use Rattle.cert_format.specs.Fields.{visit_numbers, run_numbers}
+use Rattle.line_in.specs.Fields.{visit_numbers, run_numbers}
 use Rattle.cert_format.specs.Counts.{HasCounts}
-use Rattle.cert_format.proofs.LeafLines.{price_fits, worth_fits}
-use Rattle.cert_format.proofs.Visits.{visits_map}
-use Rattle.cert_format.proofs.Runs.{runs_signed, runs_fit}
+use Rattle.cert_format.proofs.LeafLines.{worth_fits}
+use Rattle.line_in.proofs.PriceRanges.{price_fits}
+use Rattle.line_in.proofs.Visits.{visits_map}
+use Rattle.line_in.proofs.Runs.{runs_signed, runs_fit}
 use Rattle.cert_format.proofs.CauseLines.{why_one, share_one, spare_one, why_shape}
 
 -- ---- numbers have one spelling

@@ -6,8 +6,8 @@ use Rattle.cert_format.specs.Lines.{IsLineOf, IsFaultOf}
 use Rattle.cert_format.specs.Typed.{ReadsAs}
 use Rattle.cert_format.specs.declared.kinds.Expect.{Expect}
 use Rattle.cert_format.specs.declared.kinds.LineKind.{LineKind}
-use Rattle.cert_format.specs.declared.kinds.LineFault.{LineFault}
-use Rattle.cert_format.specs.declared.kinds.LineFault.TheVariants.{Number}
+use Rattle.line_in.specs.declared.faults.LineFault.{LineFault}
+use Rattle.line_in.specs.declared.faults.LineFault.TheVariants.{Number}
 
 -- the line is one where its numbers are, and else their fault is its first
 pub rest_read : {A : Type 0} (expect : Expect) (kind : A → LineKind) (ws : Words) (r : Result A LineFault) (Read : A → Type 0) (None : Type 0)

@@ -13,15 +13,9 @@ use Rattle.field_table.specs.declared.fields.Field.{Field}
 use Rattle.cert_format.specs.declared.kinds.LineKind.{LineKind}
 use Rattle.cert_format.specs.declared.kinds.LineKind.TheVariants as kinds
 use Rattle.cert_format.specs.Lines.{IsSizeLine, IsFrozenLine, IsKeepLine, IsPoolLine, IsPlanLine, IsJobLine, IsTreeLine, IsNodeLine}
-use Rattle.cert_format.proofs.Accepted.{number_field, AreIn, numbers_read}
-use Rattle.cert_format.proofs.Rows.{apart}
-
--- no values are read of the words
-abbrev pub NoneRead : List Field → Words → Type 0
-NoneRead fs ws = (values : List ℤ) → AreValues fs ws values → ⊥
-
-pub none_of : (fs : List Field) (ws : Words) (w : List ℕ) (ns : List ℕ) (rest : Words) → NoneRead fs ws → AreIn fs ns → ws ≡ w ∷ (map decimal ns ++ rest) → ⊥
-none_of fs ws w ns rest none a is = none (map pos ns) (subst (λ (xs : Words). AreValues fs xs (map pos ns)) (sym is) (numbers_read fs w ns rest a))
+use Rattle.line_in.proofs.Accepted.{number_field}
+use Rattle.line_in.proofs.NoneRead.{NoneRead, none_of}
+use Rattle.line_in.proofs.Rows.{apart}
 
 abbrev pub size_fields : List Field
 size_fields = number_field 0 (pos MOST_TEAMS) ∷ number_field 0 (pos MOST_TASKS) ∷ number_field 0 (pos MOST_PLACES) ∷ number_field 0 (pos MOST_NODES) ∷ []

@@ -1,17 +1,13 @@
--- the kind of line that is due in each state of the table of lines, and why a line with a fault is refused
+-- the kind of line that is due in each state of the table of lines
 use Rattle.std.specs.Prelude.{ℕ, pos, length}
 use Rattle.crew_terms.specs.Limits.{tasks_in}
 use Rattle.dossier_terms.specs.declared.DossierForm.{DossierForm}
 use Rattle.dossier_terms.specs.declared.DossierForm.TheVariants.{One, Two}
-use Rattle.dossier_terms.specs.declared.Reason.{Reason}
-use Rattle.dossier_terms.specs.declared.Reason.TheVariants as reasons
 use Rattle.crew_terms.specs.Minutes.{minute_count, required_teams}
 use Rattle.dossier_terms.specs.Reading.{Reading, limits_of}
 use Rattle.dossier_terms.specs.Reading as due
 use Rattle.cert_format.specs.declared.kinds.Expect.{Expect}
 use Rattle.cert_format.specs.declared.kinds.Expect.TheVariants.{Form, Size, Place, Travel, Team, Task, Frozen, Keep, Pool, Route, Plan, Job, Tree, Node, Why, Share, Spare, Price, Extra, Worth, Phi, Steps, End}
-use Rattle.cert_format.specs.declared.kinds.LineFault.{LineFault}
-use Rattle.cert_format.specs.declared.kinds.LineFault.TheVariants as faults
 
 -- the line of the potentials of task j, which has so many minutes, as the form has it
 abbrev pub potentials_expect : DossierForm → ℕ → ℕ → Expect
@@ -42,9 +38,3 @@ expect_of (due.Extras a leaf j js) = Extra j (length (required_teams (limits_of 
 expect_of (due.Worths a leaf k) = Worth
 expect_of (due.Phis a leaf k table j js) = potentials_expect a.begun.form j (minute_count (limits_of a) (length leaf.tables) j)
 expect_of (due.Ends b c t) = End
-
--- the reason that tells a fault of a line
-abbrev pub reason_for : LineFault → Reason
-reason_for faults.Shape = reasons.Shape
-reason_for faults.Number = reasons.Number
-reason_for faults.Name = reasons.Name

@@ -15,13 +15,13 @@ use Rattle.crew_terms.specs.declared.TheConstants.{LAST_MINUTE}
 use Rattle.dossier_terms.specs.Rules.{IsShape, IsShapeFrom, Begins}
 use Rattle.dossier_terms.specs.Ranges.{IsSize, IsTravel, IsTeamLine, IsTaskLine, IsRouteLine, IsDoLine, IsCounts, IsStepsLine, IsNowWord, IsLooseLine, IsSpareLine, IsOverflowLine, IsWhy, IsWhyOverflow, AreNumbers, HasName, IsPairs, IsRow, BeginsAt}
 use Rattle.dossier_terms.specs.Lines.{form_line, size_line, place_line, travel_line, team_words, task_words, frozen_line, keep_line, pool_line, route_line, plan_line, do_line, tree_line, window_line, pair_line, why_none_line, loose_line, share_line, spare_line, overflow_line, spent_line, bare_line, open_line, closed_line, price_line, extra_line, worth_line, phi_line, steps_line, end_line}
-use Rattle.cert_format.specs.Fields.{visit_numbers, run_numbers}
+use Rattle.line_in.specs.Fields.{visit_numbers, run_numbers}
 use Rattle.cert_format.specs.declared.kinds.Expect.{Expect}
 use Rattle.cert_format.specs.declared.kinds.Expect.TheVariants as expected
 use Rattle.cert_format.specs.declared.kinds.LineKind.{LineKind}
 use Rattle.cert_format.specs.declared.kinds.LineKind.TheVariants as kinds
-use Rattle.cert_format.specs.declared.kinds.LineFault.{LineFault}
-use Rattle.cert_format.specs.declared.kinds.LineFault.TheVariants.{Shape, Number, Name}
+use Rattle.line_in.specs.declared.faults.LineFault.{LineFault}
+use Rattle.line_in.specs.declared.faults.LineFault.TheVariants.{Shape, Number, Name}
 
 -- ---- the words spell the fields, which lie in their ranges
 

@@ -5,7 +5,7 @@ use Rattle.cert_format.specs.Lines.{IsLineOf, IsFaultOf}
 use Rattle.cert_format.specs.declared.kinds.Expect.{Expect}
 use Rattle.cert_format.specs.declared.kinds.LineKind.{LineKind}
 use Rattle.cert_format.specs.declared.kinds.LineKind.TheVariants as kinds
-use Rattle.cert_format.specs.declared.kinds.LineFault.{LineFault}
+use Rattle.line_in.specs.declared.faults.LineFault.{LineFault}
 use Rattle.cert_format.specs.declared.typed.TeamLine.{TeamLine}
 use Rattle.cert_format.specs.declared.typed.TaskLine.{TaskLine}
 use Rattle.cert_format.specs.declared.typed.JobLine.{JobLine}

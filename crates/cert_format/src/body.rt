@@ -1,13 +1,14 @@
 // The lines of a pool, a plan and a tree, but those of its nodes.
 ghost use Rattle.cert_format.specs.Typed.{ReadsAs, pool_kind, route_kind, plan_kind, job_kind, end_kind};
 
-use crate::kinds::{Expect, LineFault, LineKind};
-use crate::numbers::{read_below, read_visits};
-use crate::ranges::MINUTE;
-use crate::shape::{has_pairs, has_shape, has_shape_from};
+use crate::kinds::{Expect, LineKind};
 use crate::typed::{JobLine, PlanLine, PoolLine, RouteLine};
 use crew_terms::{MOST_NODES, TreeCounts};
 use field_table::{LineWords, fields};
+use line_in::LineFault;
+use line_in::numbers::{read_below, read_visits};
+use line_in::ranges::MINUTE;
+use line_in::shape::{has_pairs, has_shape, has_shape_from};
 
 /// Reads the line `pool`: how many routes are kept, and how many there are, or tells its first fault.
 pub fn read_pool(words: LineWords<'_>) -> Result<PoolLine, LineFault>

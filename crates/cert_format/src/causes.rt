@@ -1,16 +1,17 @@
 // The lines of the cause of a split.
-ghost use Rattle.std.specs.Prelude.{◌≡◌, ◌≢◌, ◌≤◌, ◌<◌, ◌+◌, ◌^◌, ◌<ℤ◌, ℕ, pos, MatchOption, codes};
+ghost use Rattle.std.specs.Prelude.{◌≡◌, ◌≢◌, ◌≤◌, ◌<◌, ◌+◌, ◌^◌, ◌<ℤ◌, ℕ, pos, MatchBool, MatchOption, codes};
 ghost use Rattle.crew_num.specs.declared.Op.{Op};
 ghost use Rattle.dossier_terms.specs.Lines.{op_word};
 ghost use Rattle.dossier_terms.specs.Ranges.{IsWhy};
 ghost use Rattle.cert_format.specs.Typed.{ReadsAs, why_kind, share_kind};
 
-use crate::kinds::{Expect, LineFault, LineKind};
-use crate::shape::{has_shape, is_same, is_why};
+use crate::kinds::{Expect, LineKind};
 use crate::typed::{ShareLine, WhyLine};
-use crate::wides::{WideNumbers, read_natural, read_naturals, read_signed};
 use crew_num::{Op, Overflow};
 use field_table::{LineWords, Words};
+use line_in::LineFault;
+use line_in::shape::{has_shape, is_same, is_word};
+use line_in::wides::{WideNumbers, read_natural, read_naturals, read_signed};
 
 /// One more than the most parts of which a share is one: 2^127.
 const PAST_WHOLE: u128 = 1 << 127;
@@ -32,6 +33,18 @@ fn op_of(word: &[u8]) -> Option<Op>
         return Some(Op::Mul);
     }
     None
+}
+
+/// Whether the line is `why`, this kind of cause, and so many words after it.
+fn is_why(words: &LineWords<'_>, kind: &[u8], after: usize) -> bool
+    requires { after < 8 }
+    ensures { MatchBool result (IsWhy kind.now after words.now)
+        (IsWhy kind.now after words.now → ⊥) }
+{
+    if !has_shape(words, b"why", after + 1) {
+        return false;
+    }
+    is_word(words, 1, kind)
 }
 
 /// Reads a line `why loose`.

@@ -1,16 +1,17 @@
 // The lines of the head: the form, an instance and its frozen jobs.
 ghost use Rattle.cert_format.specs.Typed.{ReadsAs, team_kind, task_kind, keep_kind};
 
-use crate::kinds::{Expect, LineFault, LineKind};
-use crate::numbers::{LineNumbers, read_below, read_in};
-use crate::ranges::{MINUTE, read_name};
-use crate::shape::{has_shape, has_shape_from, is_word};
+use crate::kinds::{Expect, LineKind};
 use crate::typed::{JobLine, TaskLine, TeamLine};
 use crew_terms::{
     LAST_MINUTE, MOST_NODES, MOST_PLACES, MOST_TASKS, MOST_TEAMS, MOST_TEAMS_PER_TASK, Name, SKILLS,
 };
 use dossier_terms::{DossierForm, Size};
 use field_table::{LineWords, field, fields};
+use line_in::LineFault;
+use line_in::numbers::{LineNumbers, read_below, read_in};
+use line_in::ranges::{MINUTE, read_name};
+use line_in::shape::{has_shape, has_shape_from, is_word};
 
 /// Reads the first line, `crew dossier 1` or `crew dossier 2`, or tells its first fault.
 pub fn read_form(words: LineWords<'_>) -> Result<DossierForm, LineFault>

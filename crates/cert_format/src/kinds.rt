@@ -1,12 +1,9 @@
 // The kinds of lines of a dossier.
-ghost use Rattle.std.specs.Prelude.{◌≡◌};
-ghost use Rattle.cert_format.specs.Expected.{reason_for};
 
-use crate::numbers::LineNumbers;
-use crate::wides::WideNumbers;
 use crew_num::Overflow;
 use crew_terms::{Name, TreeCounts};
-use dossier_terms::{DossierForm, Reason, Size};
+use dossier_terms::{DossierForm, Size};
+use line_in::{LineNumbers, WideNumbers};
 
 /// The kind of line that is due, with the counts that its ranges need.
 #[derive(Clone, Copy, Debug, PartialEq, Eq)]
@@ -174,28 +171,4 @@ pub enum LineKind<'a> {
         pairs: LineNumbers<'a>,
     },
     End,
-}
-
-/// Why a line is none of the expected kind; the first fault of these that it has.
-#[derive(Clone, Copy, Debug, PartialEq, Eq)]
-pub enum LineFault {
-    /// Another first word, a wrong number of words, or a word that must be a given one and isn't.
-    Shape,
-    /// A word that isn't the canonical decimal of a number in its range.
-    Number,
-    /// A misspelled name.
-    Name,
-}
-
-impl LineFault {
-    /// The reason for which a line with this fault is refused.
-    pub fn reason(self) -> Reason
-        ensures { result ≡ reason_for self }
-    {
-        match self {
-            LineFault::Shape => Reason::Shape,
-            LineFault::Number => Reason::Number,
-            LineFault::Name => Reason::Name,
-        }
-    }
 }

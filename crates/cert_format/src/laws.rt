@@ -5,8 +5,9 @@ ghost use Rattle.dossier_terms.specs.Reading.{Reading, No};
 ghost use Rattle.dossier_terms.specs.Table.{Says};
 ghost use Rattle.cert_format.specs.declared.kinds.Expect.{Expect};
 ghost use Rattle.cert_format.specs.declared.kinds.LineKind.{LineKind};
-ghost use Rattle.cert_format.specs.declared.kinds.LineFault.{LineFault};
-ghost use Rattle.cert_format.specs.Expected.{expect_of, reason_for};
+ghost use Rattle.line_in.specs.declared.faults.LineFault.{LineFault};
+ghost use Rattle.line_in.specs.Faults.{reason_for};
+ghost use Rattle.cert_format.specs.Expected.{expect_of};
 ghost use Rattle.cert_format.specs.Lines.{IsFaultOf, ReadsLine};
 ghost use Rattle.cert_format.specs.Counts.{HasCounts};
 

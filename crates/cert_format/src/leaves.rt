@@ -1,11 +1,12 @@
 // The lines of a leaf: its prices, and the worths and potentials of its teams.
 ghost use Rattle.cert_format.specs.Typed.{ReadsAs};
 
-use crate::kinds::{Expect, LineFault, LineKind};
-use crate::numbers::{LineNumbers, read_rest, read_runs};
-use crate::ranges::{POTENTIAL, PRICE};
-use crate::shape::{has_pairs_at, has_row, has_shape};
+use crate::kinds::{Expect, LineKind};
 use field_table::{LineWords, fields};
+use line_in::LineFault;
+use line_in::numbers::{LineNumbers, read_prices, read_rest, read_runs};
+use line_in::ranges::POTENTIAL;
+use line_in::shape::{has_pairs_at, has_row, has_shape};
 
 /// Reads the line `price`: a price of each of so many tasks, in 1/D of a task, or tells its first fault.
 pub fn read_price<'a>(words: LineWords<'a>, tasks: u32) -> Result<LineNumbers<'a>, LineFault>
@@ -14,7 +15,7 @@ pub fn read_price<'a>(words: LineWords<'a>, tasks: u32) -> Result<LineNumbers<'a
     if !has_shape(&words, b"price", tasks as usize) {
         return Err(LineFault::Shape);
     }
-    read_rest(words, 1, PRICE)
+    read_prices(words, 1)
 }
 
 /// Reads the line `extra` of this task, with so many prices of its required pairs, or tells its first fault.
@@ -28,7 +29,7 @@ pub fn read_extra<'a>(
     if !has_row(&words, b"extra", task, count) {
         return Err(LineFault::Shape);
     }
-    read_rest(words, 2, PRICE)
+    read_prices(words, 2)
 }
 
 /// Reads a line `worth`, or tells its first fault.

@@ -10,12 +10,7 @@ pub mod kinds;
 mod laws;
 pub mod leaves;
 pub mod nodes;
-pub mod numbers;
-mod ranges;
-pub mod refusals;
-mod shape;
 pub mod typed;
-pub mod wides;
 
 pub use body::{read_end, read_job, read_plan, read_pool, read_route, read_tree};
 pub use causes::{read_share, read_spare, read_why};
@@ -24,16 +19,14 @@ use field_table::LineWords;
 pub use head::{
     read_form, read_frozen, read_keep, read_place, read_size, read_task, read_team, read_travel,
 };
-pub use kinds::{Expect, LineFault, LineKind};
+pub use kinds::{Expect, LineKind};
 pub use laws::{fault_is_refused, line_has_one_answer};
 pub use leaves::{read_extra, read_phi, read_price, read_steps, read_worth};
+use line_in::LineFault;
 pub use nodes::read_node;
-pub use numbers::LineNumbers;
-pub use refusals::Refusal;
 pub use typed::{
     JobLine, NodeLine, PlanLine, PoolLine, RouteLine, ShareLine, TaskLine, TeamLine, WhyLine,
 };
-pub use wides::WideNumbers;
 
 /// Reads a line of the expected kind from its words; it takes no memory. The fault is the first that the
 /// line has: of its shape, then of its name, then of its numbers.

@@ -3,11 +3,12 @@ ghost use Rattle.std.specs.Prelude.{ℕ, codes};
 ghost use Rattle.dossier_terms.specs.Rules.{Begins};
 ghost use Rattle.cert_format.specs.Typed.{ReadsAs, node_kind};
 
-use crate::kinds::{Expect, LineFault};
-use crate::ranges::MINUTE;
-use crate::shape::has_shape;
+use crate::kinds::Expect;
 use crate::typed::NodeLine;
 use field_table::{LineWords, Schema, Words, fields};
+use line_in::LineFault;
+use line_in::ranges::MINUTE;
+use line_in::shape::has_shape;
 
 /// The first words of the lines of a node.
 const NODES: Schema = Schema {

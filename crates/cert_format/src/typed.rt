@@ -3,9 +3,9 @@ ghost use Rattle.std.specs.Prelude.{◌≡◌};
 ghost use Rattle.cert_format.specs.Typed.{job_kind, keep_kind};
 
 use crate::kinds::LineKind;
-use crate::numbers::LineNumbers;
 use crew_num::Overflow;
 use crew_terms::Name;
+use line_in::LineNumbers;
 
 /// A line `team`: its name, its home, its shift in minutes of the day, and its skills in the order of the line.
 #[derive(Drop)]

@@ -15,7 +15,6 @@ use Rattle.dossier_terms.specs.Dossier.{Dossier, IsGood}
 use Rattle.dossier_terms.specs.Lines.{lines_of, text_of}
 use Rattle.dossier_terms.specs.Reading.{Reading, Form, Answer, More as Goes, Whole as Ends, No as Refuses}
 use Rattle.dossier_terms.specs.Table.{Says, Reaches, Ended}
-use Rattle.dossier_terms.specs.Accepted.{IsAccepted}
 use Rattle.cert_checker.specs.Checked.{Checked, IsDueAt, IsEnded, IsJudged, IsOpen as IsDue, IsReached, IsTrueYes, IsWholeAt, StandsAfter, refused_at, said_of, stop_reason_of, verdict_of}
 use Rattle.cert_checker.specs.declared.checker.State.{State}
 use Rattle.cert_checker.specs.declared.checker.State.TheVariants as states
@@ -24,24 +23,24 @@ use Rattle.cert_checker.specs.declared.checker.Said.{Said}
 use Rattle.cert_checker.specs.declared.checker.Said.TheVariants.{More, Whole, No}
 use Rattle.cert_checker.specs.declared.checker.Stop.{Stop}
 use Rattle.cert_checker.specs.declared.checker.Stop.TheVariants as stop
-use Rattle.dossier_commands.specs.Input.{HasRead, IsBetween, IsGoing, IsAtFirst, Fresh, Behind as AtFirst, CanGoOn, IsRefusal, BadLine, NoLine, Stops, LineTooLong, InputTooLong, IsEnd, IsYes, IsNextDossier, IsOutcome, IsOutcomeAtStop, Over, Short, Fault, OpensNext, told_of, text_of_lines, text_before, lines_before, room_after}
+use Rattle.dossier_commands.specs.Input.{Front, HasRead, IsAcceptedBehind, IsBetween, IsGoing, IsAtFirst, Fresh, Behind as AtFirst, CanGoOn, IsRefusal, BadLine, NoLine, Stops, LineTooLong, InputTooLong, IsEnd, IsYes, IsNextDossier, IsOutcome, IsOutcomeAtStop, Over, Short, Fault, OpensNext, told_of, text_of_lines, text_before, lines_before, room_after}
 use Rattle.dossier_commands.specs.declared.input.Outcome.{Outcome}
 use Rattle.dossier_commands.specs.declared.input.Outcome.TheVariants as outcomes
 use Rattle.dossier_commands.proofs.Refusals.{leads_on, ends}
 
 -- the lines of the next dossier that the reader has handed out lead to what is due
-pub record ReadTo (input : List ℕ) (done : List Dossier) (reader : Reader) (left : Option (List ℕ)) (due : Reading) (count : ℕ) : Type 0 where
+pub record ReadTo (front : Front) (input : List ℕ) (done : List Dossier) (reader : Reader) (left : Option (List ℕ)) (due : Reading) (count : ℕ) : Type 0 where
   pub lines : List (List ℕ)
   pub rest : List ℕ
   pub is : rest_of reader left ≡ Some rest
-  pub read : HasRead input done lines rest due
-  pub handed : reader.handed ≡ length (text_before done lines)
-  pub number : count ≡ lines_before done lines
+  pub read : HasRead front input done lines rest due
+  pub handed : reader.handed ≡ length (text_before front done lines)
+  pub number : count ≡ lines_before front done lines
 
--- where the checker stands, behind so many lines of whole dossiers
-pub data StandsAt (from : ℕ) (checker : Checked) (due : Reading) : Type 0 where
-  AtFirstLine : (here : checker.lines ≡ from) (first : IsAtFirst checker) (is : due ≡ Form) → StandsAt from checker due
-  Amid : (more : from < checker.lines) (at : IsDueAt checker.at due) → StandsAt from checker due
+-- where the checker stands, which stood here at the first line of the dossier
+pub data StandsAt (start checker : Checked) (due : Reading) : Type 0 where
+  AtFirstLine : (here : checker ≡ start) (first : IsAtFirst checker) (is : due ≡ Form) → StandsAt start checker due
+  Amid : (more : start.lines < checker.lines) (at : IsDueAt checker.at due) → StandsAt start checker due
 
 -- what holds before each line of the next dossier
 pub record IsSoFar (old : Reader) (left0 : Option (List ℕ)) (start : Checked) (reader : Reader) (left : Option (List ℕ)) (checker : Checked) : Type 0 where
@@ -50,14 +49,16 @@ pub record IsSoFar (old : Reader) (left0 : Option (List ℕ)) (start : Checked) 
   pub grows : old.handed + checker.lines ≤ reader.handed + start.lines
   pub due : Reading
   pub reached : IsReached due
-  pub stands : StandsAt start.lines checker due
-  pub read : (input : List ℕ) (done : List Dossier) → IsBetween input done old left0 start.lines → ReadTo input done reader left due checker.lines
+  pub stands : StandsAt start checker due
+  pub read : (front : Front) (input : List ℕ) (done : List Dossier) → IsBetween front input done old left0 start → ReadTo front input done reader left due checker.lines
 
 one_more : (lines : List (List ℕ)) (line : List ℕ) → text_of_lines (lines ++ line ∷ []) ≡ text_of_lines lines ++ with_feed line
 one_more lines line = flat_map-append with_feed lines (line ∷ []) ∙ ap (λ x. text_of_lines lines ++ x) (append-nil (with_feed line))
 
-before_more : (done : List Dossier) (lines : List (List ℕ)) (line : List ℕ) → text_before done (lines ++ line ∷ []) ≡ text_before done lines ++ with_feed line
-before_more done lines line = ap (λ x. flat_map text_of done ++ x) (one_more lines line) ∙ sym (append_assoc (flat_map text_of done) (text_of_lines lines) (with_feed line))
+before_more : (front : Front) (done : List Dossier) (lines : List (List ℕ)) (line : List ℕ) → text_before front done (lines ++ line ∷ []) ≡ text_before front done lines ++ with_feed line
+before_more front done lines line = ap (λ x. front.text ++ (flat_map text_of done ++ x)) (one_more lines line)
+    ∙ ap (λ x. front.text ++ x) (sym (append_assoc (flat_map text_of done) (text_of_lines lines) (with_feed line)))
+    ∙ sym (append_assoc front.text (flat_map text_of done ++ text_of_lines lines) (with_feed line))
 
 pub starts : (reader : Reader) (left : Option (List ℕ)) (checker : Checked) → CanGoOn reader checker → IsSoFar reader left checker reader left checker
 starts reader left checker open_ = record {
@@ -67,13 +68,13 @@ starts reader left checker open_ = record {
   due = Form;
   reached = ([], refl);
   stands = AtFirstLine refl open_.first refl;
-  read = λ input done b. record {
+  read = λ front input done b. record {
     lines = [];
     rest = b.rest;
     is = b.is;
     read = b.read;
-    handed = b.handed ∙ ap length (sym (append-nil (flat_map text_of done)));
-    number = (let n = b.number in omega arith);
+    handed = b.handed;
+    number = b.number;
   };
 }
 
@@ -94,34 +95,34 @@ ended_is_first states.Spent reading e d = absurd e.1
 
 first_is_due : (checker : Checked) → IsAtFirst checker → IsDueAt checker.at Form
 first_is_due checker (Fresh is) = subst (λ c. IsDueAt c.at Form) (sym is) (tt, tt, refl)
-first_is_due checker (AtFirst some ended) = ended_is_due checker.at ended
+first_is_due checker (AtFirst ended) = ended_is_due checker.at ended
 
-due_of : (from : ℕ) (checker : Checked) (due : Reading) → StandsAt from checker due → IsDueAt checker.at due
-due_of from checker due (AtFirstLine here first is) = subst (IsDueAt checker.at) (sym is) (first_is_due checker first)
-due_of from checker due (Amid more at) = at
+due_of : (start checker : Checked) (due : Reading) → StandsAt start checker due → IsDueAt checker.at due
+due_of start checker due (AtFirstLine here first is) = subst (IsDueAt checker.at) (sym is) (first_is_due checker first)
+due_of start checker due (Amid more at) = at
 
 pub is_due : (first : Reader) (left0 : Option (List ℕ)) (start : Checked) (old : Reader) (left : Option (List ℕ)) (checker : Checked)
     → (s : IsSoFar first left0 start old left checker) → IsDueAt checker.at s.due
-is_due first left0 start old left checker s = due_of start.lines checker s.due s.stands
+is_due first left0 start old left checker s = due_of start checker s.due s.stands
 
 -- what an answer finds of the rest
-found : (input : List ℕ) (done : List Dossier) (old new : Reader) (left later : Option (List ℕ)) (answer : Progress) (due : Reading) (count : ℕ) → old.limit ≡ LONGEST_INPUT
-    → (r : ReadTo input done old left due count) → Advances old left answer new later
-    → (after : List ℕ) × (rest_of new later ≡ Some after) × Finds (room_after done r.lines) r.rest answer new.line after
-found input done old new left later answer due count limit r a =
-    let room : allowance old ≡ room_after done r.lines = (let h = r.handed in omega arith) in
+found : (front : Front) (input : List ℕ) (done : List Dossier) (old new : Reader) (left later : Option (List ℕ)) (answer : Progress) (due : Reading) (count : ℕ) → old.limit ≡ LONGEST_INPUT
+    → (r : ReadTo front input done old left due count) → Advances old left answer new later
+    → (after : List ℕ) × (rest_of new later ≡ Some after) × Finds (room_after front done r.lines) r.rest answer new.line after
+found front input done old new left later answer due count limit r a =
+    let room : allowance old ≡ room_after front done r.lines = (let h = r.handed in omega arith) in
     subst (λ n. AnswersTold n (Some r.rest) answer new.line (rest_of new later)) room
     (subst (λ o. AnswersTold (allowance old) o answer new.line (rest_of new later)) r.is a.rest)
 
-text_more : (input : List ℕ) (done : List Dossier) (lines : List (List ℕ)) (line rest after : List ℕ) → input ≡ text_before done lines ++ rest → rest ≡ with_feed line ++ after
-    → input ≡ text_before done (lines ++ line ∷ []) ++ after
-text_more input done lines line rest after text parts = text ∙ ap (λ x. text_before done lines ++ x) parts
-    ∙ sym (append_assoc (text_before done lines) (with_feed line) after) ∙ ap (λ x. x ++ after) (sym (before_more done lines line))
+text_more : (front : Front) (input : List ℕ) (done : List Dossier) (lines : List (List ℕ)) (line rest after : List ℕ) → input ≡ text_before front done lines ++ rest → rest ≡ with_feed line ++ after
+    → input ≡ text_before front done (lines ++ line ∷ []) ++ after
+text_more front input done lines line rest after text parts = text ∙ ap (λ x. text_before front done lines ++ x) parts
+    ∙ sym (append_assoc (text_before front done lines) (with_feed line) after) ∙ ap (λ x. x ++ after) (sym (before_more front done lines line))
 
-handed_more : (done : List Dossier) (lines : List (List ℕ)) (line : List ℕ) (old new : ℕ) → new ≡ old + length (with_feed line) → old ≡ length (text_before done lines)
-    → new ≡ length (text_before done (lines ++ line ∷ []))
-handed_more done lines line old new e f = e ∙ ap (λ n. n + length (with_feed line)) f
-    ∙ sym (length-append (text_before done lines) (with_feed line)) ∙ ap length (sym (before_more done lines line))
+handed_more : (front : Front) (done : List Dossier) (lines : List (List ℕ)) (line : List ℕ) (old new : ℕ) → new ≡ old + length (with_feed line) → old ≡ length (text_before front done lines)
+    → new ≡ length (text_before front done (lines ++ line ∷ []))
+handed_more front done lines line old new e f = e ∙ ap (λ n. n + length (with_feed line)) f
+    ∙ sym (length-append (text_before front done lines) (with_feed line)) ∙ ap length (sym (before_more front done lines line))
 
 words_more : (lines : List (List ℕ)) (line : List ℕ) → map words_of (lines ++ line ∷ []) ≡ map words_of lines ++ words_of line ∷ []
 words_more lines line = map-append words_of lines (line ∷ [])
@@ -174,38 +175,38 @@ goes_on first left0 start old new left later checker next said s a j is =
       due = g.0;
       reached = (s.reached.0 ++ words_of new.line ∷ [], leads_on Form s.reached.0 (words_of new.line) s.due g.0 s.reached.1 g.1);
       stands = Amid (let b = s.begun in let c = j.count in omega (arith, b, c)) g.2;
-      read = λ input done b. more g.0 g.1 input done (s.read input done b);
+      read = λ front input done b. more g.0 g.1 front input done (s.read front input done b);
     }
   where
-    more : (due : Reading) → Says s.due (words_of new.line) (Goes due) → (input : List ℕ) (done : List Dossier) → ReadTo input done old left s.due checker.lines
-        → ReadTo input done new later due next.lines
-    more due answer input done r =
-        let f = found input done old new left later progress.Line s.due checker.lines s.going.limit r a in
+    more : (due : Reading) → Says s.due (words_of new.line) (Goes due) → (front : Front) (input : List ℕ) (done : List Dossier) → ReadTo front input done old left s.due checker.lines
+        → ReadTo front input done new later due next.lines
+    more due answer front input done r =
+        let f = found front input done old new left later progress.Line s.due checker.lines s.going.limit r a in
         record {
           lines = r.lines ++ new.line ∷ [];
           rest = f.0;
           is = f.1;
           read = record {
-            text = text_more input done r.lines new.line r.rest f.0 r.read.text f.2.parts;
-            within = (let h = handed_more done r.lines new.line old.handed new.handed a.handed r.handed in let w = a.within in let l = a.limit in let m = s.going.limit in omega arith);
+            text = text_more front input done r.lines new.line r.rest f.0 r.read.text f.2.parts;
+            within = (let h = handed_more front done r.lines new.line old.handed new.handed a.handed r.handed in let w = a.within in let l = a.limit in let m = s.going.limit in omega arith);
             good = r.read.good;
             each = All-push IsLine r.lines new.line r.read.each a.line;
             leads = subst (λ ws. Reaches Form ws due) (sym (words_more r.lines new.line))
                 (leads_on Form (map words_of r.lines) (words_of new.line) s.due due r.read.leads answer);
           };
-          handed = handed_more done r.lines new.line old.handed new.handed a.handed r.handed;
+          handed = handed_more front done r.lines new.line old.handed new.handed a.handed r.handed;
           number = (let n = r.number in let c = j.count in let m = length-append r.lines (new.line ∷ []) in omega arith);
         }
 
 pub refuses : (first : Reader) (left0 : Option (List ℕ)) (start : Checked) (old new : Reader) (left later : Option (List ℕ)) (checker next : Checked) (said : Said) (number : ℕ) (reason : Reason)
     → (s : IsSoFar first left0 start old left checker) → Advances old left progress.Line new later → IsJudged checker.lines s.due (words_of new.line) said next → said ≡ No number reason
-    → (input : List ℕ) (done : List Dossier) → IsBetween input done first left0 start.lines → IsRefusal input done number reason
-refuses first left0 start old new left later checker next said number reason s a j is input done b =
-    let r = s.read input done b in
-    let f = found input done old new left later progress.Line s.due checker.lines s.going.limit r a in
+    → (front : Front) (input : List ℕ) (done : List Dossier) → IsBetween front input done first left0 start → IsRefusal front input done number reason
+refuses first left0 start old new left later checker next said number reason s a j is front input done b =
+    let r = s.read front input done b in
+    let f = found front input done old new left later progress.Line s.due checker.lines s.going.limit r a in
     let g = refused_for checker.lines said next.at s.due (words_of new.line) number reason j.answer j.is j.says j.stands is in
     BadLine r.lines new.line f.0 s.due
-    (record { text = r.read.text ∙ ap (λ x. text_before done r.lines ++ x) f.2.parts; within = r.read.within; good = r.read.good; each = r.read.each; leads = r.read.leads })
+    (record { text = r.read.text ∙ ap (λ x. text_before front done r.lines ++ x) f.2.parts; within = r.read.within; good = r.read.good; each = r.read.each; leads = r.read.leads })
     f.2.plain f.2.fits g.0 (let n = r.number in let m = g.1 in omega arith)
 
 no_bytes : (rest : List ℕ) → length rest ≡ 0 → rest ≡ []
@@ -216,23 +217,14 @@ no_lines : (lines : List (List ℕ)) → length lines ≡ 0 → lines ≡ []
 no_lines [] e = refl
 no_lines (x ∷ lines) e = absurd (omega arith)
 
-some_lines : (done : List Dossier) → done ≢ [] → 0 < length (flat_map lines_of done)
-some_lines [] h = absurd (h refl)
-some_lines (d ∷ done) h = let n = length-append (lines_of d) (flat_map lines_of done) in let m = has_lines d in omega arith
-  where
-    has_lines : (d : Dossier) → 0 < length (lines_of d)
-    has_lines d = omega arith
-
 -- a dossier is whole just where no line of the next one was read
-ended_here : (from : ℕ) (checker : Checked) (due : Reading) → StandsAt from checker due → (due ≡ Form → checker.lines ≡ from) → IsEnded checker.at → (checker.lines ≡ from) × (0 < from)
-ended_here from checker due (AtFirstLine here (Fresh is) form) none e = absurd (subst (λ c. IsEnded c.at) is e).1
-ended_here from checker due (AtFirstLine here (AtFirst some ended) form) none e = (here, omega (arith, here, some))
-ended_here from checker due (Amid more at) none e = absurd (let h = none (ended_is_first checker.at due e at) in omega (arith, more, h))
+ended_here : (start checker : Checked) (due : Reading) → StandsAt start checker due → (due ≡ Form → checker.lines ≡ start.lines) → IsEnded checker.at → checker ≡ start
+ended_here start checker due (AtFirstLine here first form) none e = here
+ended_here start checker due (Amid more at) none e = absurd (let h = none (ended_is_first checker.at due e at) in omega (arith, more, h))
 
-here_ended : (from : ℕ) (checker : Checked) (due : Reading) → StandsAt from checker due → checker.lines ≡ from → 0 < from → IsEnded checker.at
-here_ended from checker due (AtFirstLine here (Fresh is) form) e l = absurd (let n : checker.lines ≡ 0 = ap (λ c. c.lines) is in omega (arith, n, e, l))
-here_ended from checker due (AtFirstLine here (AtFirst some ended) form) e l = ended
-here_ended from checker due (Amid more at) e l = absurd (omega (arith, more, e))
+here_ended : (start checker : Checked) (due : Reading) → StandsAt start checker due → checker.lines ≡ start.lines → IsEnded start.at → IsEnded checker.at
+here_ended start checker due (AtFirstLine here first form) e l = subst (λ c. IsEnded c.at) (sym here) l
+here_ended start checker due (Amid more at) e l = absurd (omega (arith, more, e))
 
 is_fault : (answer : Progress) → answer ≢ progress.Line → told_of answer ≡ None → answer ≡ progress.ReadFault
 is_fault progress.Line stopped told = absurd (stopped refl)
@@ -244,9 +236,9 @@ is_fault progress.ReadFault stopped told = refl
 -- where no line comes whole
 module _ (first : Reader) (left0 : Option (List ℕ)) (start : Checked) (old new : Reader) (left later : Option (List ℕ)) (checker : Checked)
     (first_line : (lines : List Words) → Reaches Form lines Form → lines ≡ [])
-    (s : IsSoFar first left0 start old left checker) (input : List ℕ) (done : List Dossier) (b : IsBetween input done first left0 start.lines) where
+    (s : IsSoFar first left0 start old left checker) (front : Front) (input : List ℕ) (done : List Dossier) (b : IsBetween front input done first left0 start) where
   -- where the first line of a dossier is due, no line of it was read
-  at_form : (r : ReadTo input done old left s.due checker.lines) → s.due ≡ Form → checker.lines ≡ start.lines
+  at_form : (r : ReadTo front input done old left s.due checker.lines) → s.due ≡ Form → checker.lines ≡ start.lines
   at_form r form =
       let e = ap length (first_line (map words_of r.lines) (subst (Reaches Form (map words_of r.lines)) form r.read.leads)) in
       let f = length-map r.lines words_of in
@@ -254,93 +246,107 @@ module _ (first : Reader) (left0 : Option (List ℕ)) (start : Checked) (old new
       let m = b.number in
       omega arith
 
-  accepts : (r : ReadTo input done old left s.due checker.lines) → IsEnded checker.at → IsPartial (room_after done r.lines) r.rest 0 → IsAccepted input done
+  accepts : (r : ReadTo front input done old left s.due checker.lines) → IsEnded checker.at → IsPartial (room_after front done r.lines) r.rest 0 → IsAcceptedBehind front input done
   accepts r ended p =
-      let at = ended_here start.lines checker s.due s.stands (at_form r) ended in
+      let at = ended_here start checker s.due s.stands (at_form r) ended in
       let n = r.number in
       let m = b.number in
+      let same = ap (λ c. c.lines) at in
       let e : r.lines ≡ [] = no_lines r.lines (omega arith) in
       let none : r.rest ≡ [] = no_bytes r.rest (sym p.count) in
-      let text : input ≡ flat_map text_of done = r.read.text ∙ ap (λ x. text_before done r.lines ++ x) none ∙ append-nil (text_before done r.lines)
-      ∙ ap (text_before done) e ∙ append-nil (flat_map text_of done) in
+      let text : input ≡ front.text ++ flat_map text_of done = r.read.text ∙ ap (λ x. text_before front done r.lines ++ x) none ∙ append-nil (text_before front done r.lines)
+      ∙ ap (text_before front done) e ∙ ap (λ x. front.text ++ x) (append-nil (flat_map text_of done)) in
       let w = s.going.within in
       let h = b.handed in
-      let small : length input ≤ LONGEST_INPUT = (let i = ap length text in let g = r.handed in let k = ap (λ x. length (text_before done x)) e in let j = ap length (append-nil (flat_map text_of done)) in omega arith) in
-      record { size = small; some = λ x. absurd (let k = ap (λ y. length (flat_map lines_of y)) x in omega arith); good = r.read.good; text = text }
+      let small : length input ≤ LONGEST_INPUT = (let i = ap length text in let g = r.handed in let k = ap (λ x. length (text_before front done x)) e in
+      let j = ap (λ x. length (front.text ++ x)) (append-nil (flat_map text_of done)) in omega arith) in
+      record {
+        behind = flat_map text_of done;
+        text = text;
+        within = small;
+        accepted = record {
+          size = (let i = ap length text in let g = length-append front.text (flat_map text_of done) in omega (arith, i, g, small));
+          some = b.ended.0 (subst (λ c. IsEnded c.at) at ended);
+          good = r.read.good;
+          text = refl;
+        };
+      }
 
-  not_over : (r : ReadTo input done old left s.due checker.lines) → IsEnd done r.lines r.rest → IsEnded checker.at
-  not_over r e = here_ended start.lines checker s.due s.stands (let n = r.number in let m = b.number in let k = ap length e.between in omega arith) (let m = b.number in let l = some_lines done e.some in omega arith)
+  not_over : (r : ReadTo front input done old left s.due checker.lines) → IsEnd done r.lines r.rest → IsEnded checker.at
+  not_over r e = here_ended start checker s.due s.stands (let n = r.number in let m = b.number in let k = ap length e.between in omega arith) (b.ended.1 e.some)
 
-  no_end : (r : ReadTo input done old left s.due checker.lines) → 0 < length r.rest → IsEnd done r.lines r.rest → ⊥
+  no_end : (r : ReadTo front input done old left s.due checker.lines) → 0 < length r.rest → IsEnd done r.lines r.rest → ⊥
   no_end r l e = let n = ap length e.none in absurd (omega arith)
 
-  falls_short : (r : ReadTo input done old left s.due checker.lines) (answer : Progress) (why : Stop) → told_of answer ≡ Some why → (IsEnded checker.at → why ≡ stop.End 0 → ⊥)
-      → (after : List ℕ) → Finds (room_after done r.lines) r.rest answer new.line after → IsRefusal input done (checker.lines + 1) (stop_reason_of why)
+  falls_short : (r : ReadTo front input done old left s.due checker.lines) (answer : Progress) (why : Stop) → told_of answer ≡ Some why → (IsEnded checker.at → why ≡ stop.End 0 → ⊥)
+      → (after : List ℕ) → Finds (room_after front done r.lines) r.rest answer new.line after → IsRefusal front input done (checker.lines + 1) (stop_reason_of why)
   falls_short r progress.Line why told more after f = absurd (cc)
   falls_short r progress.ReadFault why told more after f = absurd (cc)
   falls_short r progress.TooLong why told more after f =
       let e : stop.TooLong ≡ why = cc in
-      subst (λ w. IsRefusal input done (checker.lines + 1) (stop_reason_of w)) e
+      subst (λ w. IsRefusal front input done (checker.lines + 1) (stop_reason_of w)) e
       (NoLine r.lines r.rest s.due r.read (LineTooLong f.0 refl) (no_end r (let m = f.0.more in omega arith)) (let n = r.number in omega arith))
   falls_short r progress.TooMuch why told more after f =
       let e : stop.TooMuch ≡ why = cc in
-      subst (λ w. IsRefusal input done (checker.lines + 1) (stop_reason_of w)) e
+      subst (λ w. IsRefusal front input done (checker.lines + 1) (stop_reason_of w)) e
       (NoLine r.lines r.rest s.due r.read (InputTooLong f.0 refl) (no_end r (let m = f.0.more in omega arith)) (let n = r.number in omega arith))
   falls_short r (progress.End (suc partial)) why told more after f =
       let e : stop.End (suc partial) ≡ why = cc in
-      subst (λ w. IsRefusal input done (checker.lines + 1) (stop_reason_of w)) e
+      subst (λ w. IsRefusal front input done (checker.lines + 1) (stop_reason_of w)) e
       (NoLine r.lines r.rest s.due r.read (Stops (suc partial) f.0 refl) (no_end r (let m = f.0.count in omega arith)) (let n = r.number in omega arith))
   falls_short r (progress.End zero) why told more after f =
       let e : stop.End 0 ≡ why = cc in
-      subst (λ w. IsRefusal input done (checker.lines + 1) (stop_reason_of w)) e
+      subst (λ w. IsRefusal front input done (checker.lines + 1) (stop_reason_of w)) e
       (NoLine r.lines r.rest s.due r.read (Stops 0 f.0 refl) (λ x. more (not_over r x) (sym e)) (let n = r.number in omega arith))
 
   stops_so : (answer : Progress) (outcome : Outcome) (after : Checked) → Advances old left answer new later → answer ≢ progress.Line → IsOutcomeAtStop checker answer after outcome
-      → IsOutcome input done new later after outcome
+      → IsOutcome front input done new later after outcome
   stops_so answer outcome after a stopped (Over end ended same is) =
-      let r = s.read input done b in
-      let f = found input done old new left later answer s.due checker.lines s.going.limit r a in
-      subst (IsOutcome input done new later after) (sym is)
-      (accepts r ended (let g = subst (λ x. Finds (room_after done r.lines) r.rest x new.line f.0) end f.2 in g.0))
+      let r = s.read front input done b in
+      let f = found front input done old new left later answer s.due checker.lines s.going.limit r a in
+      subst (IsOutcome front input done new later after) (sym is)
+      (accepts r ended (let g = subst (λ x. Finds (room_after front done r.lines) r.rest x new.line f.0) end f.2 in g.0))
   stops_so answer outcome after a stopped (Short why told more refused is) =
-      let r = s.read input done b in
-      let f = found input done old new left later answer s.due checker.lines s.going.limit r a in
-      subst (IsOutcome input done new later after) (sym is) (falls_short r answer why told more f.0 f.2)
+      let r = s.read front input done b in
+      let f = found front input done old new left later answer s.due checker.lines s.going.limit r a in
+      subst (IsOutcome front input done new later after) (sym is) (falls_short r answer why told more f.0 f.2)
   stops_so answer outcome after a stopped (Fault told same is) =
-      let r = s.read input done b in
-      let f = found input done old new left later answer s.due checker.lines s.going.limit r a in
+      let r = s.read front input done b in
+      let f = found front input done old new left later answer s.due checker.lines s.going.limit r a in
       let e = is_fault answer stopped told in
-      let g = subst (λ x. Finds (room_after done r.lines) r.rest x new.line f.0) e f.2 in
-      subst (IsOutcome input done new later after) (sym is) (record {
+      let g = subst (λ x. Finds (room_after front done r.lines) r.rest x new.line f.0) e f.2 in
+      subst (IsOutcome front input done new later after) (sym is) (record {
         lines = r.lines;
         rest = r.rest;
         due = s.due;
         is = f.1 ∙ ap Some g;
         read = r.read;
-        front = subst (λ room. IsPartial room new.held (length new.held)) (let h = r.handed in let l = s.going.limit in omega arith) (a.fault e);
+        part = subst (λ room. IsPartial room new.held (length new.held)) (let h = r.handed in let l = s.going.limit in omega arith) (a.fault e);
       })
 
 pub stops : (first : Reader) (left0 : Option (List ℕ)) (start : Checked) (old new : Reader) (left later : Option (List ℕ)) (checker after : Checked) (answer : Progress) (outcome : Outcome)
     → ((lines : List Words) → Reaches Form lines Form → lines ≡ [])
     → IsSoFar first left0 start old left checker → Advances old left answer new later → answer ≢ progress.Line → IsOutcomeAtStop checker answer after outcome
-    → (input : List ℕ) (done : List Dossier) → IsBetween input done first left0 start.lines → IsOutcome input done new later after outcome
-stops first left0 start old new left later checker after answer outcome law s a stopped is input done b =
-    stops_so first left0 start old new left later checker law s input done b answer outcome after a stopped is
+    → (front : Front) (input : List ℕ) (done : List Dossier) → IsBetween front input done first left0 start → IsOutcome front input done new later after outcome
+stops first left0 start old new left later checker after answer outcome law s a stopped is front input done b =
+    stops_so first left0 start old new left later checker law s front input done b answer outcome after a stopped is
 
 pub ends_whole : (first : Reader) (left0 : Option (List ℕ)) (start : Checked) (old new : Reader) (left later : Option (List ℕ)) (checker next : Checked) (said : Said) (verdict : Verdict)
     → ((lines : List (List ℕ)) (d : Dossier) → Ended Form (map words_of lines) d → IsTrueYes d × (text_of d ≡ text_of_lines lines) × (lines_of d ≡ map words_of lines))
     → (s : IsSoFar first left0 start old left checker) → Advances old left progress.Line new later → IsJudged checker.lines s.due (words_of new.line) said next → said ≡ Whole verdict
-    → (input : List ℕ) (done : List Dossier) → IsBetween input done first left0 start.lines → IsNextDossier input done verdict new later next
-ends_whole first left0 start old new left later checker next said verdict law s a j is input done b =
+    → (front : Front) (input : List ℕ) (done : List Dossier) → IsBetween front input done first left0 start → IsNextDossier front input done verdict new later next
+ends_whole first left0 start old new left later checker next said verdict law s a j is front input done b =
     let g = whole checker.lines said next.at s.due (words_of new.line) verdict j.answer j.is j.says j.stands is in
     let d = g.0 in
-    let r = s.read input done b in
+    let r = s.read front input done b in
     let lines = r.lines ++ new.line ∷ [] in
-    let f = found input done old new left later progress.Line s.due checker.lines s.going.limit r a in
+    let f = found front input done old new left later progress.Line s.due checker.lines s.going.limit r a in
     let read : Ended Form (map words_of lines) d = subst (λ ws. Ended Form ws d) (sym (words_more r.lines new.line))
     (ends Form (map words_of r.lines) (words_of new.line) s.due d r.read.leads g.1) in
     let good = law lines d read in
-    let texts : flat_map text_of (done ++ d ∷ []) ≡ text_before done lines = flat_map-append text_of done (d ∷ []) ∙ ap (λ x. flat_map text_of done ++ x) (append-nil (text_of d) ∙ good.1) in
+    let texts : text_before front (done ++ d ∷ []) [] ≡ text_before front done lines = ap (λ x. front.text ++ x) (append-nil (flat_map text_of (done ++ d ∷ []))
+    ∙ flat_map-append text_of done (d ∷ []) ∙ ap (λ x. flat_map text_of done ++ x) (append-nil (text_of d) ∙ good.1)) in
+    let handed : new.handed ≡ length (text_before front (done ++ d ∷ []) []) = handed_more front done r.lines new.line old.handed new.handed a.handed r.handed ∙ ap length (sym texts) in
     record {
       dossier = d;
       whole = g.3;
@@ -350,14 +356,13 @@ ends_whole first left0 start old new left later checker next said verdict law s 
         rest = f.0;
         is = f.1;
         read = record {
-          text = text_more input done r.lines new.line r.rest f.0 r.read.text f.2.parts ∙ ap (λ x. x ++ f.0) (sym texts ∙ sym (append-nil (flat_map text_of (done ++ d ∷ []))));
-          within = (let h = handed_more done r.lines new.line old.handed new.handed a.handed r.handed ∙ ap length (sym texts ∙ sym (append-nil (flat_map text_of (done ++ d ∷ [])))) in
-              let w = a.within in let l = a.limit in let m = s.going.limit in omega arith);
+          text = text_more front input done r.lines new.line r.rest f.0 r.read.text f.2.parts ∙ ap (λ x. x ++ f.0) (sym texts);
+          within = (let w = a.within in let l = a.limit in let m = s.going.limit in omega arith);
           good = All-push IsGood done d r.read.good good.0.good;
           each = All-nil IsLine;
           leads = refl;
         };
-        handed = handed_more done r.lines new.line old.handed new.handed a.handed r.handed ∙ ap length (sym texts);
+        handed = handed;
         number = (let n = r.number in
             let e = ap length (flat_map-append lines_of done (d ∷ [])) in
             let g1 = length-append (flat_map lines_of done) (flat_map lines_of (d ∷ [])) in
@@ -366,6 +371,7 @@ ends_whole first left0 start old new left later checker next said verdict law s 
             let jj = length-map lines words_of in
             let c = j.count in
             let k = length-append r.lines (new.line ∷ []) in omega arith);
+        ended = ((λ _ none. absurd (let n = ap length none in let m = length-append done (d ∷ []) in omega (arith, n, m))), (λ _. (d, g.3)));
       };
     }
 
@@ -378,7 +384,7 @@ opens_next law first left0 start old new left later checker next said verdict s 
     let count = j.count in (
       record {
         going = opens old new left later checker.lines next.lines s.going a count;
-        first = AtFirst (omega (arith, count)) (g.0, g.3);
+        first = AtFirst (g.0, g.3);
       },
       (let x = s.grows in let h = a.handed in let n = length-append new.line (10 ∷ []) in let b = s.begun in omega arith),
       record { dossier = g.0; whole = g.3; says = g.2; true_yes = law s.due (words_of new.line) g.0 s.reached g.1 },

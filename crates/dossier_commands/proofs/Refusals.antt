@@ -13,9 +13,8 @@ use Rattle.dossier_terms.specs.Dossier.{Dossier, IsGood}
 use Rattle.dossier_terms.specs.Lines.{lines_of, text_of}
 use Rattle.dossier_terms.specs.Reading.{Reading, Answer, More, Whole, No, Form}
 use Rattle.dossier_terms.specs.Table.{Says, Reaches, Ended}
-use Rattle.dossier_terms.specs.Accepted.{IsAccepted}
 use Rattle.text_laws.specs.Texts.{IsFront, AreLine, HasMore}
-use Rattle.dossier_commands.specs.Input.{IsRefusal, BadLine, NoLine, HasRead, IsStop, Stops, LineTooLong, InputTooLong, IsEnd, text_of_lines, text_before, lines_before, room_after}
+use Rattle.dossier_commands.specs.Input.{Front, no_front, IsAcceptedBehind, IsRefusal, BadLine, NoLine, HasRead, IsStop, Stops, LineTooLong, InputTooLong, IsEnd, text_of_lines, text_before, lines_before, room_after}
 
 -- one line more
 pub leads_on : (s : Reading) (lines : List Words) (ws : Words) (t u : Reading) → Reaches s lines t → Says t ws (More u) → Reaches s (lines ++ ws ∷ []) u
@@ -100,24 +99,24 @@ one_stop room rest reason cause (InputTooLong a e) (LineTooLong b f) = absurd (l
 one_stop room rest reason cause (InputTooLong a e) (InputTooLong b f) = e ∙ sym f
 
 -- what is refused behind these lines: the next one, or that none comes whole
-data Stands (done : List Dossier) (lines : List (List ℕ)) (rest : List ℕ) (due : Reading) (reason : Reason) : Type 0 where
-  AtLine : (line after : List ℕ) (parts : rest ≡ with_feed line ++ after) (plain : IsLine line) (fits : length line < room_after done lines)
-      (answer : Says due (words_of line) (No reason)) → Stands done lines rest due reason
-  AtStop : (stop : IsStop (room_after done lines) rest reason) (more : IsEnd done lines rest → ⊥) → Stands done lines rest due reason
+data Stands (front : Front) (done : List Dossier) (lines : List (List ℕ)) (rest : List ℕ) (due : Reading) (reason : Reason) : Type 0 where
+  AtLine : (line after : List ℕ) (parts : rest ≡ with_feed line ++ after) (plain : IsLine line) (fits : length line < room_after front done lines)
+      (answer : Says due (words_of line) (No reason)) → Stands front done lines rest due reason
+  AtStop : (stop : IsStop (room_after front done lines) rest reason) (more : IsEnd done lines rest → ⊥) → Stands front done lines rest due reason
 
 -- where an input is refused
-record IsPlace (input : List ℕ) (done : List Dossier) (number : ℕ) (reason : Reason) : Type 0 where
+record IsPlace (front : Front) (input : List ℕ) (done : List Dossier) (number : ℕ) (reason : Reason) : Type 0 where
   lines : List (List ℕ)
   rest : List ℕ
   due : Reading
-  read : HasRead input done lines rest due
-  stands : Stands done lines rest due reason
-  is : number ≡ suc (lines_before done lines)
+  read : HasRead front input done lines rest due
+  stands : Stands front done lines rest due reason
+  is : number ≡ suc (lines_before front done lines)
 
-place_of : (input : List ℕ) (done : List Dossier) (number : ℕ) (reason : Reason) → IsRefusal input done number reason → IsPlace input done number reason
-place_of input done number reason (BadLine lines line after due read plain fits answer is) =
+place_of : (front : Front) (input : List ℕ) (done : List Dossier) (number : ℕ) (reason : Reason) → IsRefusal front input done number reason → IsPlace front input done number reason
+place_of front input done number reason (BadLine lines line after due read plain fits answer is) =
     record { lines = lines; rest = with_feed line ++ after; due = due; read = read; stands = AtLine line after refl plain fits answer; is = is }
-place_of input done number reason (NoLine lines rest due read stop more is) =
+place_of front input done number reason (NoLine lines rest due read stop more is) =
     record { lines = lines; rest = rest; due = due; read = read; stands = AtStop stop more; is = is }
 
 -- a reading that goes on where another stands does so within the same dossier, or beyond it
@@ -144,16 +143,22 @@ both_none (x ∷ xs) ys e = absurd (cc)
 abbrev lines_read : List Dossier → List (List ℕ) → List (List ℕ)
 lines_read done lines = map line_of (flat_map lines_of done) ++ lines
 
+-- behind the front
+behind_front : (front : Front) (input : List ℕ) (done : List Dossier) (lines : List (List ℕ)) (rest : List ℕ) → input ≡ text_before front done lines ++ rest
+    → input ≡ front.text ++ (text_before no_front done lines ++ rest)
+behind_front front input done lines rest text = text ∙ append_assoc front.text (text_before no_front done lines) rest
+
 -- the laws of the table and of texts
 module _
     (one : (lines : List Words) (s : Reading) (ws : Words) (a b : Answer) → Reaches Form lines s → Says s ws a → Says s ws b → a ≡ b)
     (is_read : (d : Dossier) → IsGood d → Ended Form (lines_of d) d)
-    (front : (ds : List Dossier) (lines : List (List ℕ)) (rest : List ℕ) → All IsGood ds → All IsLine lines
+    (read_front : (ds : List Dossier) (lines : List (List ℕ)) (rest : List ℕ) → All IsGood ds → All IsLine lines
     → flat_map text_of ds ≡ flat_map with_feed lines ++ rest → IsFront (flat_map lines_of ds) lines rest)
     (good : (d : Dossier) → IsGood d → All AreLine (lines_of d))
     (cut : (words : Words) → words ≢ [] → All (All (λ b. b ≢ 32)) words → words_of (line_of words) ≡ words)
     (texts : (ds : List Dossier) (lines : List (List ℕ)) → flat_map lines_of ds ≡ map words_of lines → flat_map text_of ds ≡ flat_map with_feed lines)
-    (first : (d e : Dossier) (more : List Words) → IsGood d → IsGood e → lines_of e ≡ lines_of d ++ more → (more ≡ []) × (d ≡ e)) where
+    (first : (d e : Dossier) (more : List Words) → IsGood d → IsGood e → lines_of e ≡ lines_of d ++ more → (more ≡ []) × (d ≡ e))
+    (front : Front) where
   -- what is is_read after lines that lead on is is_read from where they lead
   ended_from : (before : List Words) (s : Reading) (lines more : List Words) (t : Reading) (d : Dossier)
       → Reaches Form before s → Reaches s lines t → Ended s (lines ++ more) d → Ended t more d
@@ -214,7 +219,7 @@ module _
   are_lines done lines g each = All-append IsLine (map line_of (flat_map lines_of done)) lines
       (All-map IsLine line_of (flat_map lines_of done) (λ i y b. (good_all done g i y b).line)) each
 
-  text_read : (done : List Dossier) (lines : List (List ℕ)) → All IsGood done → text_before done lines ≡ flat_map with_feed (lines_read done lines)
+  text_read : (done : List Dossier) (lines : List (List ℕ)) → All IsGood done → text_before no_front done lines ≡ flat_map with_feed (lines_read done lines)
   text_read done lines g = let bytes = map line_of (flat_map lines_of done) in
       ap (λ x. x ++ text_of_lines lines) (texts done bytes (sym (cut_all (flat_map lines_of done) (good_all done g)))) ∙ sym (flat_map-append with_feed bytes lines)
 
@@ -235,10 +240,10 @@ module _
   front_each all lines more h e = all_behind IsLine lines more (subst (All IsLine) e (All-map IsLine line_of all (λ i y b. (h i y b).line)))
 
   tail_of : (done es : List Dossier) (lines : List (List ℕ)) (rest : List ℕ) → All IsGood done → All IsGood es → All IsLine lines
-      → flat_map text_of es ≡ text_before done lines ++ rest → IsTail done es lines rest
+      → flat_map text_of es ≡ text_before no_front done lines ++ rest → IsTail done es lines rest
   tail_of done es lines rest gd ge each text =
       let read = lines_read done lines in
-      let f = front es read rest ge (are_lines done lines gd each) (text ∙ ap (λ x. x ++ rest) (text_read done lines gd)) in
+      let f = read_front es read rest ge (are_lines done lines gd each) (text ∙ ap (λ x. x ++ rest) (text_read done lines gd)) in
       let words : flat_map lines_of es ≡ flat_map lines_of done ++ (map words_of lines ++ map words_of f.more) =
       f.words ∙ ap (λ x. x ++ map words_of f.more) (words_read done lines gd) ∙ append_assoc (flat_map lines_of done) (map words_of lines) (map words_of f.more) in
       let s = split_off done es (map words_of lines ++ map words_of f.more) gd ge words in
@@ -313,26 +318,26 @@ module _
 
   -- a line that is taken is not where an input is refused
   not_taken : (done : List Dossier) (lines : List (List ℕ)) (rest : List ℕ) (due : Reading) (reason : Reason) (line after : List ℕ) → Reaches Form (map words_of lines) due
-      → Stands done lines rest due reason → rest ≡ with_feed line ++ after → IsLine line → length line < room_after done lines → IsTaken due (words_of line) → ⊥
+      → Stands front done lines rest due reason → rest ≡ with_feed line ++ after → IsLine line → length line < room_after front done lines → IsTaken due (words_of line) → ⊥
   not_taken done lines rest due reason line after leads (AtLine bad behind parts plain fits answer) text whole room t =
       let is : bad ≡ line = same_line bad line behind after plain.whole whole.whole (sym parts ∙ text) in
       t.taken reason (one (map words_of lines) due (words_of line) t.said (No reason) leads t.answer
       (subst (λ x. Says due (words_of x) (No reason)) is answer))
-  not_taken done lines rest due reason line after leads (AtStop stop more) text whole room t = whole_line (room_after done lines) rest reason line after stop whole room text
+  not_taken done lines rest due reason line after leads (AtStop stop more) text whole room t = whole_line (room_after front done lines) rest reason line after stop whole room text
 
   one_stand : (done : List Dossier) (lines : List (List ℕ)) (rest : List ℕ) (due : Reading) (reason cause : Reason) → Reaches Form (map words_of lines) due
-      → Stands done lines rest due reason → Stands done lines rest due cause → reason ≡ cause
+      → Stands front done lines rest due reason → Stands front done lines rest due cause → reason ≡ cause
   one_stand done lines rest due reason cause leads (AtLine a x e p f n) (AtLine b y g q h m) =
       let is : a ≡ b = same_line a b x y p.whole q.whole (sym e ∙ g) in
       let both : No reason ≡ No cause = one (map words_of lines) due (words_of b) (No reason) (No cause) leads
       (subst (λ z. Says due (words_of z) (No reason)) is n) m in
       cc
-  one_stand done lines rest due reason cause leads (AtLine a x e p f n) (AtStop stop more) = absurd (whole_line (room_after done lines) rest cause a x stop p f e)
-  one_stand done lines rest due reason cause leads (AtStop stop more) (AtLine a x e p f n) = absurd (whole_line (room_after done lines) rest reason a x stop p f e)
-  one_stand done lines rest due reason cause leads (AtStop a c) (AtStop b d) = one_stop (room_after done lines) rest reason cause a b
+  one_stand done lines rest due reason cause leads (AtLine a x e p f n) (AtStop stop more) = absurd (whole_line (room_after front done lines) rest cause a x stop p f e)
+  one_stand done lines rest due reason cause leads (AtStop stop more) (AtLine a x e p f n) = absurd (whole_line (room_after front done lines) rest reason a x stop p f e)
+  one_stand done lines rest due reason cause leads (AtStop a c) (AtStop b d) = one_stop (room_after front done lines) rest reason cause a b
 
   -- of two refusals the one that has read no less stands at the same place
-  not_ahead : (input : List ℕ) (done others : List Dossier) (number other : ℕ) (reason cause : Reason) (a : IsPlace input done number reason) (b : IsPlace input others other cause)
+  not_ahead : (input : List ℕ) (done others : List Dossier) (number other : ℕ) (reason cause : Reason) (a : IsPlace front input done number reason) (b : IsPlace front input others other cause)
       (more : List (List ℕ)) → lines_read others b.lines ≡ lines_read done a.lines ++ more → a.rest ≡ flat_map with_feed more ++ b.rest
       → (done ≡ others) × (number ≡ other) × (reason ≡ cause)
   not_ahead input done others number other reason cause a b more e text = at more e text (goes_on done others (map words_of a.lines) (map words_of b.lines) (map words_of more) b.due
@@ -342,7 +347,7 @@ module _
       words = sym (words_read others b.lines b.read.good) ∙ ap (map words_of) e ∙ map-append words_of (lines_read done a.lines) more
           ∙ ap (λ y. y ++ map words_of more) (words_read done a.lines a.read.good)
 
-      room : (x : List ℕ) (xs : List (List ℕ)) → lines_read others b.lines ≡ lines_read done a.lines ++ x ∷ xs → length x < room_after done a.lines
+      room : (x : List ℕ) (xs : List (List ℕ)) → lines_read others b.lines ≡ lines_read done a.lines ++ x ∷ xs → length x < room_after front done a.lines
       room x xs e =
           let f = ap length (text_read others b.lines b.read.good ∙ ap (flat_map with_feed) e ∙ flat_map-append with_feed (lines_read done a.lines) (x ∷ xs)) in
           let g = length-append (flat_map with_feed (lines_read done a.lines)) (flat_map with_feed (x ∷ xs)) in
@@ -350,14 +355,16 @@ module _
           let i = length-append x (10 ∷ []) in
           let j = ap length (text_read done a.lines a.read.good) in
           let k = b.read.within in
+          let l = length-append front.text (text_before no_front others b.lines) in
+          let m = length-append front.text (text_before no_front done a.lines) in
           omega arith
 
       same : done ≡ others → a.lines ≡ b.lines → a.rest ≡ b.rest → a.due ≡ b.due → (done ≡ others) × (number ≡ other) × (reason ≡ cause)
       same p q r s =
-          let stands : Stands done a.lines a.rest a.due cause = subst (λ z. Stands done a.lines a.rest z cause) (sym s)
-          (subst (λ z. Stands done a.lines z b.due cause) (sym r) (subst (λ z. Stands done z b.rest b.due cause) (sym q) (subst (λ z. Stands z b.lines b.rest b.due cause) (sym p) b.stands))) in (
+          let stands : Stands front done a.lines a.rest a.due cause = subst (λ z. Stands front done a.lines a.rest z cause) (sym s)
+          (subst (λ z. Stands front done a.lines z b.due cause) (sym r) (subst (λ z. Stands front done z b.rest b.due cause) (sym q) (subst (λ z. Stands front z b.lines b.rest b.due cause) (sym p) b.stands))) in (
             p,
-            a.is ∙ ap (λ z. suc (lines_before z a.lines)) p ∙ ap (λ z. suc (lines_before others z)) q ∙ sym b.is,
+            a.is ∙ ap (λ z. suc (lines_before front z a.lines)) p ∙ ap (λ z. suc (lines_before front others z)) q ∙ sym b.is,
             one_stand done a.lines a.rest a.due reason cause a.read.leads a.stands stands,
           )
 
@@ -378,12 +385,15 @@ module _
   pub one_refusal : ((xs ys : List (List ℕ)) (a b : List ℕ) → All IsLine xs → All IsLine ys → flat_map with_feed xs ++ a ≡ flat_map with_feed ys ++ b
       → HasMore xs ys a b ⊎ HasMore ys xs b a)
       → (input : List ℕ) (done others : List Dossier) (number other : ℕ) (reason cause : Reason)
-      → IsRefusal input done number reason → IsRefusal input others other cause → (done ≡ others) × (number ≡ other) × (reason ≡ cause)
+      → IsRefusal front input done number reason → IsRefusal front input others other cause → (done ≡ others) × (number ≡ other) × (reason ≡ cause)
   one_refusal either input done others number other reason cause r s =
-      let a = place_of input done number reason r in
-      let b = place_of input others other cause s in
+      let a = place_of front input done number reason r in
+      let b = place_of front input others other cause s in
+      let same : text_before no_front done a.lines ++ a.rest ≡ text_before no_front others b.lines ++ b.rest =
+      cancel front.text (text_before no_front done a.lines ++ a.rest) (text_before no_front others b.lines ++ b.rest)
+      (sym (behind_front front input done a.lines a.rest a.read.text) ∙ behind_front front input others b.lines b.rest b.read.text) in
       let text : flat_map with_feed (lines_read done a.lines) ++ a.rest ≡ flat_map with_feed (lines_read others b.lines) ++ b.rest =
-      ap (λ z. z ++ a.rest) (sym (text_read done a.lines a.read.good)) ∙ sym a.read.text ∙ b.read.text ∙ ap (λ z. z ++ b.rest) (text_read others b.lines b.read.good) in
+      ap (λ z. z ++ a.rest) (sym (text_read done a.lines a.read.good)) ∙ same ∙ ap (λ z. z ++ b.rest) (text_read others b.lines b.read.good) in
       elim (either (lines_read done a.lines) (lines_read others b.lines) a.rest b.rest
       (are_lines done a.lines a.read.good a.read.each) (are_lines others b.lines b.read.good b.read.each) text) [
         | inl m ↦ (let t = not_ahead input others done other number cause reason b a m.more m.lines m.text in (sym t.0, sym t.1, sym t.2))
@@ -391,16 +401,17 @@ module _
       ]
 
   pub refused_is_not_accepted : (input : List ℕ) (done : List Dossier) (number : ℕ) (reason : Reason) (es : List Dossier)
-      → IsRefusal input done number reason → IsAccepted input es → ⊥
+      → IsRefusal front input done number reason → IsAcceptedBehind front input es → ⊥
   refused_is_not_accepted input done number reason es refusal h = at t.others refl
     where
-      a : IsPlace input done number reason
-      a = place_of input done number reason refusal
+      a : IsPlace front input done number reason
+      a = place_of front input done number reason refusal
 
       t : IsTail done es a.lines a.rest
-      t = tail_of done es a.lines a.rest a.read.good h.good a.read.each (sym h.text ∙ a.read.text)
+      t = tail_of done es a.lines a.rest a.read.good h.accepted.good a.read.each (sym h.accepted.text
+          ∙ cancel front.text h.behind (text_before no_front done a.lines ++ a.rest) (sym h.text ∙ behind_front front input done a.lines a.rest a.read.text))
 
-      nothing : Stands done a.lines a.rest a.due reason → t.others ≡ [] → ⊥
+      nothing : Stands front done a.lines a.rest a.due reason → t.others ≡ [] → ⊥
       nothing (AtLine line after parts plain fits answer) e =
           let none = both_none (map words_of a.lines) (map words_of t.more) (t.words ∙ ap (flat_map lines_of) e) in
           let empty : with_feed line ++ after ≡ [] = sym parts ∙ t.text ∙ ap (flat_map with_feed) (no_words t.more none.1) in
@@ -408,16 +419,16 @@ module _
       nothing (AtStop stop more) e =
           let none = both_none (map words_of a.lines) (map words_of t.more) (t.words ∙ ap (flat_map lines_of) e) in
           more (record {
-            some = λ x. h.some (t.all ∙ ap (λ y. done ++ y) e ∙ append-nil done ∙ x);
+            some = λ x. h.accepted.some (t.all ∙ ap (λ y. done ++ y) e ∙ append-nil done ∙ x);
             between = no_words a.lines none.0;
             none = t.text ∙ ap (flat_map with_feed) (no_words t.more none.1);
           })
 
-      room : (x : List ℕ) (xs : List (List ℕ)) → a.rest ≡ flat_map with_feed (x ∷ xs) → length x < room_after done a.lines
+      room : (x : List ℕ) (xs : List (List ℕ)) → a.rest ≡ flat_map with_feed (x ∷ xs) → length x < room_after front done a.lines
       room x xs is =
-          let e = h.size in
+          let e = h.within in
           let f = ap length a.read.text in
-          let g = length-append (text_before done a.lines) a.rest in
+          let g = length-append (text_before front done a.lines) a.rest in
           let i = ap length is in
           let j = length-append (with_feed x) (flat_map with_feed xs) in
           let k = length-append x (10 ∷ []) in
@@ -439,4 +450,4 @@ module _
       at [] e = nothing a.stands e
       at (d ∷ ds) e =
           let all = t.all ∙ ap (λ x. done ++ x) e in
-          something d ds e (those_behind done (d ∷ ds) es IsGood all h.good 0 d (omega arith)) t.more refl
+          something d ds e (those_behind done (d ∷ ds) es IsGood all h.accepted.good 0 d (omega arith)) t.more refl

@@ -14,7 +14,7 @@ use Rattle.dossier_terms.specs.Texts.{no_line}
 use Rattle.dossier_terms.specs.Reading.{Reading, Form}
 use Rattle.dossier_terms.specs.Accepted.{IsAccepted}
 use Rattle.cert_checker.specs.Checked.{IsTrueYes}
-use Rattle.dossier_commands.specs.Input.{IsRefusal, HasRead, room_after}
+use Rattle.dossier_commands.specs.Input.{IsRefusal, HasRead, room_after, no_front}
 use Rattle.dossier_commands.specs.declared.read.Ended.{Ended}
 use Rattle.dossier_commands.specs.declared.read.Ended.TheVariants.{Done, No, ReadFault, WriteFault}
 
@@ -32,23 +32,23 @@ pub record SaysNo (text : Dossier → List ℕ) (input written : List ℕ) : Typ
   pub before : List Dossier
   pub number : ℕ
   pub reason : Reason
-  pub refusal : IsRefusal input before number reason
+  pub refusal : IsRefusal no_front input before number reason
   pub texts : written ≡ flat_map text before ++ no_line number reason
   pub each : All IsTrueYes before
 
 -- what stands behind whole texts: nothing, or a front of the text or of the no line that is due there
 pub data IsTextFront (text : Dossier → List ℕ) (input : List ℕ) (dossiers : List Dossier) (part : List ℕ) : Type 0 where
   Nothing : (is : part ≡ []) → IsTextFront text input dossiers part
-  GoodFront : (d : Dossier) (rest : List ℕ) (read : HasRead input (dossiers ++ d ∷ []) [] rest Form) (true_yes : IsTrueYes d)
+  GoodFront : (d : Dossier) (rest : List ℕ) (read : HasRead no_front input (dossiers ++ d ∷ []) [] rest Form) (true_yes : IsTrueYes d)
       (n : ℕ) (is : part ≡ take n (text d)) → IsTextFront text input dossiers part
-  NoFront : (number : ℕ) (reason : Reason) (refusal : IsRefusal input dossiers number reason)
+  NoFront : (number : ℕ) (reason : Reason) (refusal : IsRefusal no_front input dossiers number reason)
       (n : ℕ) (is : part ≡ take n (no_line number reason)) → IsTextFront text input dossiers part
 
 -- the texts of dossiers with which the input begins were written, each of which is true, and a front of one more
 pub record SaysFront (text : Dossier → List ℕ) (input written : List ℕ) : Type 0 where
   pub dossiers : List Dossier
   pub rest : List ℕ
-  pub read : HasRead input dossiers [] rest Form
+  pub read : HasRead no_front input dossiers [] rest Form
   pub each : All IsTrueYes dossiers
   pub part : List ℕ
   pub texts : written ≡ flat_map text dossiers ++ part
@@ -63,8 +63,8 @@ pub record SaysReadFault (text : Dossier → List ℕ) (unseen : Option (List �
   pub part : List ℕ
   pub rest : List ℕ
   pub left : unseen ≡ Some rest
-  pub read : HasRead input dossiers lines (part ++ rest) due
-  pub front : IsPartial (room_after dossiers lines) part (length part)
+  pub read : HasRead no_front input dossiers lines (part ++ rest) due
+  pub front : IsPartial (room_after no_front dossiers lines) part (length part)
   pub texts : written ≡ flat_map text dossiers
   pub each : All IsTrueYes dossiers
 
@@ -72,7 +72,7 @@ pub record SaysReadFault (text : Dossier → List ℕ) (unseen : Option (List �
 pub record SaysTexts (text : Dossier → List ℕ) (input written : List ℕ) : Type 0 where
   pub dossiers : List Dossier
   pub rest : List ℕ
-  pub read : HasRead input dossiers [] rest Form
+  pub read : HasRead no_front input dossiers [] rest Form
   pub texts : written ≡ flat_map text dossiers
   pub each : All IsTrueYes dossiers
 

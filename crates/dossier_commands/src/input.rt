@@ -5,7 +5,7 @@ ghost use Rattle.crew_io.specs.Io.{HasEnded};
 ghost use Rattle.dossier_terms.specs.Dossier.{Dossier};
 ghost use Rattle.cert_checker.specs.Checked.{IsOpen as IsDue};
 ghost use Rattle.cert_checker.specs.declared.checker.State.TheVariants as state;
-ghost use Rattle.dossier_commands.specs.Input.{IsBetween, CanGoOn, IsOutcome, IsOutcomeAtStop, OpensNext, told_of};
+ghost use Rattle.dossier_commands.specs.Input.{Front, IsBetween, CanGoOn, IsOutcome, IsOutcomeAtStop, OpensNext, told_of};
 
 use crate::laws::{first_line_is_first, whole_is_true};
 use cert_checker::{Checker, Said, Stop, Verdict, laws};
@@ -61,10 +61,11 @@ pub fn next_dossier<S: Source>(
     src: &mut S,
 ) -> Result<Outcome, AllocError>
     requires { CanGoOn reader.old checker.old }
-    // What it tells of an input that begins with these dossiers is so.
-    ensures outcome { IfOk result (λ outcome. (input : List ℕ) (done : List Dossier)
-        → IsBetween input done reader.old (S.left src.old) checker.old.lines
-        → IsOutcome input done reader.new (S.left src.new) checker.new outcome) }
+    // What it tells of an input that begins with this front and these dossiers is so.
+    ensures outcome { IfOk result (λ outcome.
+        (front : Front) (input : List ℕ) (done : List Dossier)
+        → IsBetween front input done reader.old (S.left src.old) checker.old
+        → IsOutcome front input done reader.new (S.left src.new) checker.new outcome) }
 
     // After a yes the checker has a good dossier, with a legal plan and a bound that no legal plan goes below.
     ensures next { IfOk result (OpensNext reader.old reader.new checker.new) }

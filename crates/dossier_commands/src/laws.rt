@@ -5,10 +5,9 @@ ghost use Rattle.dossier_terms.specs.declared.Reason.{Reason};
 ghost use Rattle.dossier_terms.specs.Dossier.{Dossier};
 ghost use Rattle.dossier_terms.specs.Lines.{lines_of, text_of};
 ghost use Rattle.dossier_terms.specs.Reading.{Form};
-ghost use Rattle.dossier_terms.specs.Accepted.{IsAccepted};
 ghost use Rattle.dossier_terms.specs.Table.{Ended, Reaches};
 ghost use Rattle.cert_checker.specs.Checked.{IsTrueYes};
-ghost use Rattle.dossier_commands.specs.Input.{IsRefusal, text_of_lines};
+ghost use Rattle.dossier_commands.specs.Input.{Front, IsAcceptedBehind, IsRefusal, text_of_lines};
 
 use cause_laws::loose_splits_stay_open;
 use dossier_laws::{
@@ -16,11 +15,11 @@ use dossier_laws::{
 };
 use text_laws::{good_lines, lines_in_text, read_front, words_of_line};
 
-/// An input with a line that is refused is accepted as no list of dossiers.
+/// An input with a line that is refused is accepted as no list of dossiers behind the same front.
 pub fn refused_is_not_accepted()
-    ensures { (input : List ℕ) (done : List Dossier) (number : ℕ) (reason : Reason)
-        (dossiers : List Dossier)
-        → IsRefusal input done number reason → IsAccepted input dossiers → ⊥ }
+    ensures { (front : Front) (input : List ℕ) (done : List Dossier) (number : ℕ)
+        (reason : Reason) (dossiers : List Dossier)
+        → IsRefusal front input done number reason → IsAcceptedBehind front input dossiers → ⊥ }
 {
     read_front();
     good_lines();
@@ -31,11 +30,11 @@ pub fn refused_is_not_accepted()
     says_one_thing();
 }
 
-/// An input is refused at one line, behind one list of dossiers, for one reason.
+/// An input is refused at one line, behind a front and one list of dossiers, for one reason.
 pub fn one_refusal()
-    ensures { (input : List ℕ) (done others : List Dossier) (number other : ℕ)
+    ensures { (front : Front) (input : List ℕ) (done others : List Dossier) (number other : ℕ)
         (reason cause : Reason)
-        → IsRefusal input done number reason → IsRefusal input others other cause
+        → IsRefusal front input done number reason → IsRefusal front input others other cause
         → (done ≡ others) × (number ≡ other) × (reason ≡ cause) }
 {
     lines_in_text();

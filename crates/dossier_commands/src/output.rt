@@ -7,4 +7,6 @@ pub enum Output {
     YesLines,
     /// The roster of its plan.
     Rosters,
+    /// What is in the way of each task that its plan leaves open.
+    Why,
 }

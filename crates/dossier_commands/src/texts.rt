@@ -1,4 +1,4 @@
-// The texts that are written: for a good dossier its yes line or its roster, and `no` for the first line that is refused.
+// The texts that are written: for a good dossier its yes line, its roster or why tasks are open, and `no` for the first line that is refused.
 ghost use Rattle.std.specs.Prelude.{◌≡◌, ◌≤◌, length, take};
 ghost use Rattle.crew_io.specs.Puts.{Puts};
 ghost use Rattle.dossier_terms.specs.Dossier.{Dossier};
@@ -15,6 +15,7 @@ use crew_terms::PlanVerdict;
 use dossier_terms::Reason;
 use line_out::{LineRoom, Part, add_bytes, add_count, line_room, put_line, put_word};
 use roster_print::rosters;
+use why_not::why;
 
 /// Writes the yes line of a good dossier, of which the verdict tells what it says, into the room, and gives where it ends.
 // Word by word, so that each is copied as the constant that it is.
@@ -137,5 +138,6 @@ pub fn put_output<K: Sink>(
     match output {
         Output::YesLines => put_yes(out, verdict),
         Output::Rosters => rosters(out, checker.instance(), checker.plan()),
+        Output::Why => why(out, checker.instance(), checker.plan()),
     }
 }

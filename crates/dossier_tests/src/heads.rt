@@ -2,12 +2,12 @@
 ghost use Rattle.head_check.specs.Head.{Holds};
 
 use crate::asserts::{same, same_at};
-use cert_format::Refusal;
 use crew_fixtures::dossiers::{Lines, TWO_TASKS, WITH_FROZEN};
 use crew_fixtures::{Shown, frozen_at, task_at, team_at};
 use dossier_terms::{DossierForm, Reason};
 use field_table::Cuts;
 use head_check::{Base, HeadDue, judge_head};
+use line_in::Refusal;
 use std::alloc::Global;
 use std::mem;
 use std::process::Abort;

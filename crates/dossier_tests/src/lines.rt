@@ -1,8 +1,9 @@
 // Lines that are read: good ones of each kind, and the first fault of others.
 use crate::asserts::{holds_at, same, same_at};
-use cert_format::{Expect, LineFault, LineKind, read_line};
+use cert_format::{Expect, LineKind, read_line};
 use crew_fixtures::Shown;
 use field_table::Cuts;
+use line_in::LineFault;
 use std::process::Abort;
 use std::test::Fail;
 

@@ -1,8 +1,8 @@
 // A small dossier line by line, with a pool, a split and closed leaves, and the ways in which lines end.
 use crate::asserts::same;
 use cert_checker::{Checker, Reason, Said, Stop, Verdict};
-use crew_fixtures::dossiers::{HALF_BARE, WITH_WINDOW};
-use crew_terms::PlanVerdict;
+use crew_fixtures::dossiers::{HALF_BARE, WITH_POOL, WITH_WINDOW};
+use crew_terms::{PlanVerdict, Visit};
 use std::test::Fail;
 
 /// What the dossier with a split and closed leaves says.
@@ -129,6 +129,65 @@ fn is_refused_where_a_line_is_too_long(rt: HostRuntime) -> Result<(), Fail> {
             line: 1,
             reason: Reason::TooLong,
         }),
+    );
+    Ok(())
+}
+
+/// The node budget of a whole dossier, how many routes of its pool are kept, how many it has, and the team of the last one
+/// with its first visit.
+type Pooled = (u32, usize, usize, Option<(u32, Visit)>);
+
+/// What the checker tells of the dossier that is whole.
+fn pooled(checker: &Checker) -> Result<Pooled, Fail> {
+    if !checker.is_between() {
+        return Err(Fail::from("a whole dossier"));
+    }
+    let count = checker.pool_len();
+    if count == 0 {
+        return Ok((checker.nodes(), checker.kept(), count, None));
+    }
+    let (team, visits) = checker.route(count - 1);
+    let last = match visits.first() {
+        Some(visit) => Some((team, *visit)),
+        None => None,
+    };
+    Ok((checker.nodes(), checker.kept(), count, last))
+}
+
+/// Reads a dossier of whose two routes the first is kept.
+fn read_pooled(checker: &mut Checker) -> Result<Pooled, Fail> {
+    read_most(checker, &WITH_POOL[..9])?;
+    read_most(checker, &[b"pool 1 2"])?;
+    read_most(checker, &WITH_POOL[10..20])?;
+    let _end = said_of(checker, b"end")?;
+    pooled(checker)
+}
+
+#[test]
+fn tells_the_budget_and_the_pool(rt: HostRuntime) -> Result<(), Fail> {
+    let mut checker = Checker::open(rt.alloc())?;
+    let told = read_pooled(&mut checker);
+    drop(checker);
+    let last = Visit {
+        task: 1,
+        start: 420,
+    };
+    same(&rt, &told?, &(1, 1, 2, Some((0, last))));
+    Ok(())
+}
+
+#[test]
+fn counts_the_lines_of_a_front(rt: HostRuntime) -> Result<(), Fail> {
+    let mut checker = Checker::open_at(rt.alloc(), 3)?;
+    let said = said_of(&mut checker, b"crew dossier 3");
+    drop(checker);
+    same(
+        &rt,
+        &said?,
+        &Said::No {
+            line: 4,
+            reason: Reason::Shape,
+        },
     );
     Ok(())
 }

@@ -22,7 +22,7 @@ use Rattle.head_check.specs.Head.{IsFull, GoesOn, HeadTells, instance_so_far, op
 use Rattle.head_check.specs.declared.due.Head.{Head}
 use Rattle.head_check.specs.declared.due.HeadDue.{HeadDue}
 use Rattle.head_check.specs.declared.due.HeadDue.TheVariants.{Keep}
-use Rattle.cert_format.specs.declared.refusals.Refusal.{Refusal}
+use Rattle.line_in.specs.declared.refusals.Refusal.{Refusal}
 use Rattle.head_check.proofs.HeadSteps.{at_most}
 
 -- ---- what is due behind a frozen job

@@ -18,7 +18,7 @@ use Rattle.head_check.specs.Numbers.{naturals, AreBelow}
 use Rattle.head_check.specs.Head.{IsHead, HeadTells, instance_so_far}
 use Rattle.dossier_terms.specs.HeadTable.{after_team, after_task}
 use Rattle.head_check.specs.declared.due.HeadDue.{HeadDue}
-use Rattle.cert_format.specs.declared.refusals.Refusal.{Refusal}
+use Rattle.line_in.specs.declared.refusals.Refusal.{Refusal}
 use Rattle.head_check.proofs.Steps.{told_by}
 use Rattle.head_check.proofs.GivenRow.{time_in_row, time_elsewhere}
 use Rattle.head_check.proofs.HeadRows.{none_of}

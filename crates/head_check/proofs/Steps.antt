@@ -4,10 +4,10 @@ use Rattle.std.specs.Result.{IsErrAnd, MatchResult}
 use Rattle.std.proofs.lemmas.Result.{err_from_is_err_and}
 use Rattle.crew_instance.specs.declared.faults.BuildFault.{BuildFault}
 use Rattle.dossier_terms.specs.Reading.{Answer, More as Goes, No as Refuses}
-use Rattle.cert_format.specs.Expected.{reason_for}
-use Rattle.cert_format.specs.declared.kinds.LineFault.{LineFault}
-use Rattle.cert_format.specs.declared.refusals.Refusal.{Refusal}
-use Rattle.cert_format.specs.declared.refusals.Refusal.TheVariants.{No, OutOfMemory}
+use Rattle.line_in.specs.Faults.{reason_for}
+use Rattle.line_in.specs.declared.faults.LineFault.{LineFault}
+use Rattle.line_in.specs.declared.refusals.Refusal.{Refusal}
+use Rattle.line_in.specs.declared.refusals.Refusal.TheVariants.{No, OutOfMemory}
 use Rattle.head_check.specs.Head.{HeadTells, reading_of, refusal_for}
 use Rattle.head_check.specs.declared.due.HeadDue.{HeadDue}
 

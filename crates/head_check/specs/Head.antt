@@ -18,8 +18,8 @@ use Rattle.dossier_terms.specs.Table.{Says}
 use Rattle.head_check.specs.declared.due.Head.{Head}
 use Rattle.head_check.specs.declared.due.HeadDue.{HeadDue}
 use Rattle.head_check.specs.declared.due.HeadDue.TheVariants.{Form, Size, Place, Travel, Team, Task, Frozen, Keep, Whole}
-use Rattle.cert_format.specs.declared.refusals.Refusal.{Refusal}
-use Rattle.cert_format.specs.declared.refusals.Refusal.TheVariants.{No, OutOfMemory}
+use Rattle.line_in.specs.declared.refusals.Refusal.{Refusal}
+use Rattle.line_in.specs.declared.refusals.Refusal.TheVariants.{No, OutOfMemory}
 
 -- what the first two lines said
 abbrev pub opening_of : Head → Opening

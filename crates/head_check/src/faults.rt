@@ -2,9 +2,9 @@
 ghost use Rattle.std.specs.Prelude.{◌≡◌};
 ghost use Rattle.head_check.specs.Head.{refusal_for};
 
-use cert_format::Refusal;
 use crew_instance::BuildFault;
 use dossier_terms::Reason;
+use line_in::Refusal;
 
 /// Why a line is refused whose builder has this fault: a name stands twice, memory is wanting, or the instance breaks a
 /// rule of instances.

@@ -6,10 +6,11 @@ ghost use Rattle.head_check.specs.Head.{Holds, IsFull, IsHeadStep, HeadTells, af
 use crate::due::{Base, Head, HeadDue};
 use crate::faults::refusal_of;
 use crate::numbers::team_list;
-use cert_format::{JobLine, Refusal, fault_is_refused, read_frozen, read_keep};
+use cert_format::{JobLine, fault_is_refused, read_frozen, read_keep};
 use crew_laws::{empty_plan_is_feasible, one_feasibility};
 use dossier_terms::Reason;
 use field_table::LineWords;
+use line_in::Refusal;
 use std::alloc::Global;
 
 /// What is due where so many frozen jobs are to come, of tasks from `from` on. The last one is judged with all of them.

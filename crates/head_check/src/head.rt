@@ -13,12 +13,13 @@ use crate::due::{Base, Head, HeadDue};
 use crate::faults::refusal_of;
 use crate::numbers::{number_list, skill_set};
 use cert_format::{
-    LineNumbers, Refusal, TaskLine, TeamLine, fault_is_refused, read_form, read_place, read_size,
-    read_task, read_team, read_travel,
+    TaskLine, TeamLine, fault_is_refused, read_form, read_place, read_size, read_task, read_team,
+    read_travel,
 };
 use crew_instance::{Builder, Name, Task, Team};
 use dossier_terms::{DossierForm, Reason};
 use field_table::LineWords;
+use line_in::{LineNumbers, Refusal};
 use std::alloc::{AllocError, Global};
 
 /// What is due where no task is to come.

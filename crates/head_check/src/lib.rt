@@ -10,11 +10,11 @@ mod frozen;
 mod head;
 pub mod numbers;
 
-use cert_format::Refusal;
 pub use due::{Base, Head, HeadDue};
 use field_table::LineWords;
 use frozen::{frozen_line, keep_line};
 use head::{form_line, place_line, size_line, task_line, team_line, travel_line};
+use line_in::Refusal;
 use std::alloc::Global;
 
 /// Judges the line of the head that is due: what is due next, or why there is nothing more.

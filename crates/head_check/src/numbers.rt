@@ -5,8 +5,8 @@ ghost use Rattle.crew_terms.specs.declared.TheConstants.{LAST_MINUTE, MOST_TEAMS
 ghost use Rattle.dossier_terms.specs.Dossier.{mask_of};
 ghost use Rattle.head_check.specs.Numbers.{AreBelow, naturals};
 
-use cert_format::LineNumbers;
 use crew_terms::MOST_TEAMS_PER_TASK;
+use line_in::LineNumbers;
 use smallvec::SmallVec;
 use std::alloc::{AllocError, Global};
 

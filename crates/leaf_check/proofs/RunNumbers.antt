@@ -6,7 +6,7 @@ use Rattle.std.proofs.lemmas.List.{drop_all, get_or-append_right, get_or_append_
 use Rattle.std.specs.List.{AllByRecursion, flat_map}
 use Rattle.crew_terms.specs.declared.TheConstants.{LAST_MINUTE}
 use Rattle.dossier_terms.specs.Runs.{Run, AreRuns, RunsGoOn, begin_of, values_of}
-use Rattle.cert_format.specs.Fields.{run_numbers}
+use Rattle.line_in.specs.Fields.{run_numbers}
 use Rattle.leaf_check.specs.Runs.{GoesOn, begin_of_run, number_of_run}
 
 -- ---- the numbers of a line

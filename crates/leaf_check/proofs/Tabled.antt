@@ -5,7 +5,7 @@ use Rattle.crew_terms.specs.Instance.{Instance, task_of}
 use Rattle.std.specs.List.{flat_map}
 use Rattle.potentials.specs.Table.{PotentialRow, IsTableOf, CoversMinute, phi}
 use Rattle.dossier_terms.specs.Runs.{Run, AreRuns, values_of}
-use Rattle.cert_format.specs.Fields.{run_numbers}
+use Rattle.line_in.specs.Fields.{run_numbers}
 use Rattle.leaf_check.specs.Runs.{begin_of_run}
 
 pub record RowGiven (old new : List PotentialRow) (j first m : ℕ) (given : List ℤ) : Type 0 where

@@ -6,7 +6,7 @@ use Rattle.std.proofs.lemmas.List.{map-append, take_more}
 use Rattle.std.proofs.lemmas.Result.{err_from_is_err_and}
 use Rattle.std.proofs.Math.Seq.{take-length}
 use Rattle.crew_terms.specs.Limits.{Limits, IsPermittedVisit, tasks_in, teams_in}
-use Rattle.crew_terms.specs.Leaf.{Prices as TaskPrices, Proves, bound_of, reward, HoldsPotential, HoldsWorth}
+use Rattle.crew_terms.specs.Leaf.{Prices as TaskPrices, Proves, bound_of, reward, HoldsPotential, HoldsWorth, earned}
 use Rattle.crew_terms.specs.Plan.{unassigned_count}
 use Rattle.dossier_terms.specs.declared.Reason.{Reason}
 use Rattle.dossier_terms.specs.declared.Reason.TheVariants.{Bound, Potential, Worth as LowWorth}
@@ -18,9 +18,10 @@ use Rattle.dossier_terms.specs.LeafTable.{after_extra, after_phi, after_table, e
 use Rattle.potentials.specs.Table.{phi}
 use Rattle.potentials.specs.Rules.{IsLocalVerdict}
 use Rattle.potentials.specs.declared.rules.LocalVerdict.TheVariants as verdicts
-use Rattle.cert_format.specs.Expected.{expect_of, reason_for}
+use Rattle.cert_format.specs.Expected.{expect_of}
+use Rattle.line_in.specs.Faults.{reason_for}
 use Rattle.cert_format.specs.Lines.{IsFaultOf}
-use Rattle.cert_format.specs.declared.kinds.LineFault.{LineFault}
+use Rattle.line_in.specs.declared.faults.LineFault.{LineFault}
 use Rattle.leaf_check.specs.Keys.{IsExtraDue, IsPhiDue}
 use Rattle.leaf_check.specs.Reader.{HasReadLeaf, HasReadUpTo, HasPotentials, StandsFor, AtPrices, AtExtras, AtWorths, AtPhis, LeafTells, TellsMore, TellsDone, TellsNo, priced_leaf}
 use Rattle.crew_terms.specs.Words.{Words}
@@ -108,7 +109,7 @@ module _ (a : LeafSite) (n : Limits) (r : LeafReader) (leaf : Leaf) (bound unass
 -- ---- the rules of a team
 
 module _ (n : Limits) (p : TaskPrices) (k : ℕ) (f g : ℕ → ℕ → ℤ) (same : (j t : ℕ) → IsPermittedVisit n k j t → f j t ≡ g j t) where
-  pub same_potential : (j : ℕ) → HoldsPotential n p k f j → HoldsPotential n p k g j
+  pub same_potential : (j : ℕ) → HoldsPotential n k (earned p k) f j → HoldsPotential n k (earned p k) g j
   same_potential j h = record {
     alone = λ t v. subst (λ x. reward p k j ≤ℤ x) (same j t v) (h.alone t v);
     step = λ t i u v w s. subst (λ x. (reward p k j +ℤ x) ≤ℤ g j t) (same i u w) (subst (λ x. (reward p k j +ℤ f i u) ≤ℤ x) (same j t v) (h.step t i u v w s));
@@ -146,11 +147,11 @@ module _ (a : LeafSite) (n : Limits) (r : LeafReader) (leaf : Leaf) (team left :
   abbrev pub Rules : Limits → ℕ → Answer → Type 0
   Rules m k = after_phi a leaf left table []
 
-  potential_to : (j : ℕ) → HoldsPotential n r.prices team (phi r.table) j → HoldsPotential n (prices_of n leaf) team (phi_in n team table) j
-  potential_to j h = subst (λ p. HoldsPotential n p team (phi_in n team table) j) read.prices (same_potential n r.prices team (phi r.table) (phi_in n team table) to_table j h)
+  potential_to : (j : ℕ) → HoldsPotential n team (earned r.prices team) (phi r.table) j → HoldsPotential n team (earned (prices_of n leaf) team) (phi_in n team table) j
+  potential_to j h = subst (λ p. HoldsPotential n team (earned p team) (phi_in n team table) j) read.prices (same_potential n r.prices team (phi r.table) (phi_in n team table) to_table j h)
 
-  potential_from : (j : ℕ) → HoldsPotential n (prices_of n leaf) team (phi_in n team table) j → HoldsPotential n r.prices team (phi r.table) j
-  potential_from j h = same_potential n r.prices team (phi_in n team table) (phi r.table) from_table j (subst (λ p. HoldsPotential n p team (phi_in n team table) j) (sym read.prices) h)
+  potential_from : (j : ℕ) → HoldsPotential n team (earned (prices_of n leaf) team) (phi_in n team table) j → HoldsPotential n team (earned r.prices team) (phi r.table) j
+  potential_from j h = same_potential n r.prices team (phi_in n team table) (phi r.table) from_table j (subst (λ p. HoldsPotential n team (earned p team) (phi_in n team table) j) (sym read.prices) h)
 
   worth_to : HoldsWorth n team (phi r.table) worth → HoldsWorth n team (phi_in n team table) table.worth
   worth_to h = subst (HoldsWorth n team (phi_in n team table)) is (same_worth n r.prices team (phi r.table) (phi_in n team table) to_table worth h)
@@ -160,7 +161,7 @@ module _ (a : LeafSite) (n : Limits) (r : LeafReader) (leaf : Leaf) (team left :
 
   -- a fact of the table's rules at the site's limits and its number of teams, from the one at these
   abbrev pub PotentialAt : Limits → ℕ → ℕ → Type 0
-  PotentialAt m k j = HoldsPotential m (prices_of m leaf) k (phi_in m k table) j
+  PotentialAt m k j = HoldsPotential m k (earned (prices_of m leaf) k) (phi_in m k table) j
 
   abbrev pub WorthAt : Limits → ℕ → Type 0
   WorthAt m k = HoldsWorth m k (phi_in m k table) table.worth
@@ -177,18 +178,18 @@ module _ (a : LeafSite) (n : Limits) (r : LeafReader) (leaf : Leaf) (team left :
   worth_down : WorthAt (limits_of a) (length leaf.tables) → WorthAt n team
   worth_down h = subst (λ m. WorthAt m team) e (subst (WorthAt (limits_of a)) count h)
 
-  all_potentials : ((j : ℕ) → HoldsPotential n r.prices team (phi r.table) j) → (j : ℕ) → j < tasks_in (limits_of a) → PotentialAt (limits_of a) (length leaf.tables) j
+  all_potentials : ((j : ℕ) → HoldsPotential n team (earned r.prices team) (phi r.table) j) → (j : ℕ) → j < tasks_in (limits_of a) → PotentialAt (limits_of a) (length leaf.tables) j
   all_potentials h j l = potential_up j (potential_to j (h j))
 
-  pub team_low : (j : ℕ) → IsLocalVerdict n r.prices team (phi r.table) worth (verdicts.Low j) → LeafTells a (Rules n team) (Err (Potential team j)) r
+  pub team_low : (j : ℕ) → IsLocalVerdict n team (earned r.prices team) (phi r.table) worth (verdicts.Low j) → LeafTells a (Rules n team) (Err (Potential team j)) r
   team_low j h = TellsNo (Potential team j)
       (FailsAt j (subst (λ m. j < tasks_in m) (sym e) h.0) (λ i l. potential_up i (potential_to i (h.1 i l))) (λ g. h.2 (potential_from j (potential_down j g))) (ap (λ k. Refuses (Potential k j)) (sym count))) refl
 
-  pub team_worth : IsLocalVerdict n r.prices team (phi r.table) worth verdicts.Worth → LeafTells a (Rules n team) (Err (LowWorth team)) r
+  pub team_worth : IsLocalVerdict n team (earned r.prices team) (phi r.table) worth verdicts.Worth → LeafTells a (Rules n team) (Err (LowWorth team)) r
   team_worth h = TellsNo (LowWorth team)
       (HoldsOfAll (all_potentials h.0) (Fails (λ g. h.1 (worth_from (worth_down g))) (ap (λ k. Refuses (LowWorth k)) (sym count)))) refl
 
-  pub team_holds : (step : Result LeafStep Reason) (new : LeafReader) → IsLocalVerdict n r.prices team (phi r.table) worth verdicts.Holds
+  pub team_holds : (step : Result LeafStep Reason) (new : LeafReader) → IsLocalVerdict n team (earned r.prices team) (phi r.table) worth verdicts.Holds
       → LeafTells a (after_table a (with_table leaf table) left) step new → LeafTells a (Rules n team) step new
   team_holds step new h told = tells_rest a (after_table a (with_table leaf table) left) (Rules n team) step new
       (λ said others. HoldsOfAll (all_potentials h.tasks) (Holds (worth_up (worth_to h.worth_rules)) others)) told

@@ -3,7 +3,7 @@ use Rattle.std.specs.Prelude.{◌≡◌, ◌≢◌, ◌≤◌, ◌<◌, ◌-◌,
 use Rattle.std.specs.List.{AllByRecursion, flat_map}
 use Rattle.crew_terms.specs.declared.TheConstants.{LAST_MINUTE}
 use Rattle.dossier_terms.specs.Runs.{Run, AreRuns, begin_of}
-use Rattle.cert_format.specs.Fields.{run_numbers}
+use Rattle.line_in.specs.Fields.{run_numbers}
 use Rattle.potentials.specs.Table.{PotentialRow}
 use Rattle.leaf_check.specs.Rows.{HasRoomAt}
 

@@ -7,8 +7,8 @@ ghost use Rattle.crew_terms.specs.Minutes.{required_teams};
 ghost use Rattle.potentials.specs.Prices.{with_rho};
 ghost use Rattle.leaf_check.specs.Prices.{ArePairsGiven, ArePricesIn, SamePairsBut, requires_pair};
 
-use cert_format::LineNumbers;
 use crew_terms::Pair;
+use line_in::LineNumbers;
 use node_limits::Limits;
 use potentials::Prices;
 

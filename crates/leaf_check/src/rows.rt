@@ -3,7 +3,7 @@ ghost use Rattle.std.specs.Prelude.{◌≡◌, ◌≢◌, ◌<◌, ◌+◌, ◌^
 ghost use Rattle.potentials.specs.Table.{phi};
 ghost use Rattle.leaf_check.specs.Rows.{HasRoomAt, KeepsTable};
 
-use cert_format::LineNumbers;
+use line_in::LineNumbers;
 use potentials::Table;
 
 /// Sets the potentials of task `j` at the minutes from `first` on to the given numbers.

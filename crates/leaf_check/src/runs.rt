@@ -2,12 +2,12 @@
 ghost use Rattle.std.specs.Prelude.{◌≡◌, ◌≢◌, ◌≤◌, ◌<◌, ◌+◌, ◌*◌, ◌-◌, ◌^◌, ℕ, List, length, pos, slice_index_or, MatchBool};
 ghost use Rattle.std.specs.List.{flat_map};
 ghost use Rattle.dossier_terms.specs.Runs.{Run, AreRuns, values_of};
-ghost use Rattle.cert_format.specs.Fields.{run_numbers};
+ghost use Rattle.line_in.specs.Fields.{run_numbers};
 ghost use Rattle.potentials.specs.Table.{phi};
 ghost use Rattle.leaf_check.specs.Rows.{KeepsTable};
 ghost use Rattle.leaf_check.specs.Runs.{AreRunNumbers, CanSetRuns, GoesOn, OfRuns, begin_of_run};
 
-use cert_format::LineNumbers;
+use line_in::LineNumbers;
 use potentials::Table;
 
 /// The minute at which the run with this number begins; `past` where there is none.

@@ -12,7 +12,7 @@ use Rattle.dossier_laws.specs.Listed.{IsSkillList}
 use Rattle.cert_format.specs.declared.kinds.Expect.{Expect}
 use Rattle.cert_format.specs.declared.kinds.LineKind.{LineKind}
 use Rattle.cert_format.specs.Lines.{ReadsLine, IsLineOf}
-use Rattle.cert_format.specs.declared.kinds.LineFault.{LineFault}
+use Rattle.line_in.specs.declared.faults.LineFault.{LineFault}
 use Rattle.cert_format.specs.Counts.{HasCounts}
 use Rattle.read_back.specs.ReadBack.{IsReadAs}
 

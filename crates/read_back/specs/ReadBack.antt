@@ -8,7 +8,7 @@ use Rattle.dossier_terms.specs.Dossier.{skills_of}
 use Rattle.cert_format.specs.declared.kinds.Expect.{Expect}
 use Rattle.cert_format.specs.declared.kinds.LineKind.{LineKind}
 use Rattle.cert_format.specs.declared.kinds.LineKind.TheVariants as kinds
-use Rattle.cert_format.specs.declared.kinds.LineFault.{LineFault}
+use Rattle.line_in.specs.declared.faults.LineFault.{LineFault}
 use Rattle.cert_format.specs.Lines.{ReadsLine}
 
 -- the line of these words, cut at its spaces, is read as this where this kind is due, and as nothing else

@@ -3,7 +3,7 @@ ghost use Rattle.std.specs.Prelude.{◌≡◌, List, IfOk};
 ghost use Rattle.crew_terms.specs.declared.Visit.{Visit as TeamVisit};
 ghost use Rattle.route_pool.specs.Numbers.{AreNumbersOf};
 
-use cert_format::LineNumbers;
+use line_in::LineNumbers;
 use node_limits::Visit;
 use route_terms::Route;
 use std::alloc::{AllocError, Global};

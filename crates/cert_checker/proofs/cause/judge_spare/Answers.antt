@@ -1,7 +1,7 @@
 use Rattle.std.proofs.Common.{◌≡◌, All, ap, refl, subst, sym, ◌∙◌}
 use Rattle.std.specs.Box.{with_value}
 use Rattle.crew_terms.specs.Limits.{root_limits}
-use Rattle.search_terms.specs.Shares.{Share, IsRouteIn}
+use Rattle.share_terms.specs.Shares.{Share, IsRouteIn}
 use Rattle.dossier_terms.specs.Causes.{Loose, Shares, choice_of}
 use Rattle.dossier_terms.specs.Reading.{cause_done, limits_below, split_done}
 use Rattle.dossier_terms.specs.Rules.{Holds, Fails, On}

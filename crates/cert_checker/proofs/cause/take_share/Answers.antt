@@ -2,7 +2,7 @@ use Rattle.std.proofs.Common.{◌≡◌, ◌+◌, ◌++◌, suc, [], ◌∷◌, 
 use Rattle.std.specs.Prelude.{List, slice_index_or}
 use Rattle.std.specs.Box.{with_value}
 use Rattle.crew_terms.specs.Limits.{Route, root_limits}
-use Rattle.search_terms.specs.Shares.{IsRouteIn, Share as ShareOf}
+use Rattle.share_terms.specs.Shares.{IsRouteIn, Share as ShareOf}
 use Rattle.dossier_terms.specs.Causes.{Part, Shares, column_of}
 use Rattle.dossier_terms.specs.Reading.{limits_below, parts_due}
 use Rattle.dossier_terms.specs.Rules.{Holds, On}

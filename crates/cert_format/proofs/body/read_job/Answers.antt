@@ -1,7 +1,7 @@
 use Rattle.std.proofs.Common.{refl, arith}
 use Rattle.std.proofs.lemmas.Int.{ints}
 use Rattle.std.specs.Prelude.{codes}
-use Rattle.cert_format.proofs.Accepted.{none_read, longer_line_of_row, last_below}
+use Rattle.line_in.proofs.Accepted.{none_read, longer_line_of_row, last_below}
 use Rattle.cert_format.proofs.Wrong.{below_fields, job_wrong}
 use Rattle.cert_format.proofs.body.read_job.Goals as goal
 

@@ -1,6 +1,6 @@
 use Rattle.std.proofs.Common.{arith, to_z, w64}
 use Rattle.std.proofs.lemmas.Int.{ints}
-use Rattle.cert_format.proofs.Accepted.{none_read}
+use Rattle.line_in.proofs.Accepted.{none_read}
 use Rattle.cert_format.proofs.Wrong.{plan_wrong}
 use Rattle.cert_format.proofs.body.read_plan.Goals as goal
 

@@ -1,4 +1,4 @@
-use Rattle.cert_format.proofs.Accepted.{none_read}
+use Rattle.line_in.proofs.Accepted.{none_read}
 use Rattle.cert_format.proofs.Wrong.{pool_fields, pool_wrong}
 use Rattle.cert_format.proofs.body.read_pool.Goals as goal
 

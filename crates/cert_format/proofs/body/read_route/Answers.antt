@@ -1,6 +1,6 @@
 use Rattle.std.proofs.Common.{arith}
 use Rattle.std.proofs.lemmas.Int.{ints}
-use Rattle.cert_format.proofs.Accepted.{none_read, last_below}
+use Rattle.line_in.proofs.Accepted.{none_read, last_below}
 use Rattle.cert_format.proofs.LeafLines.{pairs_after_team, route_team, route_line_of, team_wrong}
 use Rattle.cert_format.proofs.body.read_route.Goals as goal
 

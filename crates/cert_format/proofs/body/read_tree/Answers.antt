@@ -1,7 +1,7 @@
 use Rattle.std.proofs.Common.{refl, arith}
 use Rattle.std.proofs.lemmas.Int.{ints}
 use Rattle.std.specs.Prelude.{codes}
-use Rattle.cert_format.proofs.Accepted.{none_read, line_of_row}
+use Rattle.line_in.proofs.Accepted.{none_read, line_of_row}
 use Rattle.cert_format.proofs.Wrong.{tree_fields, tree_wrong}
 use Rattle.cert_format.proofs.body.read_tree.Goals as goal
 

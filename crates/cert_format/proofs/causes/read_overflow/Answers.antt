@@ -6,7 +6,7 @@ use Rattle.crew_terms.specs.Words.{Words}
 use Rattle.dossier_terms.specs.Lines.{overflow_line}
 use Rattle.dossier_terms.specs.Ranges.{IsOverflowLine}
 use Rattle.cert_format.specs.Lines.{OverflowShape}
-use Rattle.cert_format.proofs.WideWords.{word_is}
+use Rattle.line_in.proofs.WideWords.{word_is}
 use Rattle.cert_format.proofs.CauseLines.{overflow_shape, overflow_only, overflow_words}
 use Rattle.cert_format.proofs.causes.read_overflow.Goals as goal
 

@@ -5,9 +5,10 @@ use Rattle.std.specs.Prelude.{codes}
 use Rattle.crew_terms.specs.Name.{IsName}
 use Rattle.crew_terms.specs.declared.TheConstants.{MOST_TEAMS_PER_TASK, LAST_MINUTE}
 use Rattle.cert_format.specs.declared.kinds.Expect.TheVariants.{Task}
-use Rattle.cert_format.proofs.Accepted.{number_field, last_of, last_below}
-use Rattle.cert_format.proofs.Fields.{number_spelled}
-use Rattle.cert_format.proofs.Names.{minute_field, task_numbers, number_told, named_line}
+use Rattle.line_in.proofs.Accepted.{number_field, last_of, last_below}
+use Rattle.line_in.proofs.Fields.{number_spelled}
+use Rattle.cert_format.proofs.Names.{task_numbers, number_told}
+use Rattle.line_in.proofs.Names.{minute_field, named_line}
 use Rattle.cert_format.proofs.head.read_task.Goals as goal
 
 pub returns-in_err-place : goal.returns-in_err-place

@@ -4,9 +4,10 @@ use Rattle.std.proofs.lemmas.Result.{err_from_is_err_and}
 use Rattle.std.specs.Prelude.{codes}
 use Rattle.crew_terms.specs.Name.{IsName}
 use Rattle.cert_format.specs.declared.kinds.Expect.TheVariants.{Team}
-use Rattle.cert_format.proofs.Accepted.{number_field, last_of, last_below}
-use Rattle.cert_format.proofs.Fields.{number_spelled}
-use Rattle.cert_format.proofs.Names.{minute_field, team_numbers, number_told, named_line}
+use Rattle.line_in.proofs.Accepted.{number_field, last_of, last_below}
+use Rattle.line_in.proofs.Fields.{number_spelled}
+use Rattle.cert_format.proofs.Names.{team_numbers, number_told}
+use Rattle.line_in.proofs.Names.{minute_field, named_line}
 use Rattle.cert_format.proofs.head.read_team.Goals as goal
 
 pub returns-in_err-home : goal.returns-in_err-home

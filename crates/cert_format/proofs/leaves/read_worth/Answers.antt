@@ -1,4 +1,4 @@
-use Rattle.cert_format.proofs.Accepted.{none_read}
+use Rattle.line_in.proofs.Accepted.{none_read}
 use Rattle.cert_format.proofs.LeafLines.{worth_fields, worth_wrong}
 use Rattle.cert_format.proofs.leaves.read_worth.Goals as goal
 

@@ -2,7 +2,7 @@ use Rattle.std.proofs.Common.{refl, arith, ◌∷◌, []}
 use Rattle.std.proofs.lemmas.Int.{ints}
 use Rattle.std.specs.Prelude.{codes}
 use Rattle.cert_format.specs.Lines.{PairShape}
-use Rattle.cert_format.proofs.Accepted.{number_field, none_read, line_of_row, last_below}
+use Rattle.line_in.proofs.Accepted.{number_field, none_read, line_of_row, last_below}
 use Rattle.cert_format.proofs.Wrong.{pair_wrong}
 use Rattle.cert_format.proofs.nodes.read_pair.Goals as goal
 

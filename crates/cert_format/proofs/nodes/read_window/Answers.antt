@@ -2,7 +2,7 @@ use Rattle.std.proofs.Common.{refl, arith}
 use Rattle.std.proofs.lemmas.Int.{ints}
 use Rattle.std.specs.Prelude.{codes}
 use Rattle.cert_format.specs.Lines.{WindowShape}
-use Rattle.cert_format.proofs.Accepted.{none_read, line_of_row, last_below}
+use Rattle.line_in.proofs.Accepted.{none_read, line_of_row, last_below}
 use Rattle.cert_format.proofs.Wrong.{below_fields, window_wrong}
 use Rattle.cert_format.proofs.nodes.read_window.Goals as goal
 

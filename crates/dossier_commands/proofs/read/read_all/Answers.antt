@@ -32,9 +32,9 @@ dossiers-preserved g c =
     record {
       going = next.0;
       so_far =
-          says_one_more (output_of c.args.output) (g.S.Source.left c.args.src.now) (g.K.Sink.got c.args.out.now) c.dossiers.reader (g.S.Source.left c.dossiers.src) (g.K.Sink.got c.dossiers.out) c.dossiers.checker.lines i.so_far
+          says_one_more (output_of c.args.output) (g.S.Source.left c.args.src.now) (g.K.Sink.got c.args.out.now) c.dossiers.reader (g.S.Source.left c.dossiers.src) (g.K.Sink.got c.dossiers.out) c.dossiers.checker i.so_far
           c.next_dossier.new.reader (g.S.Source.left c.next_dossier.new.src) (g.K.Sink.got c.put_output.new.out) c.next_dossier.new.checker c.in-Yes.verdict
-          (λ input done b. subst (IsOutcome input done c.next_dossier.new.reader (g.S.Source.left c.next_dossier.new.src) c.next_dossier.new.checker) c.in-Yes.is (c.in_ok-verdict.ensures.outcome input done b))
+          (λ front input done b. subst (IsOutcome front input done c.next_dossier.new.reader (g.S.Source.left c.next_dossier.new.src) c.next_dossier.new.checker) c.in-Yes.is (c.in_ok-verdict.ensures.outcome front input done b))
           (λ d whole says. (c.in_default.ensures d whole says).all);
       reads = reads_then g.S.Source _ _ _ (λ fault. fault) i.reads c.in_ok-verdict.ensures.tells (λ fault. absurd fault) (λ e. not_fault _ _ c.in-Yes.is (λ f. cc) e);
       writes = writes_then g.K.Sink _ _ _ (λ fault. fault) i.writes (puts_tell g.K.Sink _ _ _ _ (c.in_default.ensures y.dossier y.whole y.says)) (λ fault. absurd fault) (λ e. cc);
@@ -46,9 +46,9 @@ returns-in-Err g c =
     let i = c.dossiers.invariant in
     let y = next.2 in
     let front =
-    front_good (output_of c.args.output) (g.S.Source.left c.args.src.now) (g.K.Sink.got c.args.out.now) c.dossiers.reader (g.S.Source.left c.dossiers.src) (g.K.Sink.got c.dossiers.out) c.dossiers.checker.lines i.so_far
+    front_good (output_of c.args.output) (g.S.Source.left c.args.src.now) (g.K.Sink.got c.args.out.now) c.dossiers.reader (g.S.Source.left c.dossiers.src) (g.K.Sink.got c.dossiers.out) c.dossiers.checker i.so_far
     c.next_dossier.new.reader (g.S.Source.left c.next_dossier.new.src) (g.K.Sink.got c.put_output.new.out) c.next_dossier.new.checker c.in-Yes.verdict
-    (λ input done b. subst (IsOutcome input done c.next_dossier.new.reader (g.S.Source.left c.next_dossier.new.src) c.next_dossier.new.checker) c.in-Yes.is (c.in_ok-verdict.ensures.outcome input done b))
+    (λ front input done b. subst (IsOutcome front input done c.next_dossier.new.reader (g.S.Source.left c.next_dossier.new.src) c.next_dossier.new.checker) c.in-Yes.is (c.in_ok-verdict.ensures.outcome front input done b))
     (λ d whole says. (c.in-Err.ensures d whole says).part) in
     record {
       says = front;
@@ -64,9 +64,9 @@ returns-in-End g c =
     let i = c.dossiers.invariant in
     record {
       says =
-          says_yes (output_of c.args.output) (g.S.Source.left c.args.src.now) (g.K.Sink.got c.args.out.now) c.dossiers.reader (g.S.Source.left c.dossiers.src) (g.K.Sink.got c.dossiers.out) c.dossiers.checker.lines i.so_far
-          (λ input done b. subst (IsOutcome input done c.next_dossier.new.reader (g.S.Source.left c.next_dossier.new.src) c.next_dossier.new.checker) c.in-End.is (c.in_ok-verdict.ensures.outcome input done b));
-      front = front_so_far (output_of c.args.output) (g.S.Source.left c.args.src.now) (g.K.Sink.got c.args.out.now) c.dossiers.reader (g.S.Source.left c.dossiers.src) (g.K.Sink.got c.dossiers.out) c.dossiers.checker.lines i.so_far;
+          says_yes (output_of c.args.output) (g.S.Source.left c.args.src.now) (g.K.Sink.got c.args.out.now) c.dossiers.reader (g.S.Source.left c.dossiers.src) (g.K.Sink.got c.dossiers.out) c.dossiers.checker i.so_far
+          (λ front input done b. subst (IsOutcome front input done c.next_dossier.new.reader (g.S.Source.left c.next_dossier.new.src) c.next_dossier.new.checker) c.in-End.is (c.in_ok-verdict.ensures.outcome front input done b));
+      front = front_so_far (output_of c.args.output) (g.S.Source.left c.args.src.now) (g.K.Sink.got c.args.out.now) c.dossiers.reader (g.S.Source.left c.dossiers.src) (g.K.Sink.got c.dossiers.out) c.dossiers.checker i.so_far;
       memory = tt;
       ended = λ _. c.in_ok-verdict.ensures.ended c.in-End.is;
       reads = reads_then g.S.Source _ _ _ (λ fault. fault) i.reads c.in_ok-verdict.ensures.tells (λ e. absurd (cc)) (λ e. absurd (not_fault _ _ c.in-End.is (λ f. cc) e));
@@ -78,10 +78,10 @@ returns-in-ReadFault g c =
     let i = c.dossiers.invariant in
     record {
       says =
-          says_read_fault (output_of c.args.output) (g.S.Source.left c.args.src.now) (g.K.Sink.got c.args.out.now) c.dossiers.reader (g.S.Source.left c.dossiers.src) (g.K.Sink.got c.dossiers.out) c.dossiers.checker.lines i.so_far
+          says_read_fault (output_of c.args.output) (g.S.Source.left c.args.src.now) (g.K.Sink.got c.args.out.now) c.dossiers.reader (g.S.Source.left c.dossiers.src) (g.K.Sink.got c.dossiers.out) c.dossiers.checker i.so_far
           c.next_dossier.new.reader (g.S.Source.left c.next_dossier.new.src)
-          (λ input done b. subst (IsOutcome input done c.next_dossier.new.reader (g.S.Source.left c.next_dossier.new.src) c.next_dossier.new.checker) c.in-ReadFault.is (c.in_ok-verdict.ensures.outcome input done b));
-      front = front_so_far (output_of c.args.output) (g.S.Source.left c.args.src.now) (g.K.Sink.got c.args.out.now) c.dossiers.reader (g.S.Source.left c.dossiers.src) (g.K.Sink.got c.dossiers.out) c.dossiers.checker.lines i.so_far;
+          (λ front input done b. subst (IsOutcome front input done c.next_dossier.new.reader (g.S.Source.left c.next_dossier.new.src) c.next_dossier.new.checker) c.in-ReadFault.is (c.in_ok-verdict.ensures.outcome front input done b));
+      front = front_so_far (output_of c.args.output) (g.S.Source.left c.args.src.now) (g.K.Sink.got c.args.out.now) c.dossiers.reader (g.S.Source.left c.dossiers.src) (g.K.Sink.got c.dossiers.out) c.dossiers.checker i.so_far;
       memory = tt;
       ended = λ e. absurd (cc);
       reads = reads_then g.S.Source _ _ _ (λ fault. fault) i.reads c.in_ok-verdict.ensures.tells (λ _. ap Ok c.in-ReadFault.is) (λ _. refl);
@@ -95,8 +95,8 @@ returns-in_err-verdict g c =
     let is = c.from_residual.ensures.0 in
     record {
       says = IfOk-from_err r _ is;
-      front = front_so_far (output_of c.args.output) (g.S.Source.left c.args.src.now) (g.K.Sink.got c.args.out.now) c.dossiers.reader (g.S.Source.left c.dossiers.src) (g.K.Sink.got c.dossiers.out) c.dossiers.checker.lines i.so_far;
-      memory = on_err r _ (says_texts (output_of c.args.output) (g.S.Source.left c.args.src.now) (g.K.Sink.got c.args.out.now) c.dossiers.reader (g.S.Source.left c.dossiers.src) (g.K.Sink.got c.dossiers.out) c.dossiers.checker.lines i.so_far);
+      front = front_so_far (output_of c.args.output) (g.S.Source.left c.args.src.now) (g.K.Sink.got c.args.out.now) c.dossiers.reader (g.S.Source.left c.dossiers.src) (g.K.Sink.got c.dossiers.out) c.dossiers.checker i.so_far;
+      memory = on_err r _ (says_texts (output_of c.args.output) (g.S.Source.left c.args.src.now) (g.K.Sink.got c.args.out.now) c.dossiers.reader (g.S.Source.left c.dossiers.src) (g.K.Sink.got c.dossiers.out) c.dossiers.checker i.so_far);
       ended = λ e. absurd (err_is_not_ok r _ is e);
       reads = reads_then g.S.Source _ _ _ (λ fault. fault) i.reads c.in_err-verdict.ensures.tells (λ e. absurd (err_is_not_ok r _ is e)) (λ e. absurd (cc));
       writes = writes_then g.K.Sink _ _ _ (λ fault. fault) i.writes (writes_none g.K.Sink c.dossiers.out) (λ e. absurd (err_is_not_ok r _ is e)) (λ fault. absurd fault);
@@ -106,9 +106,9 @@ pub returns-in-Err-put_no : goal.returns-in-Err-put_no
 returns-in-Err-put_no g c =
     let i = c.dossiers.invariant in
     let front =
-    front_no (output_of c.args.output) (g.S.Source.left c.args.src.now) (g.K.Sink.got c.args.out.now) c.dossiers.reader (g.S.Source.left c.dossiers.src) (g.K.Sink.got c.dossiers.out) c.dossiers.checker.lines i.so_far
+    front_no (output_of c.args.output) (g.S.Source.left c.args.src.now) (g.K.Sink.got c.args.out.now) c.dossiers.reader (g.S.Source.left c.dossiers.src) (g.K.Sink.got c.dossiers.out) c.dossiers.checker i.so_far
     (g.K.Sink.got c.put_no.new.out) c.in-No.line c.in-No.reason
-    (λ input done b. subst (IsOutcome input done c.next_dossier.new.reader (g.S.Source.left c.next_dossier.new.src) c.next_dossier.new.checker) c.in-No.is (c.in_ok-verdict.ensures.outcome input done b))
+    (λ front input done b. subst (IsOutcome front input done c.next_dossier.new.reader (g.S.Source.left c.next_dossier.new.src) c.next_dossier.new.checker) c.in-No.is (c.in_ok-verdict.ensures.outcome front input done b))
     c.in-Err-put_no.ensures.part in
     record {
       says = front;
@@ -124,14 +124,14 @@ returns-in-No g c =
     let i = c.dossiers.invariant in
     record {
       says =
-          says_no (output_of c.args.output) (g.S.Source.left c.args.src.now) (g.K.Sink.got c.args.out.now) c.dossiers.reader (g.S.Source.left c.dossiers.src) (g.K.Sink.got c.dossiers.out) c.dossiers.checker.lines i.so_far
+          says_no (output_of c.args.output) (g.S.Source.left c.args.src.now) (g.K.Sink.got c.args.out.now) c.dossiers.reader (g.S.Source.left c.dossiers.src) (g.K.Sink.got c.dossiers.out) c.dossiers.checker i.so_far
           (g.K.Sink.got c.put_no.new.out) c.in-No.line c.in-No.reason c.refused_is_not_accepted.ensures
-          (λ input done b. subst (IsOutcome input done c.next_dossier.new.reader (g.S.Source.left c.next_dossier.new.src) c.next_dossier.new.checker) c.in-No.is (c.in_ok-verdict.ensures.outcome input done b))
+          (λ front input done b. subst (IsOutcome front input done c.next_dossier.new.reader (g.S.Source.left c.next_dossier.new.src) c.next_dossier.new.checker) c.in-No.is (c.in_ok-verdict.ensures.outcome front input done b))
           c.in_default-put_no.ensures.all;
       front =
-          whole_no (output_of c.args.output) (g.S.Source.left c.args.src.now) (g.K.Sink.got c.args.out.now) c.dossiers.reader (g.S.Source.left c.dossiers.src) (g.K.Sink.got c.dossiers.out) c.dossiers.checker.lines i.so_far
+          whole_no (output_of c.args.output) (g.S.Source.left c.args.src.now) (g.K.Sink.got c.args.out.now) c.dossiers.reader (g.S.Source.left c.dossiers.src) (g.K.Sink.got c.dossiers.out) c.dossiers.checker i.so_far
           (g.K.Sink.got c.put_no.new.out) c.in-No.line c.in-No.reason
-          (λ input done b. subst (IsOutcome input done c.next_dossier.new.reader (g.S.Source.left c.next_dossier.new.src) c.next_dossier.new.checker) c.in-No.is (c.in_ok-verdict.ensures.outcome input done b))
+          (λ front input done b. subst (IsOutcome front input done c.next_dossier.new.reader (g.S.Source.left c.next_dossier.new.src) c.next_dossier.new.checker) c.in-No.is (c.in_ok-verdict.ensures.outcome front input done b))
           c.in_default-put_no.ensures.all;
       memory = tt;
       ended = λ e. absurd (cc);

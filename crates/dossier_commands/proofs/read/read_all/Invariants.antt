@@ -9,7 +9,7 @@ use Rattle.dossier_commands.proofs.read.read_all.Given as goal
 abbrev pub invariant-dossiers : goal.invariant-dossiers
 invariant-dossiers g l = record {
   going : CanGoOn l.reader l.checker;
-  so_far : HasSaidOf (output_of l.output) (g.S.Source.left l.fn.src) (g.K.Sink.got l.fn.out) l.reader (g.S.Source.left l.src) (g.K.Sink.got l.out) l.checker.lines;
+  so_far : HasSaidOf (output_of l.output) (g.S.Source.left l.fn.src) (g.K.Sink.got l.fn.out) l.reader (g.S.Source.left l.src) (g.K.Sink.got l.out) l.checker;
   reads : TellsReads g.S.Source l.fn.src l.src ⊥;
   writes : TellsWrites g.K.Sink l.fn.out l.out ⊥;
 }

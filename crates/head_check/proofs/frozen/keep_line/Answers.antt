@@ -7,7 +7,7 @@ use Rattle.crew_terms.specs.declared.TheConstants.{MOST_TEAMS}
 use Rattle.cert_format.specs.Lines.{IsFaultOf, IsKeepLine}
 use Rattle.cert_format.specs.Typed.{keep_kind}
 use Rattle.cert_format.specs.declared.kinds.Expect.TheVariants as expects
-use Rattle.cert_format.specs.declared.kinds.LineFault.{LineFault}
+use Rattle.line_in.specs.declared.faults.LineFault.{LineFault}
 use Rattle.cert_format.specs.declared.typed.JobLine.{JobLine}
 use Rattle.dossier_terms.specs.Ranges.{IsDoLine}
 use Rattle.dossier_terms.specs.Rules.{Holds as Met, Fails, Spelled}

@@ -1,7 +1,7 @@
 use Rattle.std.proofs.Common.{◌≡◌, ◌<◌, ℕ, List}
 use Rattle.std.specs.List.{flat_map}
 use Rattle.dossier_terms.specs.Runs.{Run}
-use Rattle.cert_format.specs.Fields.{run_numbers}
+use Rattle.line_in.specs.Fields.{run_numbers}
 use Rattle.leaf_check.specs.Runs.{GoesOn}
 use Rattle.leaf_check.proofs.runs.are_runs.Given as goal
 

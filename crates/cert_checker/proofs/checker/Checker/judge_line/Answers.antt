@@ -1,7 +1,7 @@
 use Rattle.std.proofs.Common.{◌≢◌, ◌+◌, ap, subst, sym}
 use Rattle.std.specs.Prelude.{Err}
 use Rattle.crew_terms.specs.Words.{words_of}
-use Rattle.cert_format.specs.declared.refusals.Refusal.{Refusal}
+use Rattle.line_in.specs.declared.refusals.Refusal.{Refusal}
 use Rattle.cert_checker.specs.Checked.{IsJudged}
 use Rattle.cert_checker.specs.Due.{IsStep, IsStepWithRoom}
 use Rattle.cert_checker.specs.Kept.{kept_state}

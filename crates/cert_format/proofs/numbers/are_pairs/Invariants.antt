@@ -1,6 +1,0 @@
-use Rattle.std.proofs.Common.{ℕ, ◌<◌, ◌+◌, ◌*◌, [], get_or}
-use Rattle.cert_format.specs.Fields.{SpellsOne}
-use Rattle.cert_format.proofs.numbers.are_pairs.Given as goal
-
-abbrev pub invariant-loop-n : goal.invariant-loop-n
-invariant-loop-n l = (k : ℕ) → k < l.n → SpellsOne l.first (get_or l.words (l.fn.from + 2 * k) []) × SpellsOne l.second (get_or l.words (l.fn.from + 2 * k + 1) [])

@@ -1,0 +1,11 @@
+pub mod Rows
+pub mod Accepted
+pub mod NoneRead
+pub mod Rests
+pub mod Fields
+pub mod WideWords
+pub mod Names
+pub mod PriceRanges
+pub mod Visits
+pub mod Pairs
+pub mod Runs
