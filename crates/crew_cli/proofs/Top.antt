@@ -29,10 +29,10 @@ use Rattle.trial_command.specs.Says.{RunsTrial, SaysLine, SaysLineFront, Nothing
 use Rattle.trial_command.specs.declared.trial.TrialEnded.{TrialEnded}
 use Rattle.trial_command.specs.declared.trial.TrialEnded.TheVariants as trial
 use Rattle.trial_command.specs.declared.words.Trial.{Trial as TrialWords}
-use Rattle.crew_cli.specs.Run.{Answers, AnyInput, AreDossiers, DaySays, DossiersSay, StatusSays, TrialSays, IsFine, day_ends_with, dossiers_end_with, trial_ends_with}
+use Rattle.crew_cli.specs.Run.{Answers, AreDossiers, DaySays, DossiersSay, TrialSays, of_trial as trial_promises, over_days, over_dossiers, promises_of}
 use Rattle.crew_cli.specs.Status.{dossiers_status, day_status, trial_status, is_done}
 use Rattle.crew_cli.specs.declared.run.Command.{Command}
-use Rattle.crew_cli.specs.declared.run.Command.TheVariants.{Check, Rosters, Apply, Day, Trial}
+use Rattle.crew_cli.specs.declared.run.Command.TheVariants.{Check, Rosters, Why, Apply, Day, Trial}
 use Rattle.crew_cli.specs.declared.status.Status.{Status}
 use Rattle.crew_cli.specs.declared.status.Status.TheVariants as status
 
@@ -62,9 +62,9 @@ module _ {S K : Type 0} (source : SourceTells S) (sink : SinkTells K) (src later
   tells_write t to from = writes_then sink out out new (λ fault. fault) (writes_none sink out) t to from
 
   -- a command over dossiers answers by the status of its end
-  pub dossiers_answer : {E : Type 0} (text : Dossier → List ℕ) (ended : Result DossiersEnded E) → ReadsDossiers source sink text src later out new ended
-      → Answers source sink (DossiersSay text) dossiers_end_with true AreDossiers src later out new (dossiers_status ended)
-  dossiers_answer text (Ok dossiers.Done) r = record {
+  pub dossiers_answer : {E : Type 0} (word : List ℕ) (text : Dossier → List ℕ) (ended : Result DossiersEnded E) → ReadsDossiers source sink text src later out new ended
+      → Answers source sink (over_dossiers word text) src later out new (dossiers_status ended)
+  dossiers_answer word text (Ok dossiers.Done) r = record {
     says = r.says;
     part = r.front;
     ends = refl;
@@ -74,7 +74,7 @@ module _ {S K : Type 0} (source : SourceTells S) (sink : SinkTells K) (src later
     writes = tells_write r.writes (λ e. absurd (cc)) (λ e. absurd (cc));
     complete = if_some (source.left src) _ (λ input fine nr nw. inl refl);
   }
-  dossiers_answer text (Ok dossiers.No) r = record {
+  dossiers_answer word text (Ok dossiers.No) r = record {
     says = r.says;
     part = r.front;
     ends = refl;
@@ -84,7 +84,7 @@ module _ {S K : Type 0} (source : SourceTells S) (sink : SinkTells K) (src later
     writes = tells_write r.writes (λ e. absurd (cc)) (λ e. absurd (cc));
     complete = no_is_not_fine text (source.left src) (sink.got out) (sink.got new) _ _ _ r.says;
   }
-  dossiers_answer text (Ok dossiers.ReadFault) r = record {
+  dossiers_answer word text (Ok dossiers.ReadFault) r = record {
     says = r.says;
     part = r.front;
     ends = refl;
@@ -94,7 +94,7 @@ module _ {S K : Type 0} (source : SourceTells S) (sink : SinkTells K) (src later
     writes = tells_write r.writes (λ e. absurd (cc)) (λ e. absurd (cc));
     complete = if_some (source.left src) _ (λ input fine nr nw. absurd (nr (r.reads.cause refl)));
   }
-  dossiers_answer text (Ok dossiers.WriteFault) r = record {
+  dossiers_answer word text (Ok dossiers.WriteFault) r = record {
     says = r.says;
     part = r.front;
     ends = refl;
@@ -104,7 +104,7 @@ module _ {S K : Type 0} (source : SourceTells S) (sink : SinkTells K) (src later
     writes = tells_write r.writes (λ _. refl) (λ _. refl);
     complete = if_some (source.left src) _ (λ input fine nr nw. absurd (nw (r.writes.cause refl)));
   }
-  dossiers_answer text (Err fault) r = record {
+  dossiers_answer word text (Err fault) r = record {
     says = r.memory;
     part = r.front;
     ends = refl;
@@ -121,9 +121,9 @@ module _ {S K : Type 0} (source : SourceTells S) (sink : SinkTells K) (src later
       of_bytes_weaker (source.left src) (sink.got out) (sink.got new) (SaysAt output ended (source.left later)) (SaysOutputPart change_stop (TextsOf output)) (part_of output ended (source.left later))
 
   -- a command over days answers by the status of its end
-  pub day_answers : {E : Type 0} (output : DayOutput) (ended : Result DayEnded E) → ReadsDay source sink output src later out new ended
-      → Answers source sink (DaySays output) (day_ends_with output) true (IsFineDay change_stop (MayHave output)) src later out new (day_status ended)
-  day_answers output (Ok day.Done) r = record {
+  pub day_answers : {E : Type 0} (word : List ℕ) (output : DayOutput) (ended : Result DayEnded E) → ReadsDay source sink output src later out new ended
+      → Answers source sink (over_days word output) src later out new (day_status ended)
+  day_answers word output (Ok day.Done) r = record {
     says = r.says;
     part = day_part output day.Done r.says;
     ends = refl;
@@ -133,7 +133,7 @@ module _ {S K : Type 0} (source : SourceTells S) (sink : SinkTells K) (src later
     writes = tells_write r.writes (λ e. absurd (cc)) (λ e. absurd (cc));
     complete = if_some (source.left src) _ (λ input fine nr nw. inl refl);
   }
-  day_answers output (Ok day.Unproved) r = record {
+  day_answers word output (Ok day.Unproved) r = record {
     says = r.says;
     part = day_part output day.Unproved r.says;
     ends = r.ends;
@@ -143,7 +143,7 @@ module _ {S K : Type 0} (source : SourceTells S) (sink : SinkTells K) (src later
     writes = tells_write r.writes (λ e. absurd (cc)) (λ e. absurd (cc));
     complete = if_some (source.left src) _ (λ input fine nr nw. inl refl);
   }
-  day_answers output (Ok day.Refused) r = record {
+  day_answers word output (Ok day.Refused) r = record {
     says = r.says;
     part = day_part output day.Refused r.says;
     ends = refl;
@@ -153,7 +153,7 @@ module _ {S K : Type 0} (source : SourceTells S) (sink : SinkTells K) (src later
     writes = tells_write r.writes (λ e. absurd (cc)) (λ e. absurd (cc));
     complete = refused_is_not_fine change_stop (MayHave output) (source.left src) _ _ _ (r.refused refl);
   }
-  day_answers output (Ok day.ReadFault) r = record {
+  day_answers word output (Ok day.ReadFault) r = record {
     says = r.says;
     part = day_part output day.ReadFault r.says;
     ends = refl;
@@ -163,7 +163,7 @@ module _ {S K : Type 0} (source : SourceTells S) (sink : SinkTells K) (src later
     writes = tells_write r.writes (λ e. absurd (cc)) (λ e. absurd (cc));
     complete = if_some (source.left src) _ (λ input fine nr nw. absurd (nr (r.reads.cause refl)));
   }
-  day_answers output (Ok day.WriteFault) r = record {
+  day_answers word output (Ok day.WriteFault) r = record {
     says = r.says;
     part = day_part output day.WriteFault r.says;
     ends = refl;
@@ -173,7 +173,7 @@ module _ {S K : Type 0} (source : SourceTells S) (sink : SinkTells K) (src later
     writes = tells_write r.writes (λ _. refl) (λ _. refl);
     complete = if_some (source.left src) _ (λ input fine nr nw. absurd (nw (r.writes.cause refl)));
   }
-  day_answers output (Err fault) r = record {
+  day_answers word output (Err fault) r = record {
     says = r.memory;
     part = of_bytes_weaker (source.left src) (sink.got out) (sink.got new) (SaysFirstRounds change_stop (TextsOf output)) (SaysOutputPart change_stop (TextsOf output))
         (first_are_part change_stop (TextsOf output)) r.memory;
@@ -201,7 +201,7 @@ none_read source src none = reads_then source src src src (λ fault. fault) (rea
 -- a trial answers by the status of its end, and leaves its source as it was
 module _ {S K : Type 0} (source : SourceTells S) (sink : SinkTells K) (src : S) (out new : K) where
   pub trial_answers : {E : Type 0} (t : TrialWords) (ended : Result TrialEnded E) → RunsTrial sink t out new ended
-      → Answers source sink (TrialSays t) trial_ends_with false AnyInput src src out new (trial_status ended)
+      → Answers source sink (trial_promises t) src src out new (trial_status ended)
   trial_answers t (Ok trial.Done) r = record {
     says = of_trial source sink src src out new (λ input. SaysLine t IsProved) (λ input written says. says) r.says;
     part = of_trial source sink src src out new (λ input. SaysLineFront t) (λ input written says. line_is_front t IsProved written says) r.says;
@@ -280,10 +280,11 @@ trial_done t status.Memory unseen input written Full says write = inr (inl refl)
 trial_done t status.Unproved unseen input written Full says write = inl refl
 
 pub fine_is_done : (command : Command) (answer : Status) (unseen : Option (List ℕ)) (input written : List ℕ) (Full : Type 0)
-    → StatusSays command answer unseen input written → IsFine command input → answer ≢ status.ReadFault → (answer ≡ status.WriteFault → Full)
+    → (promises_of command).says answer unseen input written → (promises_of command).fine input → answer ≢ status.ReadFault → (answer ≡ status.WriteFault → Full)
     → IsTrue (is_done answer) ⊎ (answer ≡ status.Memory) ⊎ ((answer ≡ status.WriteFault) × Full)
 fine_is_done Check answer unseen input written Full says fine read write = dossiers_done _ answer unseen input written Full says fine read write
 fine_is_done Rosters answer unseen input written Full says fine read write = dossiers_done _ answer unseen input written Full says fine read write
+fine_is_done Why answer unseen input written Full says fine read write = dossiers_done _ answer unseen input written Full says fine read write
 fine_is_done Apply answer unseen input written Full says fine read write = day_done Instances answer unseen input written Full says fine read write
 fine_is_done Day answer unseen input written Full says fine read write = day_done Dossiers answer unseen input written Full says fine read write
 fine_is_done (Trial t) answer unseen input written Full says fine read write = trial_done t answer unseen input written Full says write

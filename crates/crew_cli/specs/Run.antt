@@ -9,7 +9,7 @@ use Rattle.crew_io.specs.declared.source.Source.{Ghosts as SourceTells}
 use Rattle.dossier_terms.specs.Dossier.{Dossier}
 use Rattle.dossier_terms.specs.Texts.{yes_line}
 use Rattle.dossier_terms.specs.Accepted.{IsAccepted}
-use Rattle.dossier_commands.specs.Outputs.{roster_of}
+use Rattle.dossier_commands.specs.Outputs.{roster_of, why_of}
 use Rattle.dossier_commands.specs.Says.{SaysYes, SaysNo, SaysFront, SaysReadFault, SaysTexts}
 use Rattle.day_commands.specs.Rounds.{IsFineDay, SaysRounds, IsRefusedOutput, SaysOutputPart, SaysFirstRounds, SaysNothingRead, change_stop}
 use Rattle.day_commands.specs.Outputs.{MayHave, TextsOf, ProvedOf, UnprovedOf, are_dossiers}
@@ -21,26 +21,9 @@ use Rattle.trial_command.specs.Says.{SaysLine, SaysLineFront}
 use Rattle.trial_command.specs.declared.words.Trial.{Trial as TrialWords}
 use Rattle.crew_cli.specs.Status.{is_done}
 use Rattle.crew_cli.specs.declared.run.Command.{Command}
-use Rattle.crew_cli.specs.declared.run.Command.TheVariants.{Check, Rosters, Apply, Day, Trial}
+use Rattle.crew_cli.specs.declared.run.Command.TheVariants.{Check, Rosters, Why, Apply, Day, Trial}
 use Rattle.crew_cli.specs.declared.status.Status.{Status}
 use Rattle.crew_cli.specs.declared.status.Status.TheVariants.{Done, No, Words, Refused, ReadFault, WriteFault, Memory, Unproved}
-
--- the words of a command
-abbrev pub command_words : Command → List (List ℕ)
-command_words Check = codes "check" ∷ []
-command_words Rosters = codes "rosters" ∷ []
-command_words Apply = codes "apply" ∷ []
-command_words Day = codes "day" ∷ []
-command_words (Trial trial) = trial_words trial
-
--- the numbers of a command are in their ranges
-abbrev pub IsInRange : Command → Type 0
-IsInRange (Trial trial) = IsTrial trial
-IsInRange _ = Unit {0}
-
--- the words ask for the command: they are its words, and its numbers are in their ranges
-abbrev pub AskFor : Command → List (List ℕ) → Type 0
-AskFor command words = IsInRange command × (words ≡ command_words command)
 
 -- what a status says of a command over dossiers, which writes this text for each good one; no other status comes
 abbrev pub DossiersSay : (Dossier → List ℕ) → Status → Option (List ℕ) → List ℕ → List ℕ → Type 0
@@ -69,14 +52,6 @@ TrialSays trial WriteFault unseen input written = SaysLineFront trial written
 TrialSays trial Memory unseen input written = written ≡ []
 TrialSays trial _ unseen input written = ⊥
 
--- what a status of a command says of the input, of what its source has left, and of what was written
-abbrev pub StatusSays : Command → Status → Option (List ℕ) → List ℕ → List ℕ → Type 0
-StatusSays Check = DossiersSay yes_line
-StatusSays Rosters = DossiersSay roster_of
-StatusSays Apply = DaySays Instances
-StatusSays Day = DaySays Dossiers
-StatusSays (Trial trial) = TrialSays trial
-
 -- the statuses that a command over dossiers can end with
 abbrev pub dossiers_end_with : Status → Bool
 dossiers_end_with Words = false
@@ -99,19 +74,6 @@ trial_ends_with WriteFault = true
 trial_ends_with Memory = true
 trial_ends_with _ = false
 
--- the statuses that a command can end with
-abbrev pub ends_with : Command → Status → Bool
-ends_with Check = dossiers_end_with
-ends_with Rosters = dossiers_end_with
-ends_with Apply = day_ends_with Instances
-ends_with Day = day_ends_with Dossiers
-ends_with (Trial trial) = trial_ends_with
-
--- the command reads its source
-abbrev pub reads_input : Command → Bool
-reads_input (Trial trial) = false
-reads_input _ = true
-
 -- the bytes are accepted as some dossiers
 abbrev pub AreDossiers : List ℕ → Type 0
 AreDossiers input = (dossiers : List Dossier) × IsAccepted input dossiers
@@ -120,26 +82,74 @@ AreDossiers input = (dossiers : List Dossier) × IsAccepted input dossiers
 abbrev pub AnyInput : List ℕ → Type 0
 AnyInput input = Unit {0}
 
--- what a command takes to its end: bytes that are accepted as dossiers, or a day of which it refuses no record, whichever
--- legal plans its rounds get; any, where it reads none
-abbrev pub IsFine : Command → List ℕ → Type 0
-IsFine Check = AreDossiers
-IsFine Rosters = AreDossiers
-IsFine Apply = IsFineDay change_stop (MayHave Instances)
-IsFine Day = IsFineDay change_stop (MayHave Dossiers)
-IsFine (Trial trial) = AnyInput
+-- what is promised of a command: the words that ask for it, where its numbers are in their ranges; what each status says of the
+-- input, of what its source has left, and of what was written; the statuses that it can end with; whether it reads its source;
+-- and the input that it takes to its end
+pub record Promises : Type 1 where
+  pub words : List (List ℕ)
+  pub in_range : Type 0
+  pub says : Status → Option (List ℕ) → List ℕ → List ℕ → Type 0
+  pub ends_with : Status → Bool
+  pub reads : Bool
+  pub fine : List ℕ → Type 0
 
--- a command that has said this, can end with these statuses, reads its source or not, and takes such input to its end: what
--- its status says, and what was written whatever the status; that what is done was read to its end, or the source is as it was;
--- what is told of faults; and that input that is fine is done, or memory was wanting, where no count of faults rose
-pub record Answers {S K : Type 0} (source : SourceTells S) (sink : SinkTells K) (Says : Status → Option (List ℕ) → List ℕ → List ℕ → Type 0) (can_be : Status → Bool) (reads_it : Bool) (Fine : List ℕ → Type 0)
-    (src later : S) (out new : K) (status : Status) : Type 0 where
-  pub says : OfBytes (source.left src) (sink.got out) (sink.got new) (Says status (source.left later))
-  pub part : OfBytes (source.left src) (sink.got out) (sink.got new) (Says WriteFault (source.left later))
-  pub ends : IsTrue (can_be status)
-  pub ended : IsTrue reads_it → IsTrue (is_done status) → HasEnded (source.left later)
-  pub unread : reads_it ≡ false → later ≡ src
+-- a command over dossiers, which writes this text for each good one: it takes bytes that are accepted as dossiers
+abbrev pub over_dossiers : List ℕ → (Dossier → List ℕ) → Promises
+over_dossiers word text = record {
+  words = word ∷ [];
+  in_range = Unit {0};
+  says = DossiersSay text;
+  ends_with = dossiers_end_with;
+  reads = true;
+  fine = AreDossiers;
+}
+
+-- a command over days, which writes this of each round: it takes a day of which it refuses no record, whichever legal plans its
+-- rounds get
+abbrev pub over_days : List ℕ → DayOutput → Promises
+over_days word output = record {
+  words = word ∷ [];
+  in_range = Unit {0};
+  says = DaySays output;
+  ends_with = day_ends_with output;
+  reads = true;
+  fine = IsFineDay change_stop (MayHave output);
+}
+
+-- a trial, which reads nothing
+abbrev pub of_trial : TrialWords → Promises
+of_trial trial = record {
+  words = trial_words trial;
+  in_range = IsTrial trial;
+  says = TrialSays trial;
+  ends_with = trial_ends_with;
+  reads = false;
+  fine = AnyInput;
+}
+
+-- the commands, with what is promised of each
+abbrev pub promises_of : Command → Promises
+promises_of Check = over_dossiers (codes "check") yes_line
+promises_of Rosters = over_dossiers (codes "rosters") roster_of
+promises_of Why = over_dossiers (codes "why") why_of
+promises_of Apply = over_days (codes "apply") Instances
+promises_of Day = over_days (codes "day") Dossiers
+promises_of (Trial trial) = of_trial trial
+
+-- the words ask for the command: they are its words, and its numbers are in their ranges
+abbrev pub AskFor : Command → List (List ℕ) → Type 0
+AskFor command words = (promises_of command).in_range × (words ≡ (promises_of command).words)
+
+-- a call keeps what is promised of a command: what its status says, and what was written whatever the status; that it ends with one
+-- of its statuses; that what is done was read to its end, or the source is as it was; what is told of faults; and that input that
+-- is fine is done, or memory was wanting, where no count of faults rose
+pub record Answers {S K : Type 0} (source : SourceTells S) (sink : SinkTells K) (promises : Promises) (src later : S) (out new : K) (status : Status) : Type 0 where
+  pub says : OfBytes (source.left src) (sink.got out) (sink.got new) (promises.says status (source.left later))
+  pub part : OfBytes (source.left src) (sink.got out) (sink.got new) (promises.says WriteFault (source.left later))
+  pub ends : IsTrue (promises.ends_with status)
+  pub ended : IsTrue promises.reads → IsTrue (is_done status) → HasEnded (source.left later)
+  pub unread : promises.reads ≡ false → later ≡ src
   pub reads : TellsReads source src later (status ≡ ReadFault)
   pub writes : TellsWrites sink out new (status ≡ WriteFault)
-  pub complete : IfSome (source.left src) (λ input. Fine input
+  pub complete : IfSome (source.left src) (λ input. promises.fine input
       → (Rose (source.faults src) (source.faults later) → ⊥) → (Rose (sink.faults out) (sink.faults new) → ⊥) → IsTrue (is_done status) ⊎ (status ≡ Memory))

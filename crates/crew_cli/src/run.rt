@@ -1,12 +1,10 @@
 // The top call.
-ghost use Rattle.std.specs.Prelude.{◌≡◌, ◌≢◌, ◌≤◌, ◌↔◌, ◌⊎◌, [], ◌∷◌, true, false, map, string_bytes, IfSome, IsTrue, MatchOption};
+ghost use Rattle.std.specs.Prelude.{◌≡◌, ◌≢◌, ◌≤◌, ◌↔◌, ◌⊎◌, ℕ, List, [], ◌∷◌, false, map, string_bytes, IfSome, IsTrue, MatchOption};
 ghost use Rattle.crew_io.specs.Io.{HasEnded, Rose};
 ghost use Rattle.crew_io.specs.Bytes.{OfBytes};
 ghost use Rattle.dossier_commands.specs.Outputs.{output_of};
-ghost use Rattle.day_commands.specs.Outputs.{MayHave};
-ghost use Rattle.day_commands.specs.Rounds.{IsFineDay, change_stop};
 ghost use Rattle.crew_cli.specs.Status.{dossiers_status, day_status, trial_status, is_done};
-ghost use Rattle.crew_cli.specs.Run.{Answers, AskFor, AreDossiers, DaySays, DossiersSay, StatusSays, IsFine, IsInRange, day_ends_with, dossiers_end_with, ends_with, reads_input};
+ghost use Rattle.crew_cli.specs.Run.{Answers, AskFor, over_days, over_dossiers, promises_of};
 
 pub use crate::status::Status;
 use crew_io::sink::Sink;
@@ -23,6 +21,8 @@ pub enum Command {
     Check,
     /// `rosters`: read dossiers, and write the roster of each good one.
     Rosters,
+    /// `why`: read dossiers, and write of each good one what is in the way of its open tasks.
+    Why,
     /// `apply`: read a day, and write the instance of each round.
     Apply,
     /// `day`: read a day, and write a dossier of each round.
@@ -50,6 +50,9 @@ impl Command {
         }
         if asks_for(words, "rosters") {
             return Some(Command::Rosters);
+        }
+        if asks_for(words, "why") {
+            return Some(Command::Why);
         }
         if asks_for(words, "apply") {
             return Some(Command::Apply);
@@ -101,28 +104,21 @@ fn of_trial(ended: Result<TrialEnded, AllocError>) -> Status
 }
 
 /// Reads dossiers, and writes what is asked for of each good one.
-fn over_dossiers<S: Source, K: Sink>(
-    alloc: Global,
-    output: Output,
-    src: &mut S,
-    out: &mut K,
-) -> Status
-    ensures { Answers S.Source K.Sink (DossiersSay (output_of output)) dossiers_end_with
-        true AreDossiers
+fn read_all<S: Source, K: Sink>(alloc: Global, output: Output, src: &mut S, out: &mut K) -> Status
+    ensures { (word : List ℕ) → Answers S.Source K.Sink (over_dossiers word (output_of output))
         src.old src.new out.old out.new result }
 {
     of_dossiers(read_dossiers(alloc, output, src, out))
 }
 
 /// Reads a day, and writes what is asked for of each round.
-fn over_day<S: Source, K: Sink>(
+fn plan_day<S: Source, K: Sink>(
     alloc: Global,
     output: DayOutput,
     src: &mut S,
     out: &mut K,
 ) -> Status
-    ensures { Answers S.Source K.Sink (DaySays output) (day_ends_with output) true
-        (IsFineDay change_stop (MayHave output))
+    ensures { (word : List ℕ) → Answers S.Source K.Sink (over_days word output)
         src.old src.new out.old out.new result }
 {
     of_day(write_rounds(alloc, output, src, out))
@@ -130,23 +126,24 @@ fn over_day<S: Source, K: Sink>(
 
 /// Does what a command asks for, but for the flush.
 fn answer<S: Source, K: Sink>(alloc: Global, command: Command, src: &mut S, out: &mut K) -> Status
-    requires { IsInRange command }
-    ensures { Answers S.Source K.Sink (StatusSays command) (ends_with command) (reads_input command)
-        (IsFine command)
+    requires { (promises_of command).in_range }
+    ensures { Answers S.Source K.Sink (promises_of command)
         src.old src.new out.old out.new result }
 {
     match command {
-        Command::Check => over_dossiers(alloc, Output::YesLines, src, out),
-        Command::Rosters => over_dossiers(alloc, Output::Rosters, src, out),
-        Command::Apply => over_day(alloc, DayOutput::Instances, src, out),
-        Command::Day => over_day(alloc, DayOutput::Dossiers, src, out),
+        Command::Check => read_all(alloc, Output::YesLines, src, out),
+        Command::Rosters => read_all(alloc, Output::Rosters, src, out),
+        Command::Why => read_all(alloc, Output::Why, src, out),
+        Command::Apply => plan_day(alloc, DayOutput::Instances, src, out),
+        Command::Day => plan_day(alloc, DayOutput::Dossiers, src, out),
         Command::Trial(trial) => of_trial(write_trial(alloc, trial, out)),
     }
 }
 
 /// Does what the words ask for. With `check` it reads one dossier after another, and writes a line `yes` with its
 /// counts for each good one; at the first line that is refused it writes a line `no` with its number and the reason,
-/// and ends. With `rosters` it does the same, and writes the roster of each good dossier in place of its line. With
+/// and ends. With `rosters` it does the same, and writes the roster of each good dossier in place of its line; with `why` what
+/// is in the way of its open tasks. With
 /// `apply` it reads a day, and writes the instance of each round, up to the first record that is refused, and a line
 /// `refused` for that one. With `day` it does the same, and plans each round: it writes a dossier of it, which `check` says
 /// yes to. With `trial` it reads nothing: it plans a generated day, and writes one line with the numbers of its dossier. Other
@@ -155,18 +152,18 @@ pub fn run<S: Source, K: Sink>(alloc: Global, words: &[String], src: &mut S, out
     // Each status tells what the input is and what was written, also at a fault.
     ensures says { (command : Command) → AskFor command (map (λ w. string_bytes w) words.now)
         → OfBytes (S.left src.old) (K.got out.old) (K.got out.new)
-        (StatusSays command result (S.left src.new)) }
+        ((promises_of command).says result (S.left src.new)) }
 
     // Each command ends with one of its own statuses, whatever the source and the sink tell.
     ensures ends { (command : Command) → AskFor command (map (λ w. string_bytes w) words.now)
-        → IsTrue (ends_with command result) }
+        → IsTrue ((promises_of command).ends_with result) }
 
     // What is done was read to its end, but by a command that reads nothing: it leaves the source as it was.
     ensures ended { (command : Command) → AskFor command (map (λ w. string_bytes w) words.now)
-        → IsTrue (reads_input command)
+        → IsTrue (promises_of command).reads
         → IsTrue (is_done result) → HasEnded (S.left src.new) }
     ensures unread { (command : Command) → AskFor command (map (λ w. string_bytes w) words.now)
-        → reads_input command ≡ false
+        → (promises_of command).reads ≡ false
         → src.new ≡ src.old }
 
     // Without a write fault, all that was written is passed on.
@@ -192,11 +189,11 @@ pub fn run<S: Source, K: Sink>(alloc: Global, words: &[String], src: &mut S, out
     ensures read_says { (command : Command) → AskFor command (map (λ w. string_bytes w) words.now)
         → S.faults src.new ≢ S.faults src.old
         → OfBytes (S.left src.old) (K.got out.old) (K.got out.new)
-        (StatusSays command Status.ReadFault (S.left src.new)) }
+        ((promises_of command).says Status.ReadFault (S.left src.new)) }
 
     // Where no count of faults rises, each input that is fine is done, or memory was wanting.
     ensures complete { (command : Command) → AskFor command (map (λ w. string_bytes w) words.now)
-        → IfSome (S.left src.old) (λ input. IsFine command input
+        → IfSome (S.left src.old) (λ input. (promises_of command).fine input
         → (Rose (S.faults src.old) (S.faults src.new) → ⊥)
         → (Rose (K.faults out.old) (K.faults out.new) → ⊥)
         → IsTrue (is_done result) ⊎ (result ≡ Status.Memory)) }

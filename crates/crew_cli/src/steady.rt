@@ -1,7 +1,7 @@
 // The top call over sources and sinks in memory, and over such as do not fail.
 ghost use Rattle.std.specs.Prelude.{◌≡◌, ◌≢◌, ◌≤◌, ◌↔◌, ◌⊎◌, ◌++◌, ℕ, List, Some, [], false, length, map, string_bytes, IsTrue};
 ghost use Rattle.crew_io.specs.Io.{Rose};
-ghost use Rattle.crew_cli.specs.Run.{AskFor, StatusSays, IsFine, reads_input};
+ghost use Rattle.crew_cli.specs.Run.{AskFor, promises_of};
 ghost use Rattle.crew_cli.specs.Status.{is_done};
 ghost use Rattle.crew_cli.specs.declared.run.Command.{Command};
 
@@ -19,20 +19,20 @@ pub fn run_steady(
 ) -> Status
     // Each status tells what the input is.
     ensures says { (command : Command) → AskFor command (map (λ w. string_bytes w) words.now)
-        → (written : List ℕ) × StatusSays command result (Some src.new.left) src.old.left written }
+        → (written : List ℕ) × (promises_of command).says result (Some src.new.left) src.old.left written }
 
     // Each input that is fine is done, or memory was wanting.
     ensures complete { (command : Command) → AskFor command (map (λ w. string_bytes w) words.now)
-        → IsFine command src.old.left → IsTrue (is_done result) ⊎ (result ≡ Status.Memory) }
+        → (promises_of command).fine src.old.left → IsTrue (is_done result) ⊎ (result ≡ Status.Memory) }
 
     ensures words { (result ≡ Status.Words)
         ↔ ((command : Command) → AskFor command (map (λ w. string_bytes w) words.now) → ⊥) }
     ensures untouched { result ≡ Status.Words → src.new ≡ src.old }
     ensures ended { (command : Command) → AskFor command (map (λ w. string_bytes w) words.now)
-        → IsTrue (reads_input command)
+        → IsTrue (promises_of command).reads
         → IsTrue (is_done result) → src.new.left ≡ [] }
     ensures unread { (command : Command) → AskFor command (map (λ w. string_bytes w) words.now)
-        → reads_input command ≡ false
+        → (promises_of command).reads ≡ false
         → src.new ≡ src.old }
     ensures reads { result ≢ Status.ReadFault }
     ensures writes { result ≢ Status.WriteFault }
@@ -51,16 +51,16 @@ pub fn run_in_memory(
     // Each status tells what the input is and what was written, also at a fault.
     ensures says { (command : Command) → AskFor command (map (λ w. string_bytes w) words.now)
         → (written : List ℕ) × (out.new.got ≡ out.old.got ++ written)
-        × StatusSays command result (Some src.new.left) src.old.left written }
+        × (promises_of command).says result (Some src.new.left) src.old.left written }
 
     ensures words { (result ≡ Status.Words)
         ↔ ((command : Command) → AskFor command (map (λ w. string_bytes w) words.now) → ⊥) }
     ensures untouched { result ≡ Status.Words → (src.new ≡ src.old) × (out.new ≡ out.old) }
     ensures ended { (command : Command) → AskFor command (map (λ w. string_bytes w) words.now)
-        → IsTrue (reads_input command)
+        → IsTrue (promises_of command).reads
         → IsTrue (is_done result) → src.new.left ≡ [] }
     ensures unread { (command : Command) → AskFor command (map (λ w. string_bytes w) words.now)
-        → reads_input command ≡ false
+        → (promises_of command).reads ≡ false
         → src.new ≡ src.old }
 
     // No fault is told where no call is due to fail, of the sink while room is left.
@@ -70,7 +70,7 @@ pub fn run_in_memory(
 
     // Then each input that is fine is done, if memory and room last.
     ensures complete { (command : Command) → AskFor command (map (λ w. string_bytes w) words.now)
-        → IsFine command src.old.left
+        → (promises_of command).fine src.old.left
         → src.old.fails ≡ [] → out.old.fails ≡ []
         → IsTrue (is_done result) ⊎ (result ≡ Status.Memory)
         ⊎ ((result ≡ Status.WriteFault) × (length out.new.got ≡ out.new.room)) }
@@ -85,7 +85,7 @@ pub fn run_in_memory(
     ensures read_says { (command : Command) → AskFor command (map (λ w. string_bytes w) words.now)
         → src.new.faults ≢ src.old.faults
         → (written : List ℕ) × (out.new.got ≡ out.old.got ++ written)
-        × StatusSays command Status.ReadFault (Some src.new.left) src.old.left written }
+        × (promises_of command).says Status.ReadFault (Some src.new.left) src.old.left written }
     ensures source_later { src.old.faults ≤ src.new.faults }
     ensures sink_later { out.old.faults ≤ out.new.faults }
 {

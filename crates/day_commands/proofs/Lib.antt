@@ -3,3 +3,4 @@ pub mod Texts
 pub mod Said
 pub mod Applied
 pub mod Planned
+pub mod Passed

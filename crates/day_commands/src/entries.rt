@@ -1,5 +1,5 @@
 // One entry of a day: what it changes, and what is written of the round that it begins.
-ghost use Rattle.std.specs.Prelude.{◌≡◌, ◌↔◌, [], true, IfOk, IsTrue, None, Ok, OnErr};
+ghost use Rattle.std.specs.Prelude.{◌≡◌, ◌↔◌, [], true, Bool, ℕ, IfOk, IsTrue, None, Ok, OnErr};
 ghost use Rattle.crew_io.specs.Io.{Appended, AppendedPart};
 ghost use Rattle.crew_io.specs.Puts.{TellsWrites};
 ghost use Rattle.dossier_terms.specs.Lines.{instance_text};
@@ -12,6 +12,7 @@ use crate::refused::DayFault;
 use cert_write::write_instance;
 use crew_instance::Instance;
 use crew_io::sink::{Sink, WriteFault};
+use crew_io::source::Failed;
 use day_terms::Entry;
 use flight_changes::{ChangeFault, Desk};
 use replan::{Done, Session, SessionFault};
@@ -119,8 +120,8 @@ impl Taker {
         }
     }
 
-    /// Takes an entry.
-    pub(crate) fn take<K: Sink>(&mut self, entry: &Entry, out: &mut K) -> Result<Taken, AllocError>
+    /// Takes an entry, and writes what is asked for of the round that it begins, if it begins one.
+    fn write<K: Sink>(&mut self, entry: &Entry, out: &mut K) -> Result<Taken, AllocError>
         requires range { IsInRange entry.now }
         requires open_yet { (planning_of self.old).failed ≡ None }
         requires unknown { (planning_of self.old).day.plans ≡ [] }
@@ -134,6 +135,34 @@ impl Taker {
         match self {
             Taker::Desk(desk) => apply_entry(desk, entry, out),
             Taker::Session(session) => plan_entry(session, entry, out),
+        }
+    }
+
+    /// Takes an entry, writes what is asked for of the round that it begins, if it begins one, and passes it on, so that a round is
+    /// where it goes as soon as it is done.
+    pub(crate) fn take<K: Sink>(&mut self, entry: &Entry, out: &mut K) -> Result<Taken, AllocError>
+        requires range { IsInRange entry.now }
+        requires open_yet { (planning_of self.old).failed ≡ None }
+        requires unknown { (planning_of self.old).day.plans ≡ [] }
+        ensures taken { IfOk result (λ taken. IsTakenSo (output_of self.old)
+            (planning_of self.old) entry.now taken (planning_of self.new) (K.got out.old)
+            (K.got out.new)) }
+        ensures passed { (nodes : ℕ) (proved : Bool) → entry.now ≡ Entry.Plan nodes
+            → result ≡ Ok (Taken.Whole proved) → K.held out.new ≡ [] }
+        ensures output { output_of self.new ≡ output_of self.old }
+        ensures nothing { OnErr result (K.got out.new ≡ K.got out.old) }
+        ensures tells { TellsWrites K.Sink out.old out.new (result ≡ Ok Taken.WriteFault) }
+    {
+        let taken = self.write(entry, out)?;
+        let Taken::Whole { proved } = taken else {
+            return Ok(taken);
+        };
+        let Entry::Plan { .. } = *entry else {
+            return Ok(taken);
+        };
+        match out.flush() {
+            Ok(()) => Ok(Taken::Whole { proved }),
+            Err(Failed) => Ok(Taken::WriteFault),
         }
     }
 }

@@ -19,3 +19,5 @@ mod lines;
 mod rosters;
 #[cfg(test)]
 mod trees;
+#[cfg(test)]
+mod whys;

@@ -1,7 +1,7 @@
 use Rattle.std.proofs.Common.{◌≤◌, ℕ, List, Option, inl, inr, subst, sym, refl, arith}
 use Rattle.crew_io.specs.Bytes.{OfBytes}
 use Rattle.crew_io.specs.Io.{Rose}
-use Rattle.crew_cli.specs.Run.{StatusSays}
+use Rattle.crew_cli.specs.Run.{promises_of}
 use Rattle.crew_cli.specs.declared.run.Command.{Command}
 use Rattle.crew_cli.specs.declared.status.Status.TheVariants.{WriteFault}
 use Rattle.crew_cli.proofs.Asked.{one_command}
@@ -19,16 +19,16 @@ returns-in-Ok-clause-says g c = λ command asks.
     let got = g.K.Sink.got c.args.out.now in
     let unseen = g.S.Source.left c.answer-status.new.src in
     let status = c.answer-status.result in
-    subst (λ (x : Command). OfBytes left got (g.K.Sink.got c.flush.new.self) (StatusSays x status unseen)) (one_command _ c.in-Some.command command c.in-Some.ensures asks)
-    (subst (λ (later : Option (List ℕ)). OfBytes left got later (StatusSays c.in-Some.command status unseen)) (sym c.flush.ensures.same) c.answer-status.ensures.says)
+    subst (λ (x : Command). OfBytes left got (g.K.Sink.got c.flush.new.self) ((promises_of x).says status unseen)) (one_command _ c.in-Some.command command c.in-Some.ensures asks)
+    (subst (λ (later : Option (List ℕ)). OfBytes left got later ((promises_of c.in-Some.command).says status unseen)) (sym c.flush.ensures.same) c.answer-status.ensures.says)
 
 pub returns-in-Err-clause-says : goal.returns-in-Err-clause-says
 returns-in-Err-clause-says g c = λ command asks.
     let left = g.S.Source.left c.args.src.now in
     let got = g.K.Sink.got c.args.out.now in
     let unseen = g.S.Source.left c.answer-status.new.src in
-    subst (λ (x : Command). OfBytes left got (g.K.Sink.got c.flush.new.self) (StatusSays x WriteFault unseen)) (one_command _ c.in-Some.command command c.in-Some.ensures asks)
-    (subst (λ (later : Option (List ℕ)). OfBytes left got later (StatusSays c.in-Some.command WriteFault unseen)) (sym c.flush.ensures.same) c.answer-status.ensures.part)
+    subst (λ (x : Command). OfBytes left got (g.K.Sink.got c.flush.new.self) ((promises_of x).says WriteFault unseen)) (one_command _ c.in-Some.command command c.in-Some.ensures asks)
+    (subst (λ (later : Option (List ℕ)). OfBytes left got later ((promises_of c.in-Some.command).says WriteFault unseen)) (sym c.flush.ensures.same) c.answer-status.ensures.part)
 
 pub returns-in-Err-clause-complete : goal.returns-in-Err-clause-complete
 returns-in-Err-clause-complete g c = λ command asks.
