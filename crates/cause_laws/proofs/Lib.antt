@@ -1,1 +1,4 @@
+mod Gaps
+mod Duality
+mod LooseBound
 mod Shown

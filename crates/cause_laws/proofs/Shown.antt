@@ -7,8 +7,8 @@ use Rattle.crew_terms.specs.Branches.{LeafNode, SplitNode}
 use Rattle.crew_terms.specs.Tree.{child}
 use Rattle.crew_terms.specs.declared.Side.TheVariants.{First, Second}
 use Rattle.crew_terms.specs.declared.TheConstants.{D}
-use Rattle.search_terms.specs.declared.TheConstants.{MARGIN}
-use Rattle.search_terms.specs.Shares.{FractionalChoice, IsFractional, IsLoose}
+use Rattle.share_terms.specs.declared.TheConstants.{MARGIN}
+use Rattle.share_terms.specs.Shares.{FractionalChoice, IsFractional, IsLoose}
 use Rattle.dossier_terms.specs.declared.DossierForm.{DossierForm}
 use Rattle.dossier_terms.specs.declared.DossierForm.TheVariants.{One, Two}
 use Rattle.dossier_terms.specs.Causes.{Cause, NoCause, Loose, Overflowed, Spent, IsCauseOf, IsCauseIn, choice_of}

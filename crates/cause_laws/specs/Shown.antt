@@ -6,7 +6,7 @@ use Rattle.crew_terms.specs.Branches.{LeafNode, SplitNode}
 use Rattle.crew_terms.specs.Tree.{child}
 use Rattle.crew_terms.specs.declared.Side.TheVariants.{First, Second}
 use Rattle.crew_terms.specs.declared.TheConstants.{D}
-use Rattle.search_terms.specs.declared.TheConstants.{MARGIN}
+use Rattle.share_terms.specs.declared.TheConstants.{MARGIN}
 use Rattle.dossier_terms.specs.Causes.{Cause, NoCause, Loose, Overflowed, Spent}
 use Rattle.dossier_terms.specs.Dossier.{Written}
 

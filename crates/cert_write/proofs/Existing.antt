@@ -5,7 +5,7 @@ use Rattle.std.specs.List.{filter, range_with_len}
 use Rattle.std.proofs.lemmas.List.{take_all}
 use Rattle.std.proofs.lemmas.List.FromFn.{length-map-range_with_len, get_or-map-range_with_len}
 use Rattle.crew_terms.specs.Branches.{LeafNode, SplitNode, Claim, Bare, Open, Closed, splits}
-use Rattle.crew_terms.specs.Leaf.{Prices, IsWorth, rho_of}
+use Rattle.crew_terms.specs.Leaf.{Prices, IsWorth, rho_of, earned}
 use Rattle.crew_terms.specs.Limits.{Limits, IsPermittedVisit, root_limits, tasks_in, teams_in}
 use Rattle.crew_terms.specs.Minutes.{first_minute, minute_count, open_tasks, priced, required_teams}
 use Rattle.crew_terms.specs.Rules.{IsInstance}
@@ -27,11 +27,11 @@ use Rattle.cert_write.proofs.TeamTables.{MinutesLaw}
 -- a team has a worth, and from each visit on a greatest sum
 abbrev pub HaveBests : Type 0
 HaveBests = (n : Limits) (k : ℕ) (p : Prices) → IsInstance n.instance
-    → (worth : ℤ) × (phi : ℕ → ℕ → ℤ) × IsWorth n k p worth × ((j t : ℕ) → IsPermittedVisit n k j t → IsBest n k p j t (phi j t))
+    → (worth : ℤ) × (phi : ℕ → ℕ → ℤ) × IsWorth n k (earned p k) worth × ((j t : ℕ) → IsPermittedVisit n k j t → IsBest n k (earned p k) j t (phi j t))
 
 -- ---- the tables of a leaf
 
-module _ (law : MinutesLaw) (n : Limits) (k : ℕ) (p : Prices) (phi : ℕ → ℕ → ℤ) (best : (j t : ℕ) → IsPermittedVisit n k j t → IsBest n k p j t (phi j t)) where
+module _ (law : MinutesLaw) (n : Limits) (k : ℕ) (p : Prices) (phi : ℕ → ℕ → ℤ) (best : (j t : ℕ) → IsPermittedVisit n k j t → IsBest n k (earned p k) j t (phi j t)) where
   abbrev row : ℕ → List ℤ
   row j = map (phi j) (range_with_len (first_minute n k j) (minute_count n k j))
 
@@ -43,7 +43,7 @@ module _ (law : MinutesLaw) (n : Limits) (k : ℕ) (p : Prices) (phi : ℕ → �
         let c = minute_count n k j in
         let l = length-map-range_with_len (phi j) f c in
         let in_time : m < c = omega (arith, below, l) in
-        subst (IsBest n k p j (f + m)) (sym (get_or-map-range_with_len (phi j) f c m (f + m) (pos 0) in_time refl))
+        subst (IsBest n k (earned p k) j (f + m)) (sym (get_or-map-range_with_len (phi j) f c m (f + m) (pos 0) in_time refl))
         (best j (f + m) ((law n k j (f + m)).1 (record { known = known; from = omega arith; until = omega arith })));
   }
 
@@ -56,7 +56,7 @@ module _ (law : MinutesLaw) (n : Limits) (k : ℕ) (p : Prices) (phi : ℕ → �
       by true is rest = rw is (row_is_best a (omega arith), rest)
       by false is rest = rw is rest
 
-  pub table_is_best : (worth : ℤ) → IsWorth n k p worth → IsPricedTable n k p (record { worth = worth; phi = map row (open_tasks n k) })
+  pub table_is_best : (worth : ℤ) → IsWorth n k (earned p k) worth → IsPricedTable n k p (record { worth = worth; phi = map row (open_tasks n k) })
   table_is_best worth is = record { worth = is; rows = rows_are_best 0 (tasks_in n) (omega arith) }
 
 module _ (law : MinutesLaw) (have : HaveBests) where

@@ -3,7 +3,7 @@ use Rattle.std.proofs.Common.{◌≡◌, ◌<◌, ◌+◌, ◌++◌, ◌∷◌, 
 use Rattle.std.specs.Prelude.{ℤ, pos}
 use Rattle.std.proofs.lemmas.List.{length-append}
 use Rattle.crew_terms.specs.Branches.{LeafNode, SplitNode, Claim, Bare, Open, Closed, splits}
-use Rattle.crew_terms.specs.Leaf.{Prices, IsWorth}
+use Rattle.crew_terms.specs.Leaf.{Prices, IsWorth, earned}
 use Rattle.crew_terms.specs.Limits.{Limits, root_limits, teams_in}
 use Rattle.crew_terms.specs.Minutes.{first_minute, open_tasks}
 use Rattle.crew_terms.specs.Tree.{child}
@@ -22,8 +22,8 @@ same_list [] (y ∷ ys) n each = absurd (omega arith)
 same_list (x ∷ xs) [] n each = absurd (omega arith)
 same_list (x ∷ xs) (y ∷ ys) n each = ap (λ v. v ∷ xs) (each 0 (omega arith)) ∙ ap (λ vs. y ∷ vs) (same_list xs ys (omega arith) (λ m b. each (suc m) (omega arith)))
 
-module _ (one : (n : Limits) (k : ℕ) (p : Prices) (j t : ℕ) (v w : ℤ) → IsBest n k p j t v → IsBest n k p j t w → v ≡ w)
-    (one_worth : (n : Limits) (k : ℕ) (p : Prices) (v w : ℤ) → IsWorth n k p v → IsWorth n k p w → v ≡ w) where
+module _ (one : (n : Limits) (k : ℕ) (p : Prices) (j t : ℕ) (v w : ℤ) → IsBest n k (earned p k) j t v → IsBest n k (earned p k) j t w → v ≡ w)
+    (one_worth : (n : Limits) (k : ℕ) (p : Prices) (v w : ℤ) → IsWorth n k (earned p k) v → IsWorth n k (earned p k) w → v ≡ w) where
   one_row : (n : Limits) (k : ℕ) (p : Prices) (j : ℕ) (xs ys : List ℤ) → IsBestRow n k p j xs → IsBestRow n k p j ys → xs ≡ ys
   one_row n k p j xs ys a b = same_list xs ys (a.count ∙ sym b.count) (λ m h. one n k p j (first_minute n k j + m) _ _ (a.each m h) (b.each m (let x = a.count in let y = b.count in omega (arith, h, x, y))))
 

@@ -7,7 +7,7 @@ use Rattle.std.proofs.lemmas.List.Concat.{flat_map-append}
 use Rattle.std.proofs.lemmas.List.FromFn.{get_or-enumerate_from, length-enumerate_from}
 use Rattle.crew_terms.specs.Instance.{task_of}
 use Rattle.crew_terms.specs.Limits.{Limits, IsPermittedVisit, tasks_in, teams_in}
-use Rattle.crew_terms.specs.Leaf.{Prices, IsWorth}
+use Rattle.crew_terms.specs.Leaf.{Prices, IsWorth, earned}
 use Rattle.crew_terms.specs.Minutes.{first_minute, minute_count, open_tasks, IsMinuteOf}
 use Rattle.crew_terms.specs.Words.{Words, line_text}
 use Rattle.dossier_terms.specs.Dossier.{Potentials, no_potentials}
@@ -106,8 +106,8 @@ row_is f first (v ∷ vs) each =
     ∙ ap (λ r. f first ∷ r) (row_is f (first + 1) vs (λ m b. each (suc m) (omega arith) ∙ ap f (let e : first + suc m ≡ (first + 1) + m = omega arith in e)))
 
 module _ (n : Limits) (k : ℕ) (p : Prices) (table : List PotentialRow)
-    (one : (j t : ℕ) (v w : ℤ) → IsBest n k p j t v → IsBest n k p j t w → v ≡ w)
-    (best : (j t : ℕ) → IsPermittedVisit n k j t → IsBest n k p j t (phi table j t)) where
+    (one : (j t : ℕ) (v w : ℤ) → IsBest n k (earned p k) j t v → IsBest n k (earned p k) j t w → v ≡ w)
+    (best : (j t : ℕ) → IsPermittedVisit n k j t → IsBest n k (earned p k) j t (phi table j t)) where
   best_row : (j : ℕ) (row : List ℤ) → IsBestRow n k p j row → row ≡ row_in n k table j
   best_row j row is =
       row_is (phi table j) (first_minute n k j) row
@@ -121,7 +121,7 @@ module _ (n : Limits) (k : ℕ) (p : Prices) (table : List PotentialRow)
   best_rows (j ∷ js) (row ∷ rows) are =
       ap (λ r. r ∷ rows) (best_row j row are.0) ∙ ap (λ rs. row_in n k table j ∷ rs) (best_rows js rows are.1)
 
-  pub table_is : (worth : ℤ) → IsWorth n k p worth → ((v w : ℤ) → IsWorth n k p v → IsWorth n k p w → v ≡ w) → (t : Potentials) → IsPricedTable n k p t → table_in n k worth table ≡ t
+  pub table_is : (worth : ℤ) → IsWorth n k (earned p k) worth → ((v w : ℤ) → IsWorth n k (earned p k) v → IsWorth n k (earned p k) w → v ≡ w) → (t : Potentials) → IsPricedTable n k p t → table_in n k worth table ≡ t
   table_is worth is one_worth t priced =
       ap (λ w. record { worth = w; phi = map (row_in n k table) (open_tasks n k) }) (one_worth _ _ is priced.worth)
       ∙ ap (λ rows. record { worth = t.worth; phi = rows }) (sym (best_rows (open_tasks n k) t.phi priced.rows))

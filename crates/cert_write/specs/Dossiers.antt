@@ -3,7 +3,7 @@ use Rattle.std.proofs.Common.{ap, ◌∙◌}
 use Rattle.std.specs.Prelude.{◌≡◌, ◌<◌, ◌+◌, ◌++◌, ℕ, suc, ℤ, pos, List, [], ◌∷◌, Result, Ok, Err, length, map, slice_index_or}
 use Rattle.crew_terms.specs.Limits.{Limits, root_limits, teams_in}
 use Rattle.crew_terms.specs.Minutes.{first_minute, minute_count, open_tasks, priced, required_teams}
-use Rattle.crew_terms.specs.Leaf.{Prices, IsWorth, rho_of}
+use Rattle.crew_terms.specs.Leaf.{Prices, IsWorth, rho_of, earned}
 use Rattle.crew_terms.specs.Branches.{LeafNode, SplitNode, Claim, Bare, Open, Closed}
 use Rattle.crew_terms.specs.Tree.{child}
 use Rattle.crew_terms.specs.declared.Side.TheVariants.{First, Second}
@@ -23,7 +23,7 @@ use Rattle.cert_write.specs.declared.faults.PutFault.TheVariants.{WriteFault, Ou
 -- a potential for each minute at which team k may begin task j: the most that the team can earn from there on
 pub record IsBestRow (n : Limits) (k : ℕ) (p : Prices) (j : ℕ) (row : List ℤ) : Type 0 where
   pub count : length row ≡ minute_count n k j
-  pub each : (m : ℕ) → m < length row → IsBest n k p j (first_minute n k j + m) (slice_index_or row m (pos 0))
+  pub each : (m : ℕ) → m < length row → IsBest n k (earned p k) j (first_minute n k j + m) (slice_index_or row m (pos 0))
 
 -- such a row for each of these tasks
 abbrev pub AreBestRows : Limits → ℕ → Prices → List ℕ → List (List ℤ) → Type 0
@@ -34,7 +34,7 @@ AreBestRows n k p (j ∷ js) (row ∷ rows) = IsBestRow n k p j row × AreBestRo
 
 -- the worth of team k, and the potentials that pricing gives
 pub record IsPricedTable (n : Limits) (k : ℕ) (p : Prices) (t : Potentials) : Type 0 where
-  pub worth : IsWorth n k p t.worth
+  pub worth : IsWorth n k (earned p k) t.worth
   pub rows : AreBestRows n k p (open_tasks n k) t.phi
 
 -- such tables for the teams from k on

@@ -8,7 +8,7 @@ use Rattle.crew_terms.specs.Limits.{Limits, IsRoute, GoesOn, IsPermittedVisit, p
 use Rattle.crew_terms.specs.Limits.{Route}
 use Rattle.search_terms.specs.Earned.{AreLegalOf}
 use Rattle.search_terms.specs.Earned.AreLegalOf.{None, Kept, Left}
-use Rattle.search_terms.specs.Shares.{IsRouteIn}
+use Rattle.share_terms.specs.Shares.{IsRouteIn}
 use Rattle.column_arena.specs.Columns.{AreNumbersWith, IsUsing, column_of, no_column}
 use Rattle.column_arena.specs.Legal.{AreRuledOut, IsLegalColumn}
 use Rattle.column_arena.proofs.Numbers.{numbers_of_none, numbers_same, numbers_push}

@@ -1,7 +1,7 @@
 -- columns that are routes in the limits of a node
 use Rattle.std.specs.Prelude.{◌≡◌, ◌<◌, ℕ, Bool, true, false, List, length, slice_index_or}
 use Rattle.crew_terms.specs.Limits.{Limits, Route}
-use Rattle.search_terms.specs.Shares.{IsRouteIn}
+use Rattle.share_terms.specs.Shares.{IsRouteIn}
 use Rattle.column_arena.specs.Columns.{column_of}
 
 -- the column with this number is a route in the node

@@ -2,7 +2,7 @@
 ghost use Rattle.std.specs.Prelude.{◌≡◌, ◌<◌, ◌↔◌, IfOk, IsTrue, OnOk, length, map};
 ghost use Rattle.crew_terms.specs.Limits.{pair_of, tasks_in, teams_in};
 ghost use Rattle.search_terms.specs.Earned.{AreLegalOf};
-ghost use Rattle.search_terms.specs.Shares.{IsRouteIn};
+ghost use Rattle.share_terms.specs.Shares.{IsRouteIn};
 ghost use Rattle.column_arena.specs.Columns.{AreNumbersWith, column_of};
 ghost use Rattle.column_arena.specs.Legal.{AreRuledOut, IsLegalColumn};
 

@@ -7,7 +7,7 @@ use Rattle.std.specs.List.{AllByRecursion}
 use Rattle.std.specs.Fmt.{decimal}
 use Rattle.crew_terms.specs.Instance.{Instance}
 use Rattle.crew_terms.specs.Limits.{root_limits}
-use Rattle.search_terms.specs.Shares.{IsRouteIn, Share}
+use Rattle.share_terms.specs.Shares.{IsRouteIn, Share}
 use Rattle.dossier_terms.specs.Causes.{Cause, NoCause, Loose, Overflowed, Spent, Part, Shares, IsNow, IsPartOf, PartsRise, AreShares, IsLooseAt, IsCauseIn, column_of, share_of}
 use Rattle.dossier_terms.specs.Lines.{cause_lines, share_line, spare_line}
 use Rattle.dossier_terms.specs.Reading.{Whys, Spares, SplitSite, limits_before, cause_done, parts_due}

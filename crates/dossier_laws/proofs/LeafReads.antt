@@ -5,7 +5,7 @@ use Rattle.std.specs.List.{AllByRecursion}
 use Rattle.std.proofs.lemmas.List.{get_or-map}
 use Rattle.crew_terms.specs.Limits.{Limits, tasks_in, teams_in}
 use Rattle.crew_terms.specs.Plan.{unassigned_count}
-use Rattle.crew_terms.specs.Leaf.{Prices as TaskPrices, HoldsLocally, IsValidLeaf, Proves, bound_of, IsPrice, HoldsPotential, HoldsWorth}
+use Rattle.crew_terms.specs.Leaf.{Prices as TaskPrices, HoldsLocally, IsValidLeaf, Proves, bound_of, IsPrice, HoldsPotential, HoldsWorth, earned}
 use Rattle.dossier_terms.specs.declared.DossierForm.{DossierForm}
 use Rattle.dossier_terms.specs.declared.DossierForm.TheVariants.{One, Two}
 use Rattle.dossier_terms.specs.Dossier.{Leaf, Potentials, no_potentials, AreRows, Tables, IsTable, IsWritten, IsWorthNumber, IsSigned, prices_of, worths_of, phi_in, phi_of}
@@ -71,9 +71,9 @@ table_more form n k (x ∷ ts) t =
     (table_more form n (suc k) ts t ∙ ap (λ m. table_lines form n (suc k) ts ++ table_so_far form n m t) (let e : suc k + length ts ≡ k + suc (length ts) = omega arith in e))
     ∙ ap (λ w. worth_line x.worth ∷ w) (sym (append_assoc rows (table_lines form n (suc k) ts) (table_so_far form n (k + suc (length ts)) t)))
 
-tables_push : (n : Limits) (p : TaskPrices) (k m : ℕ) (ts : List Potentials) (t : Potentials) → TablesHold n p k ts → k + length ts ≡ m → IsTable n m t → HoldsLocally n m p (phi_in n m t) t.worth
+tables_push : (n : Limits) (p : TaskPrices) (k m : ℕ) (ts : List Potentials) (t : Potentials) → TablesHold n p k ts → k + length ts ≡ m → IsTable n m t → HoldsLocally n m (earned p m) (phi_in n m t) t.worth
     → TablesHold n p k (ts ++ t ∷ [])
-tables_push n p k m [] t h e a b = subst (λ q. (IsTable n q t × HoldsLocally n q p (phi_in n q t) t.worth) × Unit {0}) (let f : m ≡ k = omega arith in f) ((a, b), tt)
+tables_push n p k m [] t h e a b = subst (λ q. (IsTable n q t × HoldsLocally n q (earned p q) (phi_in n q t) t.worth) × Unit {0}) (let f : m ≡ k = omega arith in f) ((a, b), tt)
 tables_push n p k m (x ∷ ts) t h e a b = (h.0, tables_push n p (suc k) m ts t h.1 (omega arith) a b)
 
 tables_written : (n : Limits) (p : TaskPrices) (k : ℕ) (ts : List Potentials) → TablesHold n p k ts → k + length ts ≡ teams_in n → Tables n k ts
@@ -81,10 +81,10 @@ tables_written n p k [] h e = omega arith
 tables_written n p k (t ∷ ts) h e = (h.0.0, tables_written n p (suc k) ts h.1 (omega arith))
 
 tables_valid : (n : Limits) (p : TaskPrices) (k : ℕ) (ts : List Potentials) → TablesHold n p k ts → (j : ℕ) → j < length ts
-    → HoldsLocally n (k + j) p (phi_in n (k + j) (slice_index_or ts j no_potentials)) (slice_index_or ts j no_potentials).worth
+    → HoldsLocally n (k + j) (earned p (k + j)) (phi_in n (k + j) (slice_index_or ts j no_potentials)) (slice_index_or ts j no_potentials).worth
 tables_valid n p k [] h j l = absurd (omega arith)
-tables_valid n p k (t ∷ ts) h zero l = subst (λ q. HoldsLocally n q p (phi_in n q t) t.worth) (let e : k ≡ k + 0 = omega arith in e) h.0.1
-tables_valid n p k (t ∷ ts) h (suc j) l = subst (λ q. HoldsLocally n q p (phi_in n q (slice_index_or ts j no_potentials)) (slice_index_or ts j no_potentials).worth) (let e : suc k + j ≡ k + suc j = omega arith in e) (tables_valid n p (suc k) ts h.1 j (omega arith))
+tables_valid n p k (t ∷ ts) h zero l = subst (λ q. HoldsLocally n q (earned p q) (phi_in n q t) t.worth) (let e : k ≡ k + 0 = omega arith in e) h.0.1
+tables_valid n p k (t ∷ ts) h (suc j) l = subst (λ q. HoldsLocally n q (earned p q) (phi_in n q (slice_index_or ts j no_potentials)) (slice_index_or ts j no_potentials).worth) (let e : suc k + j ≡ k + suc j = omega arith in e) (tables_valid n p (suc k) ts h.1 j (omega arith))
 
 leaf_valid : (a : LeafSite) (leaf : Leaf) → IsLeafPart a leaf 0 → IsValidLeaf (limits_of a) (prices_of (limits_of a) leaf) (worths_of leaf) (phi_of (limits_of a) leaf)
 leaf_valid a leaf h = record {
@@ -95,8 +95,8 @@ leaf_valid a leaf h = record {
       let m : k < length leaf.tables = omega (arith, h.count) in
       let v = tables_valid n (prices_of n leaf) 0 leaf.tables h.tables k m in
       let e : 0 + k ≡ k = omega arith in
-      let w = subst (λ q. HoldsLocally n q (prices_of n leaf) (phi_in n q (slice_index_or leaf.tables k no_potentials)) (slice_index_or leaf.tables k no_potentials).worth) e v in
-      subst (λ x. HoldsLocally n k (prices_of n leaf) (phi_of n leaf k) x) (sym (get_or-map (λ (t : Potentials). t.worth) leaf.tables k no_potentials (pos 0) m)) w;
+      let w = subst (λ q. HoldsLocally n q (earned (prices_of n leaf) q) (phi_in n q (slice_index_or leaf.tables k no_potentials)) (slice_index_or leaf.tables k no_potentials).worth) e v in
+      subst (λ x. HoldsLocally n k (earned (prices_of n leaf) k) (phi_of n leaf k) x) (sym (get_or-map (λ (t : Potentials). t.worth) leaf.tables k no_potentials (pos 0) m)) w;
 }
 
 leaf_written : (a : LeafSite) (leaf : Leaf) → IsLeafPart a leaf 0 → IsWritten (limits_of a) leaf
@@ -150,9 +150,9 @@ phi_after s ws said a leaf left table [] r w all e h =
     let n = limits_of a in
     let k = length leaf.tables in
     let p = prices_of n leaf in
-    each_then s ws said (λ (each : (j : ℕ) → j < tasks_in n → HoldsPotential n p k (phi_in n k table) j) g.
+    each_then s ws said (λ (each : (j : ℕ) → j < tasks_in n → HoldsPotential n k (earned p k) (phi_in n k table) j) g.
     must_then s ws said (λ (most : HoldsWorth n k (phi_in n k table) table.worth) g.
-    let valid : HoldsLocally n k p (phi_in n k table) table.worth = record {
+    let valid : HoldsLocally n k (earned p k) (phi_in n k table) table.worth = record {
       tasks = λ j. record { alone = λ m per. (each j per.known).alone m per; step = λ m i u per after step. (each j per.known).step m i u per after step };
       worth_rules = most;
     } in

@@ -6,7 +6,7 @@ use Rattle.std.specs.Fmt.{signed_decimal}
 use Rattle.std.proofs.lemmas.List.{get_or-map, length-map, nil_from_length}
 use Rattle.crew_terms.specs.Limits.{Limits, teams_in}
 use Rattle.crew_terms.specs.Plan.{unassigned_count}
-use Rattle.crew_terms.specs.Leaf.{Prices as TaskPrices, HoldsLocally, IsValidLeaf, Proves, bound_of, IsPrice}
+use Rattle.crew_terms.specs.Leaf.{Prices as TaskPrices, HoldsLocally, IsValidLeaf, Proves, bound_of, IsPrice, earned}
 use Rattle.dossier_terms.specs.Dossier.{Leaf, Potentials, no_potentials, AreRows, Tables, IsTable, IsWritten, IsSigned, prices_of, worths_of, phi_in, phi_of}
 use Rattle.crew_terms.specs.Minutes.{priced, open_tasks, required_teams, first_minute, minute_count}
 use Rattle.crew_terms.specs.declared.TheConstants.{LAST_MINUTE}
@@ -53,7 +53,7 @@ after_table_holds a leaf (suc left) h = On refl
 
 -- the next team's table holds
 abbrev TableHolds : LeafSite → Leaf → Potentials → Type 0
-TableHolds a leaf table = HoldsLocally (limits_of a) (length leaf.tables) (prices_of (limits_of a) leaf) (phi_in (limits_of a) (length leaf.tables) table) table.worth
+TableHolds a leaf table = HoldsLocally (limits_of a) (length leaf.tables) (earned (prices_of (limits_of a) leaf) (length leaf.tables)) (phi_in (limits_of a) (length leaf.tables) table) table.worth
 
 after_phi_holds : (a : LeafSite) (leaf : Leaf) (left : ℕ) (table : Potentials) (keys : List ℕ)
     → (keys ≡ [] → TableHolds a leaf table × (left ≡ 0 → Bounds a (with_table leaf table)))
@@ -118,7 +118,7 @@ tables_reached a leaf day b done (t ∷ ts) e k q h =
     let p = prices_of n leaf in
     let keys = open_tasks n (length done) in
     let whole : leaf.tables ≡ (done ++ t ∷ []) ++ ts = e ∙ sym (append_assoc done (t ∷ []) ts) in
-    let valid : TableHolds a so_far t = subst (λ k. HoldsLocally n k p (phi_in n k t) t.worth) (sym q) h.0.1 in
+    let valid : TableHolds a so_far t = subst (λ k. HoldsLocally n k (earned p k) (phi_in n k t) t.worth) (sym q) h.0.1 in
     let bounds : length ts ≡ 0 → Bounds a (with_table so_far t) = λ (z : length ts ≡ 0).
     subst (λ ts. Bounds a (with_tables leaf ts)) (whole ∙ ap (λ w. (done ++ t ∷ []) ++ w) (nil_from_length ts z) ∙ append-nil (done ++ t ∷ [])) b in
     let table : IsTable n (length done) t = subst (λ k. IsTable n k t) (sym q) h.0.0 in
@@ -162,15 +162,15 @@ extras_reached a leaf b done (j ∷ js) (r ∷ rows) e h =
     )
 
 good_tables : (n : Limits) (p : TaskPrices) (k : ℕ) (ts : List Potentials) → Tables n k ts
-    → ((j : ℕ) → j < length ts → HoldsLocally n (k + j) p (phi_in n (k + j) (slice_index_or ts j no_potentials)) (slice_index_or ts j no_potentials).worth) → TablesHold n p k ts
+    → ((j : ℕ) → j < length ts → HoldsLocally n (k + j) (earned p (k + j)) (phi_in n (k + j) (slice_index_or ts j no_potentials)) (slice_index_or ts j no_potentials).worth) → TablesHold n p k ts
 good_tables n p k [] h v = tt
 good_tables n p k (t ∷ ts) h v =
     let e : k + 0 ≡ k = omega arith in
     let f = v 0 (omega arith) in (
-      (h.0, subst (λ q. HoldsLocally n q p (phi_in n q t) t.worth) e f),
+      (h.0, subst (λ q. HoldsLocally n q (earned p q) (phi_in n q t) t.worth) e f),
       good_tables n p (suc k) ts h.1 (λ j l.
           let e : k + suc j ≡ suc k + j = omega arith in
-          subst (λ q. HoldsLocally n q p (phi_in n q (slice_index_or ts j no_potentials)) (slice_index_or ts j no_potentials).worth) e (v (suc j) (omega arith))),
+          subst (λ q. HoldsLocally n q (earned p q) (phi_in n q (slice_index_or ts j no_potentials)) (slice_index_or ts j no_potentials).worth) e (v (suc j) (omega arith))),
     )
 
 tables_length : (n : Limits) (k : ℕ) (ts : List Potentials) → Tables n k ts → k + length ts ≡ teams_in n
@@ -186,8 +186,8 @@ leaf_reached a leaf day w v b =
     let few : teams_in n ≡ length leaf.tables = omega arith in
     let good : TablesHold n (prices_of n leaf) 0 leaf.tables = good_tables n (prices_of n leaf) 0 leaf.tables w.tables (λ j l.
     let e : 0 + j ≡ j = omega arith in
-    subst (λ q. HoldsLocally n q (prices_of n leaf) (phi_in n q (slice_index_or leaf.tables j no_potentials)) (slice_index_or leaf.tables j no_potentials).worth) (sym e)
-    (subst (λ x. HoldsLocally n j (prices_of n leaf) (phi_of n leaf j) x) (get_or-map (λ (t : Potentials). t.worth) leaf.tables j no_potentials (pos 0) l) (v.valid j (omega arith)))) in
+    subst (λ q. HoldsLocally n q (earned (prices_of n leaf) q) (phi_in n q (slice_index_or leaf.tables j no_potentials)) (slice_index_or leaf.tables j no_potentials).worth) (sym e)
+    (subst (λ x. HoldsLocally n j (earned (prices_of n leaf) j) (phi_of n leaf j) x) (get_or-map (λ (t : Potentials). t.worth) leaf.tables j no_potentials (pos 0) l) (v.valid j (omega arith)))) in
     let none : teams_in n ≡ 0 → Bounds a (with_extras leaf leaf.extras) = λ (z : teams_in n ≡ 0). subst (λ ts. Bounds a (with_tables leaf ts)) (nil_from_length leaf.tables (omega arith)) b in (
       extras_next a (with_extras leaf []) (priced n),
       Holds (_, refl, length-map leaf.prices signed_decimal ∙ w.prices) (Spelled leaf.prices (record { count = w.prices; each = w.price_range }) refl

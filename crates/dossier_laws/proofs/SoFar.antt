@@ -9,7 +9,7 @@ use Rattle.crew_terms.specs.Plan.{empty_plan, job_of, unassigned_count}
 use Rattle.crew_terms.specs.Legal.{IsLegal}
 use Rattle.crew_terms.specs.Limits.{Limits, Route, root_limits, tasks_in, teams_in}
 use Rattle.crew_terms.specs.Minutes.{required_teams, priced, open_tasks, first_minute, minute_count}
-use Rattle.crew_terms.specs.Leaf.{Prices as TaskPrices, IsPrice, HoldsLocally}
+use Rattle.crew_terms.specs.Leaf.{Prices as TaskPrices, IsPrice, HoldsLocally, earned}
 use Rattle.crew_terms.specs.Branches.{InFirst, InSecond}
 use Rattle.crew_terms.specs.Tree.{CanSplit, IsSound, child}
 use Rattle.crew_terms.specs.declared.Side.TheVariants.{First}
@@ -166,7 +166,7 @@ pub record AreLeafPrices (n : Limits) (leaf : Leaf) (left : List ℕ) : Type 0 w
 -- the tables so far are those of the first teams, and each holds
 abbrev pub TablesHold : Limits → TaskPrices → ℕ → List Potentials → Type 0
 TablesHold n p k [] = Unit {0}
-TablesHold n p k (t ∷ ts) = (IsTable n k t × HoldsLocally n k p (phi_in n k t) t.worth) × TablesHold n p (suc k) ts
+TablesHold n p k (t ∷ ts) = (IsTable n k t × HoldsLocally n k (earned p k) (phi_in n k t) t.worth) × TablesHold n p (suc k) ts
 
 pub record IsLeafPart (a : LeafSite) (leaf : Leaf) (left : ℕ) : Type 0 where
   pub site : IsLeafSite a

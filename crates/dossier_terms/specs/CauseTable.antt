@@ -4,7 +4,7 @@ use Rattle.crew_num.specs.declared.Overflow.{Overflow}
 use Rattle.crew_num.specs.Exact.{IsOverflow}
 use Rattle.crew_terms.specs.Words.{Words}
 use Rattle.crew_terms.specs.Plan.{unassigned_count}
-use Rattle.search_terms.specs.Shares.{IsRouteIn}
+use Rattle.share_terms.specs.Shares.{IsRouteIn}
 use Rattle.dossier_terms.specs.declared.Reason.TheVariants.{Shape, Number, Cause as BadCause}
 use Rattle.dossier_terms.specs.Causes.{NoCause, Loose, Overflowed, Spent, Shares, column_of, IsPartOf, IsLooseAt}
 use Rattle.dossier_terms.specs.Lines.{why_none_line, loose_line, share_line, spare_line, overflow_line, spent_line}

@@ -4,7 +4,7 @@ use Rattle.std.specs.List.{AllByRecursion}
 use Rattle.crew_num.specs.declared.Overflow.{Overflow}
 use Rattle.crew_num.specs.Exact.{FitsI128, IsOverflow}
 use Rattle.crew_terms.specs.Limits.{Limits, Route, tasks_in}
-use Rattle.search_terms.specs.Shares.{Share, FractionalChoice, IsFractional, IsLoose}
+use Rattle.share_terms.specs.Shares.{Share, FractionalChoice, IsFractional, IsLoose}
 use Rattle.dossier_terms.specs.declared.DossierForm.{DossierForm}
 use Rattle.dossier_terms.specs.declared.DossierForm.TheVariants.{One, Two}
 

@@ -4,7 +4,7 @@ use Rattle.crew_terms.specs.Words.{Words}
 use Rattle.crew_terms.specs.Plan.{unassigned_count}
 use Rattle.crew_terms.specs.Limits.{Limits, tasks_in, teams_in}
 use Rattle.crew_terms.specs.Minutes.{first_minute, minute_count, open_tasks, priced, required_teams}
-use Rattle.crew_terms.specs.Leaf.{HoldsPotential, HoldsWorth, IsPrice, bound_of, Proves}
+use Rattle.crew_terms.specs.Leaf.{HoldsPotential, HoldsWorth, IsPrice, bound_of, Proves, earned}
 use Rattle.dossier_terms.specs.declared.DossierForm.{DossierForm}
 use Rattle.dossier_terms.specs.declared.DossierForm.TheVariants.{One, Two}
 use Rattle.dossier_terms.specs.declared.Reason.TheVariants.{Shape, Number, Steps, Potential, Worth, Bound}
@@ -30,7 +30,7 @@ abbrev pub after_phi : LeafSite → Leaf → ℕ → Potentials → List ℕ →
 after_phi a leaf left table [] =
     let n = limits_of a in
     let k = length leaf.tables in
-    MustEach (tasks_in n) (HoldsPotential n (prices_of n leaf) k (phi_in n k table)) (λ j. Potential k j)
+    MustEach (tasks_in n) (HoldsPotential n k (earned (prices_of n leaf) k) (phi_in n k table)) (λ j. Potential k j)
     (Must (HoldsWorth n k (phi_in n k table) table.worth) (Worth k)
     (after_table a (record leaf { tables = leaf.tables ++ table ∷ [] }) left))
 after_phi a leaf left table (j ∷ js) = Goes (Phis a leaf left table j js)

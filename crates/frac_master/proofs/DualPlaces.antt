@@ -15,7 +15,7 @@ use Rattle.std.specs.Prelude.{Contains, IfOk}
 use Rattle.std.proofs.lemmas.List.{get_or_default}
 use Rattle.search_terms.specs.declared.TheConstants.{VALUE}
 use Rattle.search_terms.specs.Opening.{basics, cost, opener, openers, opening_basis, opens, place_at, places, places_where, times, dual, OpensWith}
-use Rattle.search_terms.specs.declared.TheConstants.{BIG_M}
+use Rattle.share_terms.specs.declared.TheConstants.{BIG_M}
 use Rattle.search_terms.specs.Overflows.{IsOfPrice, OverflowAt}
 use Rattle.search_terms.specs.Overflows.OverflowAt.{InPrice}
 use Rattle.search_terms.specs.Overflows.IsOfPrice.{Scaled as PriceScaled, Raised as PriceRaised}

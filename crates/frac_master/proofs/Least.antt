@@ -4,12 +4,13 @@ use Rattle.std.proofs.lemmas.Int.{ints}
 use Rattle.std.proofs.Math.IntN.{*ℤ_comm}
 use Rattle.search_terms.specs.Rows.{Rows, number, row_of, basic_of, last}
 use Rattle.search_terms.specs.declared.TheConstants.{RIGHT}
-use Rattle.search_terms.specs.Pivot.{IsBounding, IsLeaving, IsRatioUpTo}
+use Rattle.search_terms.specs.Overflows.{OfBest, OfNext}
+use Rattle.search_terms.specs.Pivot.{IsBounding, IsLeast, IsLeaving, IsRatioUpTo}
 use Rattle.std.proofs.Common.{List}
 use Rattle.std.proofs.lemmas.List.{length-map}
 use Rattle.std.specs.Global.{Vec}
 use Rattle.frac_master.specs.Table.{table}
-use Rattle.frac_master.specs.Choosing.{IsBefore, IsBehind, IsLeast, IsBest, IsRatioFault}
+use Rattle.frac_master.specs.Choosing.{IsBefore, IsBehind, IsBest, IsRatioFault}
 use Rattle.crew_num.specs.declared.Overflow.{Overflow}
 use Rattle.crew_num.specs.Ratios.{IsFirstProduct}
 use Rattle.crew_num.specs.Ratios.IsFirstProduct.{Left, Right}
@@ -108,7 +109,7 @@ pub best_skip : (t : Rows) (v i : ℕ) (best : Option ℕ) → IsBest t v i best
 best_skip t v i None b idle = below_more (λ k. IsBounding t v k → ⊥) i b idle
 best_skip t v i (Some g) b idle = least_skip t v i g b idle
 
-pub ratio_fault : (t : Rows) (v h g : ℕ) (f : Overflow) → IsBounding t v h → IsBounding t v g
+pub ratio_fault : (t : Rows) (v h g : ℕ) (f : Overflow) → IsBounding t v h → IsLeast t v h g
     → IsFirstProduct (right t h) (entry t v h) (right t g) (entry t v g) f → IsRatioFault t v f
-ratio_fault t v h g f b c (Left is leaves) = record { leaves = leaves; h = h; i = g; one = b; other = c; is = is }
-ratio_fault t v h g f b c (Right left is leaves) = record { leaves = leaves; h = g; i = h; one = c; other = b; is = is }
+ratio_fault t v h g f b c (Left is leaves) = record { leaves = leaves; how = OfNext g h (record { best = c; next = b }) is }
+ratio_fault t v h g f b c (Right left is leaves) = record { leaves = leaves; how = OfBest g h (record { best = c; next = b }) is }

@@ -24,7 +24,7 @@ known_in_all rows basis v b known i below =
     omega (arith, b.widths i in')
 
 pub fault_of_ratio : (t : Rows) (v : ℕ) (f : Overflow) → IsEntering t v → IsRatioFault t v f → IsPivotFault t f
-fault_of_ratio t v f e r = record { leaves = r.leaves; how = Ratio v r.h r.i e r.one r.other r.is }
+fault_of_ratio t v f e r = record { leaves = r.leaves; how = Ratio v e r.how }
 
 pub fault_of_clearing : (rows : List (Vec ℤ)) (basis : List ℕ) (v h : ℕ) (f : Overflow) → AreBasic (table rows basis) → IsEntering (table rows basis) v → IsLeaving (table rows basis) v h
     → IsClearingFault (row_of (table rows basis) h) h v (rows_of rows) f → IsPivotFault (table rows basis) f

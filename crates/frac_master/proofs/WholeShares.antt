@@ -19,7 +19,7 @@ use Rattle.search_terms.specs.MasterRun.{IsMasterRun}
 use Rattle.search_terms.specs.MasterRun.MasterRun.{Opens, Pivots, Enters}
 use Rattle.search_terms.specs.Overflows.{IsDenominator, OverflowAt, is_unassigned, share_places}
 use Rattle.search_terms.specs.Overflows.OverflowAt.{InShares}
-use Rattle.search_terms.specs.Shares.{unassigned_of}
+use Rattle.share_terms.specs.Shares.{unassigned_of}
 use Rattle.search_terms.specs.BasicChoice.{AreWholeParts, choice_of, is_unassigned_at}
 use Rattle.master_laws.specs.Opening.{wide_opening, above_of}
 use Rattle.frac_master.specs.declared.shares.Share.{Share}

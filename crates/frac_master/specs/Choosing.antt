@@ -1,11 +1,10 @@
 -- how the row that leaves is chosen
 use Rattle.std.specs.Prelude.{◌≡◌, ◌≤◌, ◌<◌, ◌⊎◌, ℕ, ℤ, ◌*ℤ◌, ◌<ℤ◌, Option, MatchOption, Result, MatchResult}
-use Rattle.crew_num.specs.declared.Op.TheVariants.{Mul}
 use Rattle.crew_num.specs.declared.Overflow.{Overflow}
-use Rattle.crew_num.specs.Exact.{IsOverflow, fault}
-use Rattle.search_terms.specs.Rows.{Rows, number, row_of, basic_of}
-use Rattle.search_terms.specs.declared.TheConstants.{RIGHT}
-use Rattle.search_terms.specs.Pivot.{IsBounding, IsLeaving, IsRatioUpTo}
+use Rattle.crew_num.specs.Exact.{IsOverflow}
+use Rattle.search_terms.specs.Overflows.{IsOfChoice}
+use Rattle.search_terms.specs.Rows.{Rows}
+use Rattle.search_terms.specs.Pivot.{IsBounding, IsLeast, IsLeaving}
 
 -- a/b is less than c/d, or as great where x is less than y
 abbrev pub IsBefore : ℤ → ℤ → ℕ → ℤ → ℤ → ℕ → Type 0
@@ -15,21 +14,10 @@ IsBefore a b x c d y = ((a *ℤ d) <ℤ (c *ℤ b)) ⊎ (((a *ℤ d) ≡ (c *ℤ
 abbrev pub IsBehind : ℤ → ℤ → ℕ → ℤ → ℤ → ℕ → Type 0
 IsBehind a b x c d y = ((c *ℤ b) <ℤ (a *ℤ d)) ⊎ (((a *ℤ d) ≡ (c *ℤ b)) × (y ≤ x))
 
--- a product of a right side and an entry of the entering variable leaves the range
+-- a product of the choice leaves the range
 pub record IsRatioFault (t : Rows) (v : ℕ) (f : Overflow) : Type 0 where
   pub leaves : IsOverflow f
-  pub h : ℕ
-  pub i : ℕ
-  pub one : IsBounding t v h
-  pub other : IsBounding t v i
-  pub is : f ≡ fault Mul (number (row_of t h) RIGHT) (number (row_of t i) v)
-
--- row g has the least ratio of the first i rows, and the lowest basic variable of those
-pub record IsLeast (t : Rows) (v i g : ℕ) : Type 0 where
-  pub below : g < i
-  pub bounds : IsBounding t v g
-  pub least : (k : ℕ) → k < i → IsBounding t v k → IsRatioUpTo t v g k
-  pub lowest : (k : ℕ) → k < i → IsBounding t v k → IsRatioUpTo t v k g → basic_of t g ≤ basic_of t k
+  pub how : IsOfChoice t v f
 
 -- the best of the first i rows
 abbrev pub IsBest : Rows → ℕ → ℕ → Option ℕ → Type 0

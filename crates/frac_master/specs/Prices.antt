@@ -8,7 +8,8 @@ use Rattle.crew_terms.specs.Leaf.{Prices}
 use Rattle.crew_terms.specs.Total.{total}
 use Rattle.search_terms.specs.declared.Place.{Place}
 use Rattle.search_terms.specs.Rows.{Row, number, value_row}
-use Rattle.search_terms.specs.declared.TheConstants.{BIG_M, RIGHT, VALUE}
+use Rattle.share_terms.specs.declared.TheConstants.{BIG_M}
+use Rattle.search_terms.specs.declared.TheConstants.{RIGHT, VALUE}
 use Rattle.search_terms.specs.Opening.{OpensWith, dual, places, times}
 use Rattle.search_terms.specs.Duals.{best_reward, extras, term_over}
 use Rattle.frac_master.specs.State.{MasterState}

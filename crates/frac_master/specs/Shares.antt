@@ -8,7 +8,7 @@ use Rattle.search_terms.specs.declared.TheConstants.{RIGHT, VALUE}
 use Rattle.search_terms.specs.Rows.{Row, Rows, number, row_of, value_row}
 use Rattle.search_terms.specs.Opening.{places}
 use Rattle.search_terms.specs.Overflows.{IsDenominator, IsLeastMultiple, IsOfMultiple, share_places}
-use Rattle.search_terms.specs.Shares.{FractionalChoice, IsFractional, choice_value}
+use Rattle.share_terms.specs.Shares.{FractionalChoice, IsFractional, choice_value}
 use Rattle.search_terms.specs.BasicChoice.{choice_of}
 use Rattle.frac_master.specs.declared.shares.Share.{Share}
 use Rattle.frac_master.specs.State.{MasterState}

@@ -2,7 +2,7 @@
 
 ghost use Rattle.std.specs.Prelude.{◌≡◌, ◌≤◌, ◌^◌, ◌≤ℤ◌, ◌<ℤ◌, pos, length, IfOk};
 ghost use Rattle.search_terms.specs.Opening.{visit_number as visit_number_of};
-ghost use Rattle.search_terms.specs.Shares.{visits_to as visits_to_of};
+ghost use Rattle.share_terms.specs.Shares.{visits_to as visits_to_of};
 ghost use Rattle.frac_master.specs.Columns.{IsColumn, route_of};
 
 use crate::basics::opens;

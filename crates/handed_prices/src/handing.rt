@@ -6,6 +6,7 @@ ghost use Rattle.handed_prices.specs.Handed.{IsHanded};
 ghost use Rattle.keyed_steps.specs.States.{DecidesProved};
 ghost use Rattle.label_pricing.specs.Pricing.{HasRoom};
 ghost use Rattle.potentials.specs.Prices.{ArePricesOf};
+ghost use Rattle.search_terms.specs.BestFirst.{IsBoundIn};
 ghost use Rattle.search_terms.specs.Proven.{PricesProve};
 
 use crew_terms::{Choice, Side};
@@ -37,7 +38,8 @@ fn side_bound(
     requires prices { ArePricesOf limits.old.limits prices.now }
     requires proved { PricesProve limits.old.limits prices.now 0 }
     requires room { HasRoom limits.old.limits.instance pricer.old }
-    ensures bound { DecidesProved (child limits.old.limits choice side) prices.now result }
+    ensures bound { IsBoundIn (child limits.old.limits choice side) prices.now result }
+    ensures decides { DecidesProved (child limits.old.limits choice side) prices.now result }
     ensures limits { limits.new ≡ limits.old }
     ensures room { pricer.new.places ≡ pricer.old.places }
 {
@@ -62,6 +64,8 @@ fn child_bounds(
     requires prices { ArePricesOf limits.old.limits prices.now }
     requires proved { PricesProve limits.old.limits prices.now 0 }
     requires room { HasRoom limits.old.limits.instance pricer.old }
+    ensures low { IsBoundIn (child limits.old.limits choice Side.First) prices.now result.0 }
+    ensures high { IsBoundIn (child limits.old.limits choice Side.Second) prices.now result.1 }
     ensures first { DecidesProved (child limits.old.limits choice Side.First) prices.now result.0 }
     ensures second { DecidesProved (child limits.old.limits choice Side.Second)
         prices.now result.1 }

@@ -5,7 +5,7 @@ use Rattle.std.specs.Prelude.{◌≤ℤ◌, ◌<ℤ◌, All, AllPairs, Contains,
 use Rattle.std.proofs.lemmas.Int.{ints}
 use Rattle.std.proofs.lemmas.Bool.{cases_eq, eq-eqb, ne_eqb}
 use Rattle.std.proofs.lemmas.List.{get_or_append_left, get_or-append-add, get_or_default, length-append, length-map, map-append}
-use Rattle.std.proofs.lemmas.List.Elements.{All-append, All-cons, All-head, All-same, All-tail, All-weaker, Contains-append_left, Contains-append_right, Contains-append_cases}
+use Rattle.std.proofs.lemmas.List.Elements.{All-append, All-cons, All-head, All-same, All-tail, All-weaker, Contains-append_left, Contains-append_right, Contains-append_cases, filter-append}
 use Rattle.node_queue.specs.declared.Waiting.{Waiting}
 use Rattle.node_queue.specs.Waits.{IsLeast, Waits, found, keys_of, without}
 
@@ -38,10 +38,10 @@ found_rest (e ∷ q) k other apart = by (cases_eq e.0 k) (cases_eq e.0 other) (f
     by (inr ne) (inr on) rest = rw (ne_eqb e.0 k ne) (found_on e (without q k) other on ∙ rest ∙ sym (found_on e q other on))
 
 -- the first entry has another key, where nothing is found
-none_here : (e : ℕ × Waiting) (q : Waits) (k : ℕ) → found (e ∷ q) k ≡ None → e.0 ≢ k
+pub none_here : (e : ℕ × Waiting) (q : Waits) (k : ℕ) → found (e ∷ q) k ≡ None → e.0 ≢ k
 none_here e q k none = λ here. let x : Some e.1 ≡ None = sym (found_here e q k here) ∙ none in cc
 
-none_on : (e : ℕ × Waiting) (q : Waits) (k : ℕ) → found (e ∷ q) k ≡ None → found q k ≡ None
+pub none_on : (e : ℕ × Waiting) (q : Waits) (k : ℕ) → found (e ∷ q) k ≡ None → found q k ≡ None
 none_on e q k none = sym (found_on e q k (none_here e q k none)) ∙ none
 
 -- one put last is found, where its key is new
@@ -66,6 +66,12 @@ without_last [] k w fresh = rw (eq-eqb k k refl) refl
 without_last (e ∷ q) k w fresh =
     let ne : e.0 ≢ k = none_here e q k fresh in
     rw (ne_eqb e.0 k ne) (ap (λ (r : Waits). e ∷ r) (without_last q k w (none_on e q k fresh)))
+
+-- one put last, with another key than the one that is taken
+pub without_put : (q : Waits) (k other : ℕ) (w : Waiting) → other ≢ k → without (q ++ (other, w) ∷ []) k ≡ without q k ++ (other, w) ∷ []
+without_put q k other w apart =
+    filter-append (λ (e : ℕ × Waiting). not (e.0 == k)) q ((other, w) ∷ [])
+    ∙ ap (λ (r : Waits). without q k ++ r) (rw (ne_eqb other k apart) refl)
 
 -- what is found has a key
 pub found_key : (q : Waits) (k : ℕ) (w : Waiting) → found q k ≡ Some w → Contains (keys_of q) k
@@ -151,7 +157,7 @@ found_behind (e ∷ older) rest k none =
     found_on e (older ++ rest) k (none_here e older k none) ∙ found_behind older rest k (none_on e older k none)
 
 -- what is least is found under its key, where keys differ
-least_is : (q : Waits) (k : ℕ) (least : IsLeast q k) → AllPairs (λ a b. a ≢ b) (keys_of q) → found q k ≡ Some least.waiting
+pub least_is : (q : Waits) (k : ℕ) (least : IsLeast q k) → AllPairs (λ a b. a ≢ b) (keys_of q) → found q k ≡ Some least.waiting
 least_is q k least differ =
     ap (λ (x : Waits). found x k) least.stands
     ∙ found_behind least.older ((k, least.waiting) ∷ least.younger) k (none_found least.older k out)

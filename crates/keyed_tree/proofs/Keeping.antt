@@ -1,5 +1,5 @@
 -- what waits after a leaf was closed or split
-use Rattle.std.proofs.Common.{◌≡◌, ◌≢◌, ◌≤◌, ◌<◌, ◌+◌, ◌*◌, ◌++◌, ◌∙◌, ◌⊎◌, inl, inr, ℕ, ℤ, List, [], ◌∷◌, None, Some, Option, length, refl, ap, sym, subst, arith, get_or-set_other, get_or-set_same}
+use Rattle.std.proofs.Common.{◌≡◌, ◌≢◌, ◌≤◌, ◌<◌, ◌+◌, ◌*◌, ◌++◌, ◌∙◌, ◌⊎◌, inl, inr, ℕ, ℤ, List, [], ◌∷◌, None, Some, Option, length, refl, ap, sym, subst, arith, append_assoc, get_or-set_other, get_or-set_same}
 use Rattle.std.specs.Prelude.{AllPairs, slice_set}
 use Rattle.std.proofs.lemmas.Bool.{cases_eq, cases_lt}
 use Rattle.std.proofs.lemmas.List.{length-set}
@@ -13,7 +13,7 @@ use Rattle.search_tree.specs.declared.nodes.Content.TheVariants as content
 use Rattle.search_tree.specs.declared.nodes.Node.{Node}
 use Rattle.search_tree.specs.Numbered.{AreNumbered, HasSplit, IsOpenNode, node_of, root_node, leaf_below, with_content}
 use Rattle.keyed_tree.specs.Keyed.{CameFrom, Before, IsFirst, IsSecond, IsKeyed, IsWaiting, Keyed}
-use Rattle.keyed_tree.proofs.Found.{found_gone, found_rest, found_last, found_before}
+use Rattle.keyed_tree.proofs.Found.{found_gone, found_rest, found_last, found_before, without_put}
 
 -- two entries under one key are one
 pub same_item : (k : Keyed) (key n m : ℕ) (b c : ℤ) → IsWaiting k key n b → IsWaiting k key m c → n ≡ m
@@ -112,6 +112,15 @@ low_of old bounds = record { bound = bounds.0; item = length old.nodes }
 
 abbrev high_of : Keyed → ℤ × ℤ → Waiting
 high_of old bounds = record { bound = bounds.1; item = length old.nodes + 1 }
+
+-- the two stand behind the others
+pub put_last : (old new : Keyed) (key low high : ℕ) (bounds : ℤ × ℤ) → IsPut old new key low high bounds
+    → new.waits ≡ without old.waits key ++ (low, low_of old bounds) ∷ (high, high_of old bounds) ∷ []
+put_last old new key low high bounds put =
+    let q : Waits = old.waits ++ (low, low_of old bounds) ∷ [] in
+    put.waits ∙ without_put q key high (high_of old bounds) put.high_apart
+    ∙ ap (λ (r : Waits). r ++ (high, high_of old bounds) ∷ []) (without_put old.waits key low (low_of old bounds) put.low_apart)
+    ∙ append_assoc (without old.waits key) ((low, low_of old bounds) ∷ []) ((high, high_of old bounds) ∷ [])
 
 high_found : (old new : Keyed) (key low high : ℕ) (bounds : ℤ × ℤ) → IsPut old new key low high bounds
     → found new.waits high ≡ Some (high_of old bounds)

@@ -1,3 +1,4 @@
 pub mod Found
+pub mod Aged
 pub mod Numbered
 pub mod Keeping

@@ -6,5 +6,5 @@ mod laws;
 
 pub use crew_terms::Choice;
 pub use keyed::{KeyedTree, OpenLeaf};
-pub use laws::{numbers_stay, same_numbers_same_tree};
+pub use laws::{leaves_keep_order, numbers_stay, same_numbers_same_tree};
 pub use search_tree::{Content, Node, Turn};

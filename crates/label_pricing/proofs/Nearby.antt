@@ -1,9 +1,8 @@
 -- cells of a minute, with the tasks that may be begun then
-use Rattle.std.proofs.Common.{◌≡◌, ◌≤◌, ◌<◌, ◌+◌, ◌++◌, ◌∷◌, [], ℕ, List, length, ◌⊎◌, inl, inr, sym, subst, refl, arith, length-append}
+use Rattle.std.proofs.Common.{◌≡◌, ◌≤◌, ◌<◌, ◌+◌, ◌++◌, ◌∷◌, [], ℕ, ℤ, List, length, ◌⊎◌, inl, inr, sym, subst, refl, arith, length-append}
 use Rattle.std.proofs.lemmas.Bool.{cases_lt}
 use Rattle.std.proofs.lemmas.List.{get_or_append_left, get_or_push}
 use Rattle.crew_terms.specs.Limits.{Limits, IsPermittedVisit, tasks_in}
-use Rattle.crew_terms.specs.Leaf.{Prices}
 use Rattle.label_pricing.specs.Cells.{IsCell, IsSeen, AreCellsFor, cell_of}
 use Rattle.label_pricing.specs.Near.{AreNear, IsBetween, near_at}
 use Rattle.label_pricing.specs.Turns.{AreTurns}
@@ -16,9 +15,9 @@ pub record IsReached (n : Limits) (near : List ℕ) (i m : ℕ) : Type 0 where
   pub below : i < length near → m ≤ near_at near i
   pub few : m ≤ tasks_in n
 
-module _ (n : Limits) (k : ℕ) (p : Prices) where
+module _ (n : Limits) (k : ℕ) (w : ℕ → ℕ → ℤ) where
   -- tasks that can't be begun at the minute change no cell
-  passed : (t m l : ℕ) (grid : List Cell) → AreCellsFor n k p t m grid → ((j : ℕ) → m ≤ j → j < l → IsPermittedVisit n k j t → ⊥) → AreCellsFor n k p t l grid
+  passed : (t m l : ℕ) (grid : List Cell) → AreCellsFor n k w t m grid → ((j : ℕ) → m ≤ j → j < l → IsPermittedVisit n k j t → ⊥) → AreCellsFor n k w t l grid
   passed t m l grid before none q b = record {
     first = is.first;
     second = is.second;
@@ -27,7 +26,7 @@ module _ (n : Limits) (k : ℕ) (p : Prices) where
     most_other = λ j u seen at ne r (here, on). is.most_other j u (less j u seen here) at ne r (here, on);
   }
     where
-      is : IsCell n k p q t m (cell_of (length n.instance.places) grid q t)
+      is : IsCell n k w q t m (cell_of (length n.instance.places) grid q t)
       is = before q b
 
       less : (j u : ℕ) → IsSeen t l j u → IsPermittedVisit n k j u → IsSeen t m j u
@@ -39,7 +38,7 @@ module _ (n : Limits) (k : ℕ) (p : Prices) where
 
   -- nor do those between two that stand next to each other in the list
   pub skipped_to : (t i m l : ℕ) (turns : List Turn) (near : List ℕ) (grid : List Cell) → AreTurns n k turns → AreNear turns t near → i ≤ length near → ((h : ℕ) → h < i → near_at near h < m) → IsReached n near i l
-      → AreCellsFor n k p t m grid → AreCellsFor n k p t l grid
+      → AreCellsFor n k w t m grid → AreCellsFor n k w t l grid
   skipped_to t i m l turns near grid are is inside below reached before = passed t m l grid before (λ j ge lt here.
       let count = are.count in
       let few = reached.few in

@@ -4,7 +4,7 @@ use Rattle.std.specs.Int.{bit_at}
 use Rattle.std.proofs.lemmas.Int.{ints}
 use Rattle.crew_terms.specs.Instance.{task_of, minutes_between}
 use Rattle.crew_terms.specs.Limits.{Limits, IsPermittedVisit, IsRoute, GoesOn, pair_of, tasks_in}
-use Rattle.crew_terms.specs.Leaf.{Prices, IsOnRequired, IsWorth, reward, rewards}
+use Rattle.crew_terms.specs.Leaf.{Prices, IsOnRequired, IsWorth, reward, rewards, earned}
 use Rattle.crew_terms.specs.declared.Pair.{Pair}
 use Rattle.crew_terms.specs.declared.Pair.TheVariants.{Free, Forbidden, Required}
 use Rattle.crew_terms.specs.declared.Visit.{Visit}
@@ -80,15 +80,15 @@ module _ (n : Limits) (k h : ℕ) (is : AreAlike n k h) where
         let b = priced h j pair.1 in
         omega (arith, ints)
 
-    rewards_on : (v : Visit) (r : List Visit) → GoesOn n k v r → rewards p k r ≡ rewards p h r
+    rewards_on : (v : Visit) (r : List Visit) → GoesOn n k v r → rewards (earned p k) r ≡ rewards (earned p h) r
     rewards_on v [] on = refl
     rewards_on v (w ∷ ws) (step, there, on) = let a = reward_same w.task there.known in let b = rewards_on w ws on in omega (arith, ints)
 
-    pub rewards_same : (r : List Visit) → IsRoute n k r → rewards p k r ≡ rewards p h r
+    pub rewards_same : (r : List Visit) → IsRoute n k r → rewards (earned p k) r ≡ rewards (earned p h) r
     rewards_same [] route = refl
     rewards_same (v ∷ vs) (here, on) = let a = reward_same v.task here.known in let b = rewards_on v vs on in omega (arith, ints)
 
-pub worth_too : (n : Limits) (k h : ℕ) (p : Prices) (v : ℤ) → AreAlike n k h → IsOnRequired n p → IsWorth n k p v → IsWorth n h p v
+pub worth_too : (n : Limits) (k h : ℕ) (p : Prices) (v : ℤ) → AreAlike n k h → IsOnRequired n p → IsWorth n k (earned p k) v → IsWorth n h (earned p h) v
 worth_too n k h p v is priced worth = record {
   attained =
       let at = worth.attained in

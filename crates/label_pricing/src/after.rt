@@ -1,8 +1,8 @@
 // What can be earned after a visit, and from a visit on, by the cells of later minutes.
-ghost use Rattle.std.specs.Prelude.{◌≡◌, ◌≤◌, ◌<◌, ◌+◌, ℕ, length};
+ghost use Rattle.std.specs.Prelude.{◌≡◌, ◌≤◌, ◌<◌, ◌+◌, ℕ, ℤ, length};
 ghost use Rattle.crew_terms.specs.Rules.{IsInstance};
 ghost use Rattle.crew_terms.specs.Limits.{IsPermittedVisit, Limits as NodeLimits, tasks_in, teams_in};
-ghost use Rattle.crew_terms.specs.Leaf.{Prices as NodePrices};
+ghost use Rattle.crew_terms.specs.Leaf.{earned};
 ghost use Rattle.label_pricing.specs.Best.{IsAfter, IsBest, IsFirst};
 ghost use Rattle.label_pricing.specs.Cells.{AreCells, IsGrid};
 ghost use Rattle.label_pricing.specs.Turns.{IsEnd, IsStart, IsTurn};
@@ -10,7 +10,7 @@ ghost use Rattle.potentials.specs.Prices.{ArePricesOf};
 
 use crate::grid::cell;
 use crate::labels::{Cell, Label, without};
-use crate::turns::{Turn, earned};
+use crate::turns::Turn;
 use crew_instance::Instance;
 use node_limits::Limits;
 use potentials::Prices;
@@ -30,9 +30,9 @@ pub(crate) fn after(
     requires minute { t ≤ 2880 }
     requires end { end ≤ 2881 }
     requires grid { IsGrid (length instance.now.places) grid.now }
-    ensures { (n : NodeLimits) (k : ℕ) (p : NodePrices) → n.instance ≡ instance.now
+    ensures { (n : NodeLimits) (k : ℕ) (w : ℕ → ℕ → ℤ) → n.instance ≡ instance.now
         → IsTurn n k j turn → IsEnd n k end
-        → AreCells n k p (t + 1) end grid.now → IsAfter n k p j t result }
+        → AreCells n k w (t + 1) end grid.now → IsAfter n k w j t result }
 {
     let mut best = Label {
         value: 0,
@@ -56,10 +56,10 @@ pub(crate) fn after(
 pub(crate) fn first(grid: &[Cell], places: u32, start: u32) -> Label
     requires grid { IsGrid places grid.now }
     requires minute { start < 2882 }
-    ensures { (n : NodeLimits) (k : ℕ) (p : NodePrices) (end : ℕ) → IsInstance n.instance
+    ensures { (n : NodeLimits) (k : ℕ) (w : ℕ → ℕ → ℤ) (end : ℕ) → IsInstance n.instance
         → length n.instance.places ≡ places
-        → IsStart n k start → start ≤ end → AreCells n k p start end grid.now
-        → IsFirst n k p result }
+        → IsStart n k start → start ≤ end → AreCells n k w start end grid.now
+        → IsFirst n k w result }
 {
     let mut best = Label {
         value: 0,
@@ -93,14 +93,14 @@ pub(crate) fn label_at(
     requires end { IsEnd limits.now.limits k end }
     requires day { end ≤ 2881 }
     requires grid { IsGrid (length limits.now.limits.instance.places) grid.now }
-    requires cells { AreCells limits.now.limits k prices.now (t + 1) end grid.now }
+    requires cells { AreCells limits.now.limits k (earned prices.now k) (t + 1) end grid.now }
     ensures task { result.task ≡ j }
     ensures start { result.start ≡ t }
-    ensures best { IsBest limits.now.limits k prices.now j t result.value }
+    ensures best { IsBest limits.now.limits k (earned prices.now k) j t result.value }
 {
     let next = after(limits.instance(), grid, end, turn, j, t);
     Label {
-        value: earned(prices, k, j) + next.value,
+        value: prices.reward(k, j) + next.value,
         task: j,
         start: t,
     }

@@ -1,6 +1,6 @@
 // Teams that price alike.
 ghost use Rattle.std.specs.Prelude.{◌≡◌, ◌<◌, ◌↔◌, ℕ, ℤ, List, IsTrue};
-ghost use Rattle.crew_terms.specs.Leaf.{IsOnRequired, IsWorth, Prices as NodePrices, rewards};
+ghost use Rattle.crew_terms.specs.Leaf.{IsOnRequired, IsWorth, Prices as NodePrices, rewards, earned};
 ghost use Rattle.crew_terms.specs.Limits.{Limits as NodeLimits, IsRoute, pair_of, tasks_in, teams_in};
 ghost use Rattle.crew_terms.specs.declared.Visit.{Visit as TeamVisit};
 ghost use Rattle.label_pricing.specs.Alike.{AreAlike, AreSame, IsPairAlike};
@@ -53,8 +53,8 @@ pub fn alike_teams_earn_alike()
         → IsRoute n k r → IsRoute n h r }
     ensures rewards { (n : NodeLimits) (k h : ℕ) (p : NodePrices) (r : List TeamVisit)
         → AreAlike n k h → IsOnRequired n p
-        → IsRoute n k r → rewards p k r ≡ rewards p h r }
+        → IsRoute n k r → rewards (earned p k) r ≡ rewards (earned p h) r }
     ensures worths { (n : NodeLimits) (k h : ℕ) (p : NodePrices) (v : ℤ) → AreAlike n k h
         → IsOnRequired n p
-        → IsWorth n k p v → IsWorth n h p v }
+        → IsWorth n k (earned p k) v → IsWorth n h (earned p h) v }
 {}

@@ -1,6 +1,6 @@
 // Pricing of one team after the other, in room that is taken once.
 ghost use Rattle.std.specs.Prelude.{◌≡◌, ◌<◌, ◌↔◌, ◌≤◌, ℕ, length, IfOk, OnErr};
-ghost use Rattle.crew_terms.specs.Leaf.{HoldsLocally, IsOnRequired, IsWorth, Proves, bound_of, rewards};
+ghost use Rattle.crew_terms.specs.Leaf.{HoldsLocally, IsOnRequired, IsWorth, Proves, bound_of, rewards, earned};
 ghost use Rattle.crew_terms.specs.Limits.{IsPermittedVisit, IsRoute, tasks_in, teams_in};
 ghost use Rattle.label_pricing.specs.Best.{IsBest};
 ghost use Rattle.label_pricing.specs.Pricing.{HasRoom};
@@ -65,9 +65,9 @@ impl Pricer {
         requires team { k < teams_in limits.now.limits }
         requires prices { ArePricesOf limits.now.limits prices.now }
         requires room { HasRoom limits.now.limits.instance self.old }
-        ensures worth { IsWorth limits.now.limits k prices.now result }
+        ensures worth { IsWorth limits.now.limits k (earned prices.now k) result }
         ensures route { IsRoute limits.now.limits k self.new.route }
-        ensures rewards { rewards prices.now k self.new.route ≡ result }
+        ensures rewards { rewards (earned prices.now k) self.new.route ≡ result }
         ensures worths { self.new.worths ≡ self.old.worths }
         ensures room { self.new.places ≡ self.old.places }
     {
@@ -89,12 +89,13 @@ impl Pricer {
         requires room { HasRoom limits.now.limits.instance self.old }
         requires table { IsTableOf limits.now.limits.instance table.old }
         ensures table { IsTableOf limits.now.limits.instance table.new }
-        ensures holds { HoldsLocally limits.now.limits k prices.now (phi table.new) result }
+        ensures holds { HoldsLocally limits.now.limits k (earned prices.now k)
+            (phi table.new) result }
         ensures best { (j t : ℕ) → IsPermittedVisit limits.now.limits k j t
-            → IsBest limits.now.limits k prices.now j t (phi table.new j t) }
-        ensures worth { IsWorth limits.now.limits k prices.now result }
+            → IsBest limits.now.limits k (earned prices.now k) j t (phi table.new j t) }
+        ensures worth { IsWorth limits.now.limits k (earned prices.now k) result }
         ensures route { IsRoute limits.now.limits k self.new.route }
-        ensures rewards { rewards prices.now k self.new.route ≡ result }
+        ensures rewards { rewards (earned prices.now k) self.new.route ≡ result }
         ensures worths { self.new.worths ≡ self.old.worths }
         ensures room { self.new.places ≡ self.old.places }
     {
@@ -176,11 +177,13 @@ pub fn price_team(
     requires table { IsTableOf limits.now.limits.instance table.old }
     ensures table { IsTableOf limits.now.limits.instance table.new }
     ensures err { OnErr result (table.new ≡ table.old) }
-    ensures holds { IfOk result (λ found. HoldsLocally limits.now.limits k prices.now
+    ensures holds { IfOk result (λ found. HoldsLocally limits.now.limits k (earned prices.now k)
         (phi table.new) found.worth) }
     ensures route { IfOk result (λ found. IsRoute limits.now.limits k found.route) }
-    ensures rewards { IfOk result (λ found. rewards prices.now k found.route ≡ found.worth) }
-    ensures worth { IfOk result (λ found. IsWorth limits.now.limits k prices.now found.worth) }
+    ensures rewards { IfOk result (λ found.
+        rewards (earned prices.now k) found.route ≡ found.worth) }
+    ensures worth { IfOk result (λ found.
+        IsWorth limits.now.limits k (earned prices.now k) found.worth) }
 {
     let mut pricer = Pricer::reserve(alloc, limits.instance())?;
     let worth = pricer.price_with(limits, k, prices, table);

@@ -1,6 +1,6 @@
 // What prices prove in a node.
 ghost use Rattle.std.specs.Prelude.{◌≡◌, ◌≤◌, ◌<◌, ℕ, length, vec_capacity, IfSome};
-ghost use Rattle.crew_terms.specs.Leaf.{IsOnRequired, IsWorth, Proves, worth_of};
+ghost use Rattle.crew_terms.specs.Leaf.{IsOnRequired, IsWorth, Proves, worth_of, earned};
 ghost use Rattle.crew_terms.specs.Limits.{tasks_in, teams_in};
 ghost use Rattle.crew_terms.specs.declared.TheConstants.{MOST_TEAMS};
 ghost use Rattle.label_pricing.specs.Alike.{AreAlike};
@@ -63,9 +63,9 @@ fn worth_after(
     requires priced { IsOnRequired limits.now.limits prices.now }
     requires work { HasWorkRoom (length limits.now.limits.instance.places) work.old }
     requires count { length worths.now ≡ k }
-    requires worths { (h : ℕ) → h < k → IsWorth limits.now.limits h prices.now
+    requires worths { (h : ℕ) → h < k → IsWorth limits.now.limits h (earned prices.now h)
         (worth_of worths.now h) }
-    ensures worth { IsWorth limits.now.limits k prices.now result }
+    ensures worth { IsWorth limits.now.limits k (earned prices.now k) result }
     ensures work { HasWorkRoom (length limits.now.limits.instance.places) work.new }
 {
     alike_teams_earn_alike();

@@ -1,7 +1,7 @@
 // Room for pricing, and what it holds of the team that was priced last.
 ghost use Rattle.std.specs.Prelude.{◌≡◌, ◌<◌, ◌+◌, ℕ, ℤ, length, IfOk};
 ghost use Rattle.crew_terms.specs.Limits.{IsPermittedVisit, IsRoute, tasks_in, teams_in};
-ghost use Rattle.crew_terms.specs.Leaf.{HoldsLocally, IsWorth, rewards};
+ghost use Rattle.crew_terms.specs.Leaf.{HoldsLocally, IsWorth, rewards, earned};
 ghost use Rattle.label_pricing.specs.Best.{IsBest};
 ghost use Rattle.label_pricing.specs.Work.{HasPriced, HasWorkRoom};
 ghost use Rattle.potentials.specs.Prices.{ArePricesOf};
@@ -67,10 +67,10 @@ impl Workspace {
         requires team { k < teams_in limits.now.limits }
         requires prices { ArePricesOf limits.now.limits prices.now }
         requires room { HasWorkRoom (length limits.now.limits.instance.places) self.old }
-        ensures worth { IsWorth limits.now.limits k prices.now result }
+        ensures worth { IsWorth limits.now.limits k (earned prices.now k) result }
         ensures route { IsRoute limits.now.limits k self.new.route.items }
-        ensures rewards { rewards prices.now k self.new.route.items ≡ result }
-        ensures priced { HasPriced limits.now.limits k prices.now self.new }
+        ensures rewards { rewards (earned prices.now k) self.new.route.items ≡ result }
+        ensures priced { HasPriced limits.now.limits k (earned prices.now k) self.new }
         ensures room { HasWorkRoom (length limits.now.limits.instance.places) self.new }
     {
         find_turns(limits, k, &mut self.turns);
@@ -116,13 +116,13 @@ impl Workspace {
     pub fn fill(&self, limits: &Limits<'_>, k: u32, prices: &Prices, table: &mut Table)
         requires team { k < teams_in limits.now.limits }
         requires prices { ArePricesOf limits.now.limits prices.now }
-        requires priced { HasPriced limits.now.limits k prices.now self.now }
+        requires priced { HasPriced limits.now.limits k (earned prices.now k) self.now }
         requires table { IsTableOf limits.now.limits.instance table.old }
         ensures table { IsTableOf limits.now.limits.instance table.new }
         ensures best { (j t : ℕ) → IsPermittedVisit limits.now.limits k j t
-            → IsBest limits.now.limits k prices.now j t (phi table.new j t) }
-        ensures holds { (worth : ℤ) → IsWorth limits.now.limits k prices.now worth
-            → HoldsLocally limits.now.limits k prices.now (phi table.new) worth }
+            → IsBest limits.now.limits k (earned prices.now k) j t (phi table.new j t) }
+        ensures holds { (worth : ℤ) → IsWorth limits.now.limits k (earned prices.now k) worth
+            → HoldsLocally limits.now.limits k (earned prices.now k) (phi table.new) worth }
     {
         best_potentials_hold();
         fill(

@@ -20,7 +20,8 @@ use Rattle.master_laws.proofs.Duals.{no_route}
 use Rattle.master_laws.proofs.Summed.{IsSummed}
 use Rattle.master_laws.proofs.Stands.{Opens}
 use Rattle.master_laws.proofs.Known.{IsKnown, variable_at, amount, amount-same, Picks}
-use Rattle.search_terms.specs.declared.TheConstants.{BIG_M, VALUE}
+use Rattle.share_terms.specs.declared.TheConstants.{BIG_M}
+use Rattle.search_terms.specs.declared.TheConstants.{VALUE}
 
 abbrev pub unused_at : ℕ → Place → ℤ
 unused_at k (Unused h) = one_if (h == k)

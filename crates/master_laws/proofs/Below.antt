@@ -2,7 +2,7 @@
 use Rattle.std.proofs.Common.{ℕ, Bool, List}
 use Rattle.std.specs.Prelude.{◌==◌}
 use Rattle.std.specs.List.{range_with_len}
-use Rattle.search_terms.specs.Shares.{Share}
+use Rattle.share_terms.specs.Shares.{Share}
 
 -- the numbers below n
 abbrev pub below : ℕ → List ℕ

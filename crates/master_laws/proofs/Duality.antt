@@ -14,7 +14,7 @@ use Rattle.search_terms.specs.Opening.{basic_at, basic_number, opener, openers, 
 use Rattle.search_terms.specs.Pivot.{IsOptimal}
 use Rattle.search_terms.specs.MasterRun.{IsMasterRun}
 use Rattle.search_terms.specs.Duals.{AreDuals, AreUpToPenalty, IsUpTo, best_reward, term_over, extras}
-use Rattle.search_terms.specs.Shares.{IsRouteIn, IsFractional, choice_value}
+use Rattle.share_terms.specs.Shares.{IsRouteIn, IsFractional, choice_value}
 use Rattle.ring_laws.specs.Ring.{positive}
 use Rattle.master_laws.proofs.Opened.{basic_opening}
 use Rattle.crew_terms.specs.Totals.{lt_or_last}
@@ -31,7 +31,8 @@ use Rattle.master_laws.proofs.Slack.{value_by_duals}
 use Rattle.master_laws.proofs.Choice.{same_parts}
 use Rattle.master_laws.proofs.Strong.{Solved, fractional, choice_value_is}
 use Rattle.master_laws.proofs.Standing.{prices_at, worths_at, prices_stand, worths_stand}
-use Rattle.search_terms.specs.declared.TheConstants.{BIG_M, RIGHT, VALUE}
+use Rattle.share_terms.specs.declared.TheConstants.{BIG_M}
+use Rattle.search_terms.specs.declared.TheConstants.{RIGHT, VALUE}
 use Rattle.search_terms.specs.BasicChoice.{AreWholeParts, HasParts, choice_of}
 use Rattle.master_laws.specs.Opening.{above_of}
 

@@ -27,7 +27,8 @@ use Rattle.master_laws.proofs.Duals.{entries_run, earned_is_entry, no_route}
 use Rattle.master_laws.proofs.Numbers.{by_duals, value_number}
 use Rattle.master_laws.proofs.ByKind.{at_required, sum_basics}
 use Rattle.master_laws.proofs.Stands.{Stands, unused_stands, unassigned_stands, shortage_stands, excess_stands, missed_stands, repeated_stands}
-use Rattle.search_terms.specs.declared.TheConstants.{BIG_M, RIGHT, VALUE}
+use Rattle.share_terms.specs.declared.TheConstants.{BIG_M}
+use Rattle.search_terms.specs.declared.TheConstants.{RIGHT, VALUE}
 use Rattle.master_laws.specs.Opening.{wide_opening}
 
 -- ---- the duals as prices, extras and worths

@@ -8,7 +8,7 @@ use Rattle.std.proofs.lemmas.Int.{ints, clamps, by_lt_z}
 use Rattle.std.proofs.lemmas.List.Sums.{sum_by-cons}
 use Rattle.std.proofs.Math.IntN.{*ℤ_comm, *ℤ-zero, zero-*ℤ}
 use Rattle.crew_terms.specs.Limits.{Limits, tasks_in, teams_in, pair_of, is_required, has_required, IsRoute, GoesOn, Route}
-use Rattle.crew_terms.specs.Leaf.{Prices, pi_of, rho_of, worth_of, reward, rewards, task_price}
+use Rattle.crew_terms.specs.Leaf.{Prices, pi_of, rho_of, worth_of, reward, rewards, task_price, earned}
 use Rattle.crew_terms.specs.Total.{total}
 use Rattle.crew_terms.specs.declared.Pair.{Pair}
 use Rattle.crew_terms.specs.declared.Pair.TheVariants.{Free, Forbidden, Required}
@@ -17,7 +17,7 @@ use Rattle.search_terms.specs.declared.Place.TheVariants.{Unused}
 use Rattle.search_terms.specs.Rows.{Row, Rows, number, last, value_row}
 use Rattle.search_terms.specs.Opening.{places, visit_number, one_if}
 use Rattle.search_terms.specs.Duals.{AreDuals, best_reward, term_over, extras}
-use Rattle.search_terms.specs.Shares.{IsRouteIn, visits_to}
+use Rattle.share_terms.specs.Shares.{IsRouteIn, visits_to}
 use Rattle.ring_laws.specs.Ring.{scale_sum}
 use Rattle.crew_terms.specs.Totals.{total-same, total-zero, total-one, total-plus}
 use Rattle.crew_terms.specs.Greater.{max_left, max_right}
@@ -57,7 +57,7 @@ route_inside : (n : Limits) (k : ℕ) (vs : List Visit) → IsRoute n k vs → I
 route_inside n k [] r = tt
 route_inside n k (v ∷ vs) r = (r.0.known, goes_inside n k v vs r.1)
 
-rewards_by_task : (n : Limits) (p : Prices) (k : ℕ) (vs : List Visit) → Inside n vs → rewards p k vs ≡ total (tasks_in n) (λ j. reward p k j *ℤ pos (visits_to j vs))
+rewards_by_task : (n : Limits) (p : Prices) (k : ℕ) (vs : List Visit) → Inside n vs → rewards (earned p k) vs ≡ total (tasks_in n) (λ j. reward p k j *ℤ pos (visits_to j vs))
 rewards_by_task n p k [] i = sym (total-zero (tasks_in n) (λ j. reward p k j *ℤ pos 0) (λ j _. *ℤ-zero (reward p k j)))
 rewards_by_task n p k (v ∷ vs) i =
     let one : ℕ → ℕ = λ j. cond (eqb v.task j) 1 0 in
@@ -80,7 +80,7 @@ required_times n value p k j z d = by_pair (pair_of n k j) refl
 
 -- the number of a route in the value's row: its rewards, less its team's worth
 pub route_by_prices : (n : Limits) (value : Row) (p : Prices) (ws : List ℤ) (r : Route) → AreDuals n value p → IsRouteIn n r
-    → by_prices n p ws (visit_number r) ≡ rewards p r.team r.visits -ℤ worth_of ws r.team
+    → by_prices n p ws (visit_number r) ≡ rewards (earned p r.team) r.visits -ℤ worth_of ws r.team
 route_by_prices n value p ws r d legal =
     let k = r.team in
     let v : ℕ → ℤ = λ j. pos (visits_to j r.visits) in
@@ -113,33 +113,33 @@ AllLegal n routes = (i : ℕ) → i < length routes → IsRouteIn n (get_or rout
 int_max_most : (a b w : ℤ) → a ≤ℤ w → b ≤ℤ w → int_max a b ≤ℤ w
 int_max_most a b w p q = omega (arith, ints, clamps)
 
-best_has : (p : Prices) (rs : List Route) (k i : ℕ) → i < length rs → (get_or rs i no_route).team ≡ k → rewards p k (get_or rs i no_route).visits ≤ℤ best_reward p rs k
+best_has : (p : Prices) (rs : List Route) (k i : ℕ) → i < length rs → (get_or rs i no_route).team ≡ k → rewards (earned p k) (get_or rs i no_route).visits ≤ℤ best_reward p rs k
 best_has p [] k i lt e = absurd (omega arith)
 best_has p (r ∷ rs) k zero lt e = by_test (eqb_tells k r.team)
   where
     by_test : ((eqb k r.team ≡ true) × (k ≡ r.team)) ⊎ ((eqb k r.team ≡ false) × (k ≢ r.team))
-        → rewards p k r.visits ≤ℤ cond (eqb k r.team) (int_max (rewards p k r.visits) (best_reward p rs k)) (best_reward p rs k)
-    by_test (inl q) = rw q.0 (max_left (rewards p k r.visits) (best_reward p rs k))
+        → rewards (earned p k) r.visits ≤ℤ cond (eqb k r.team) (int_max (rewards (earned p k) r.visits) (best_reward p rs k)) (best_reward p rs k)
+    by_test (inl q) = rw q.0 (max_left (rewards (earned p k) r.visits) (best_reward p rs k))
     by_test (inr q) = absurd (q.1 (sym e))
 best_has p (r ∷ rs) k (suc i) lt e = by_test (eqb k r.team) (best_has p rs k i (omega arith) e)
   where
-    by_test : (t : Bool) → rewards p k (get_or rs i no_route).visits ≤ℤ best_reward p rs k
-        → rewards p k (get_or rs i no_route).visits ≤ℤ cond t (int_max (rewards p k r.visits) (best_reward p rs k)) (best_reward p rs k)
-    by_test true h = let e = max_right (rewards p k r.visits) (best_reward p rs k) in omega (arith, ints)
+    by_test : (t : Bool) → rewards (earned p k) (get_or rs i no_route).visits ≤ℤ best_reward p rs k
+        → rewards (earned p k) (get_or rs i no_route).visits ≤ℤ cond t (int_max (rewards (earned p k) r.visits) (best_reward p rs k)) (best_reward p rs k)
+    by_test true h = let e = max_right (rewards (earned p k) r.visits) (best_reward p rs k) in omega (arith, ints)
     by_test false h = h
 
-best_most : (p : Prices) (rs : List Route) (k : ℕ) (w : ℤ) → pos 0 ≤ℤ w → ((i : ℕ) → i < length rs → (get_or rs i no_route).team ≡ k → rewards p k (get_or rs i no_route).visits ≤ℤ w) → best_reward p rs k ≤ℤ w
+best_most : (p : Prices) (rs : List Route) (k : ℕ) (w : ℤ) → pos 0 ≤ℤ w → ((i : ℕ) → i < length rs → (get_or rs i no_route).team ≡ k → rewards (earned p k) (get_or rs i no_route).visits ≤ℤ w) → best_reward p rs k ≤ℤ w
 best_most p [] k w low h = low
 best_most p (r ∷ rs) k w low h = by_test (eqb_tells k r.team) (best_most p rs k w low (λ i lt e. h (suc i) (omega arith) e))
   where
     by_test : ((eqb k r.team ≡ true) × (k ≡ r.team)) ⊎ ((eqb k r.team ≡ false) × (k ≢ r.team)) → best_reward p rs k ≤ℤ w
-        → cond (eqb k r.team) (int_max (rewards p k r.visits) (best_reward p rs k)) (best_reward p rs k) ≤ℤ w
-    by_test (inl q) rest = rw q.0 (int_max_most (rewards p k r.visits) (best_reward p rs k) w (h 0 (omega arith) (sym q.1)) rest)
+        → cond (eqb k r.team) (int_max (rewards (earned p k) r.visits) (best_reward p rs k)) (best_reward p rs k) ≤ℤ w
+    by_test (inl q) rest = rw q.0 (int_max_most (rewards (earned p k) r.visits) (best_reward p rs k) w (h 0 (omega arith) (sym q.1)) rest)
     by_test (inr q) rest = rw q.0 rest
 
 -- ---- the worth of a team is the best of its routes
 pub route_low : (n : Limits) (routes : List Route) (t : Rows) (p : Prices) (ws : List ℤ) (i : ℕ) → Optimum n routes t p ws → AreDuals n (value_row t) p → IsRouteIn n (get_or routes i no_route) → i < length routes
-    → number (value_row t) (length (places n) + i) ≡ rewards p (get_or routes i no_route).team (get_or routes i no_route).visits -ℤ worth_of ws (get_or routes i no_route).team
+    → number (value_row t) (length (places n) + i) ≡ rewards (earned p (get_or routes i no_route).team) (get_or routes i no_route).visits -ℤ worth_of ws (get_or routes i no_route).team
 route_low n routes t p ws i o d legal lt = o.entries i lt ∙ route_by_prices n (value_row t) p ws (get_or routes i no_route) d legal
 
 worth_least : (n : Limits) (routes : List Route) (t : Rows) (p : Prices) (ws : List ℤ) (k : ℕ) → Optimum n routes t p ws → AreDuals n (value_row t) p → AllLegal n routes → k < teams_in n
@@ -149,7 +149,7 @@ worth_least n routes t p ws k o d legal lt =
     let two : 2 ≤ length (places n) = omega arith in
     let f = route_low n routes t p ws i o d (legal i in_i) in_i in
     let g = o.low (length (places n) + i) (omega arith) (omega arith) in
-    let h = ap (λ q. rewards p q (get_or routes i no_route).visits) e in
+    let h = ap (λ q. rewards (earned p q) (get_or routes i no_route).visits) e in
     let w = ap (worth_of ws) e in
     omega (arith, ints))
 
@@ -175,7 +175,7 @@ worth_most n routes t p ws whole x k o d legal summed s lt = by_lt_z (best_rewar
         let two : 2 ≤ length (places n) = omega arith in
         let f = route_low n routes t p ws i o d (legal i in_i) in_i in
         let g = best_has p routes k i in_i (sym q.1) in
-        let h = ap (λ c. rewards p c (get_or routes i no_route).visits) q.1 in
+        let h = ap (λ c. rewards (earned p c) (get_or routes i no_route).visits) q.1 in
         let w = ap (worth_of ws) q.1 in
         let z = slack n routes t p ws whole x (length (places n) + i) o s (omega arith) (omega (arith, ints)) in
         times_zero (one_if (eqb k (get_or routes i no_route).team)) (x (length (places n) + i)) z

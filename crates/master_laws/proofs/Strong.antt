@@ -14,7 +14,7 @@ use Rattle.search_terms.specs.declared.Place.{Place}
 use Rattle.search_terms.specs.declared.Place.TheVariants.{Unused, Unassigned, Shortage, Excess, Missed, Repeated}
 use Rattle.search_terms.specs.Rows.{Rows, number, last, value_row}
 use Rattle.search_terms.specs.Opening.{places, one_if, teams_for}
-use Rattle.search_terms.specs.Shares.{Share, FractionalChoice, IsRouteIn, IsFractional, choice_value, shares_of, parts_of, weighed_visits, distance, task_gap, pair_gap, unassigned_of, visits_to}
+use Rattle.share_terms.specs.Shares.{Share, FractionalChoice, IsRouteIn, IsFractional, choice_value, shares_of, parts_of, weighed_visits, distance, task_gap, pair_gap, unassigned_of, visits_to}
 use Rattle.ring_laws.specs.Ring.{assoc, swap, scale_sum, scale_diff, positive, not_negative, times_up_to, cancel_up_to, cancel_positive, sum_times, difference_times}
 use Rattle.crew_terms.specs.Totals.{total-same}
 use Rattle.master_laws.proofs.Totals.{total-scale}
@@ -29,7 +29,8 @@ use Rattle.master_laws.proofs.Summed.{IsSummed}
 use Rattle.master_laws.proofs.Amounts.{taken, unused_at, open_at, short_at, over_at, miss_at, again_at, picks_unused, picks_open, picks_short, picks_over, picks_miss, picks_again, team_sum, task_sum, pair_sum, value_sum, off_task, off_pair}
 use Rattle.master_laws.proofs.Slack.{slack}
 use Rattle.master_laws.proofs.Choice.{AreAll, open_parts, open_same, shares_total, team_total, taken_same, gap_is, cancel_equal_right}
-use Rattle.search_terms.specs.declared.TheConstants.{BIG_M, RIGHT, VALUE}
+use Rattle.share_terms.specs.declared.TheConstants.{BIG_M}
+use Rattle.search_terms.specs.declared.TheConstants.{RIGHT, VALUE}
 use Rattle.master_laws.proofs.Below.{below}
 use Rattle.search_terms.specs.BasicChoice.{choice_of, route_shares}
 

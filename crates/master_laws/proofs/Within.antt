@@ -18,7 +18,7 @@ use Rattle.search_terms.specs.Rows.{Row, Rows, number, row_of, basic_of, last, w
 use Rattle.search_terms.specs.Opening.{places, place_at, basic_at, basic_number, one_if, opening, teams_for, variables, visit_number}
 use Rattle.search_terms.specs.MasterRun.{MasterRun, IsMasterRun}
 use Rattle.search_terms.specs.MasterRun.MasterRun.{Opens, Pivots, Enters}
-use Rattle.search_terms.specs.Shares.{unassigned_of}
+use Rattle.share_terms.specs.Shares.{unassigned_of}
 use Rattle.search_terms.specs.BasicChoice.{AreWholeParts, choice_of}
 use Rattle.search_terms.specs.declared.TheConstants.{VALUE}
 use Rattle.master_laws.proofs.Below.{below}

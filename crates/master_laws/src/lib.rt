@@ -12,7 +12,7 @@ ghost use Rattle.search_terms.specs.Opening.{OpensWith, dual, dual_sum, entered,
 ghost use Rattle.search_terms.specs.Pivot.{IsBounding, IsImproving, IsOptimal, IsPivot};
 ghost use Rattle.search_terms.specs.MasterRun.{IsMasterRun, IsRunOver};
 ghost use Rattle.search_terms.specs.Duals.{AreDuals, AreUpToPenalty, best_reward, extras, term_over};
-ghost use Rattle.search_terms.specs.Shares.{IsFractional, IsRouteIn, choice_value, unassigned_of};
+ghost use Rattle.share_terms.specs.Shares.{IsFractional, IsRouteIn, choice_value, unassigned_of};
 ghost use Rattle.search_terms.specs.declared.TheConstants.{RIGHT, VALUE};
 ghost use Rattle.search_terms.specs.BasicChoice.{AreWholeParts, choice_of};
 ghost use Rattle.search_terms.specs.declared.Place.{Place};

@@ -6,7 +6,7 @@ use Rattle.crew_terms.specs.Limits.{Limits, Route}
 use Rattle.search_terms.specs.Earned.{AreLegalOf}
 use Rattle.search_terms.specs.Earned.AreLegalOf.{None, Kept, Left}
 use Rattle.search_terms.specs.Search.{Extends, IsColumn}
-use Rattle.search_terms.specs.Shares.{IsRouteIn}
+use Rattle.share_terms.specs.Shares.{IsRouteIn}
 use Rattle.column_arena.specs.Columns.{IsAdded, column_of, no_column}
 use Rattle.master_run.specs.State.{routes_of}
 use Rattle.column_arena.specs.Columns.IsAdded.{Stood, Last}

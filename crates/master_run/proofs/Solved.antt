@@ -11,7 +11,7 @@ use Rattle.crew_terms.specs.Limits.{Limits, Route}
 use Rattle.search_terms.specs.BasicChoice.{route_shares}
 use Rattle.search_terms.specs.Opening.{places}
 use Rattle.search_terms.specs.Overflows.{share_places}
-use Rattle.search_terms.specs.Shares.{FractionalChoice, IsRouteIn, Share as RouteShare}
+use Rattle.share_terms.specs.Shares.{FractionalChoice, IsRouteIn, Share as RouteShare}
 use Rattle.column_arena.specs.Columns.{column_of}
 use Rattle.column_arena.specs.Legal.{IsLegalColumn}
 use Rattle.frac_master.specs.Shares.{AreShares, GivesShares, IsCommonFault, basic_choice, column_shares, parts_at}

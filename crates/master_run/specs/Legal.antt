@@ -5,7 +5,7 @@ use Rattle.crew_terms.specs.Limits.{Limits, Route, IsRoute, GoesOn, tasks_in}
 use Rattle.crew_terms.specs.declared.Visit.{Visit}
 use Rattle.search_terms.specs.Earned.{AreLegalOf}
 use Rattle.search_terms.specs.Earned.AreLegalOf.{None, Kept, Left}
-use Rattle.search_terms.specs.Shares.{IsRouteIn}
+use Rattle.share_terms.specs.Shares.{IsRouteIn}
 
 -- the legal ones among columns are routes in the node
 pub legal_are : (n : Limits) (cs rs : List Route) → AreLegalOf n cs rs → All (IsRouteIn n) rs

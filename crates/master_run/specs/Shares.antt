@@ -1,7 +1,7 @@
 -- the shares of columns, as the fractional choice that they are
 use Rattle.std.specs.Prelude.{ℤ, pos, ◌≤ℤ◌, ◌<ℤ◌, List, All, map, unsigned_abs}
 use Rattle.crew_terms.specs.Limits.{Route}
-use Rattle.search_terms.specs.Shares.{FractionalChoice, Share as RouteShare}
+use Rattle.share_terms.specs.Shares.{FractionalChoice, Share as RouteShare}
 use Rattle.column_arena.specs.Columns.{column_of}
 use Rattle.frac_master.specs.declared.shares.Share.{Share}
 

@@ -5,7 +5,7 @@ use Rattle.std.proofs.lemmas.List.{length-map}
 use Rattle.std.proofs.Math.ListN.{get_or-map}
 use Rattle.std.proofs.lemmas.List.Elements.{All-get_or, Contains-append_left}
 use Rattle.crew_terms.specs.Limits.{Limits, Route, IsRoute, teams_in, tasks_in}
-use Rattle.crew_terms.specs.Leaf.{Prices, IsWorth, Proves, bound_of, rewards, worth_of}
+use Rattle.crew_terms.specs.Leaf.{Prices, IsWorth, Proves, bound_of, rewards, worth_of, earned}
 use Rattle.crew_terms.specs.declared.Visit.{Visit}
 use Rattle.route_terms.specs.Routes.{route_of}
 use Rattle.search_terms.specs.Earned.{AreLegalOf, AreRounded, AreWorths, BeatsRoutes, RunEndsLoose, rounded, rounded_dual}
@@ -18,7 +18,7 @@ use Rattle.frac_master.specs.State.{MasterState}
 use Rattle.search_terms.specs.MasterRun.{IsRunOver}
 use Rattle.search_terms.specs.Proven.{PricesProve, IsProvedCount}
 use Rattle.search_terms.specs.Search.{Extends, IsColumn}
-use Rattle.search_terms.specs.Shares.{IsRouteIn}
+use Rattle.share_terms.specs.Shares.{IsRouteIn}
 use Rattle.column_arena.specs.Columns.{column_of}
 use Rattle.master_run.specs.Legal.{legal_are, legal_held}
 use Rattle.master_run.specs.State.{routes_of}
@@ -46,7 +46,7 @@ met_more n columns more k prices worth extends (Earned r held legal team enough)
 
 -- a route that earns a team's worth earns any worth of it
 pub met_by : (n : Limits) (columns : List Route) (k : ℕ) (prices : Prices) (worth other : ℤ) (visits : List Visit) → k < teams_in n
-    → IsWorth n k prices worth → IsWorth n k prices other → IsRoute n k visits → rewards prices k visits ≡ other
+    → IsWorth n k (earned prices k) worth → IsWorth n k (earned prices k) other → IsRoute n k visits → rewards (earned prices k) visits ≡ other
     → Contains columns (route_of k visits) → IsMet n columns k prices worth
 met_by n columns k prices worth other visits known is that route earns held =
     let (r, route', e) = is.attained in
@@ -55,13 +55,13 @@ met_by n columns k prices worth other visits known is that route earns held =
 
 -- a route that earns a team's worth may be a column, if that is something
 pub earning_column : (n : Limits) (k : ℕ) (prices : Prices) (worth other : ℤ) (visits : List Visit) → k < teams_in n → pos 0 <ℤ worth
-    → IsWorth n k prices worth → IsWorth n k prices other → IsRoute n k visits → rewards prices k visits ≡ other → IsColumn n (route_of k visits)
+    → IsWorth n k (earned prices k) worth → IsWorth n k (earned prices k) other → IsRoute n k visits → rewards (earned prices k) visits ≡ other → IsColumn n (route_of k visits)
 earning_column n k prices worth other visits known some is that route earns = by visits route earns
   where
     enough : worth ≤ℤ other
     enough = let (r, route', e) = is.attained in let below = that.greatest r route' in omega (arith, ints, e, below)
 
-    by : (visits : List Visit) → IsRoute n k visits → rewards prices k visits ≡ other → IsColumn n (route_of k visits)
+    by : (visits : List Visit) → IsRoute n k visits → rewards (earned prices k) visits ≡ other → IsColumn n (route_of k visits)
     by [] route earns = absurd (let e = enough in omega (arith, ints))
     by (v ∷ vs) route earns = record { legal = record { team = known; route = route }; some = omega arith }
 

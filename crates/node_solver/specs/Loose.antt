@@ -7,7 +7,7 @@ use Rattle.crew_terms.specs.declared.TheConstants.{D}
 use Rattle.frac_master.specs.declared.shares.Share.{Share}
 use Rattle.label_pricing.specs.Worths.{AreWorths}
 use Rattle.rounding_laws.specs.declared.TheConstants.{MOST_LOSS}
-use Rattle.search_terms.specs.Shares.{FractionalChoice, IsFractional, IsLoose, choice_value}
+use Rattle.share_terms.specs.Shares.{FractionalChoice, IsFractional, IsLoose, choice_value}
 use Rattle.master_run.specs.Shares.{ArePositive, fractional_of}
 use Rattle.master_run.specs.State.{Rise}
 use Rattle.node_solver.specs.declared.step.NodeEnd.{NodeEnd}

@@ -1,13 +1,11 @@
 // What held columns earn at prices.
-ghost use Rattle.std.specs.Prelude.{◌≡◌, ◌≤◌, ◌<◌, ◌*◌, ◌≤ℤ◌, ◌<ℤ◌, pos, false, All, IsTrue, length};
+ghost use Rattle.std.specs.Prelude.{◌≡◌, ◌≤◌, ◌<◌, ◌≤ℤ◌, ◌<ℤ◌, pos, false, All, IsTrue, length};
 ghost use Rattle.column_arena.specs.Columns.{column_of};
-ghost use Rattle.crew_terms.specs.Leaf.{reward as reward_of, rewards};
+ghost use Rattle.crew_terms.specs.Leaf.{earned, rewards};
 ghost use Rattle.crew_terms.specs.Limits.{teams_in};
-ghost use Rattle.crew_terms.specs.declared.TheConstants.{MOST_PRICE};
 ghost use Rattle.master_run.specs.Along.{IsOver};
 ghost use Rattle.potentials.specs.Prices.{ArePricesOf};
-ghost use Rattle.potentials.specs.Sums.{IsBoundedBy};
-ghost use Rattle.search_terms.specs.Shares.{IsRouteIn};
+ghost use Rattle.share_terms.specs.Shares.{IsRouteIn};
 ghost use Rattle.node_solver.specs.Meeting.{IsMet};
 
 use column_arena::Columns;
@@ -16,25 +14,15 @@ use master_run::Run;
 use node_limits::Limits;
 use potentials::Prices;
 
-// What a visit of the team earns, in 1/D of a task.
-fn reward(prices: &Prices, k: u32, task: u32) -> i64
-    requires team { k < length prices.now.rho }
-    requires task { task < length prices.now.pi }
-    ensures sum { result ≡ reward_of prices.now k task }
-    ensures range { IsBoundedBy (2 * MOST_PRICE) result }
-{
-    prices.pi(task) + prices.rho(k, task)
-}
-
 // What the visits of the team earn together, in 1/D of a task.
 fn earnings(prices: &Prices, k: u32, visits: &[Visit]) -> i128
     requires team { k < length prices.now.rho }
     requires tasks { All (λ v. v.task < length prices.now.pi) visits.now }
-    ensures { result ≡ rewards prices.now k visits.now }
+    ensures { result ≡ rewards (earned prices.now k) visits.now }
 {
     let mut sum = 0i128;
     for visit in visits {
-        sum += i128::from(reward(prices, k, visit.task));
+        sum += i128::from(prices.reward(k, visit.task));
     }
     sum
 }
@@ -53,7 +41,7 @@ fn earns<C: Columns>(
     requires team { k < teams_in limits.now.limits }
     requires prices { ArePricesOf limits.now.limits prices.now }
     ensures team { IsTrue result → (column_of (C.columns columns.now) id).team ≡ k }
-    ensures enough { IsTrue result → worth ≤ℤ rewards prices.now k
+    ensures enough { IsTrue result → worth ≤ℤ rewards (earned prices.now k)
         (column_of (C.columns columns.now) id).visits }
 {
     // It is known from here on that these are limits over an instance.

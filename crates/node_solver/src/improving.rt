@@ -1,6 +1,6 @@
 // Routes that earn more than the columns at some prices.
 ghost use Rattle.std.specs.Prelude.{◌≡◌, ◌≤◌, ◌<◌, IfErr, OnOk, length};
-ghost use Rattle.crew_terms.specs.Leaf.{IsWorth, worth_of};
+ghost use Rattle.crew_terms.specs.Leaf.{IsWorth, worth_of, earned};
 ghost use Rattle.crew_terms.specs.Limits.{teams_in};
 ghost use Rattle.frac_master.specs.Adding.{HaveSameDuals};
 ghost use Rattle.label_pricing.specs.Pricing.{HasRoom};
@@ -30,7 +30,7 @@ fn improve<C: Columns>(
     requires over { IsOver limits.now.limits (C.columns columns.old) run.old }
     requires team { k < teams_in limits.now.limits }
     requires prices { ArePricesOf limits.now.limits prices.now }
-    requires worth { IsWorth limits.now.limits k prices.now worth }
+    requires worth { IsWorth limits.now.limits k (earned prices.now k) worth }
     requires room { HasRoom limits.now.limits.instance pricer.old }
     ensures over { OnOk result (IsOver limits.now.limits (C.columns columns.new) run.new) }
     ensures met { OnOk result (IsMet limits.now.limits (C.columns columns.new) k prices.now worth) }

@@ -229,6 +229,7 @@ fn keeps_what_is_set(rt: HostRuntime) -> Result<(), Fail> {
         ],
         &[7, 7, 0, -5],
     );
+    same(&rt, &[prices.reward(0, 0), prices.reward(0, 1)], &[7, 2]);
     Ok(())
 }
 

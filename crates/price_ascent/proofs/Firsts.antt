@@ -3,7 +3,7 @@ use Rattle.std.proofs.Common.{◌≡◌, ◌≢◌, ◌≤◌, ◌<◌, ◌+◌,
 use Rattle.std.proofs.lemmas.Bool.{cases_eq, cases_lt}
 use Rattle.std.proofs.lemmas.List.{length-set, get_or_append_left, get_or_push}
 use Rattle.crew_terms.specs.Limits.{Limits, teams_in}
-use Rattle.crew_terms.specs.Leaf.{Prices, IsWorth, worth_of}
+use Rattle.crew_terms.specs.Leaf.{Prices, IsWorth, worth_of, earned}
 use Rattle.label_pricing.specs.Alike.{AreAlike}
 use Rattle.price_ascent.specs.Classes.{AreFirsts, AreKnownBefore, AreKnownUpTo, first_of}
 
@@ -23,32 +23,32 @@ module _ (n : Limits) (p : Prices) (firsts : List ℕ) (are : AreFirsts n firsts
     pub passed : (first_of firsts m ≡ h → ⊥) → AreKnownUpTo n p firsts h (m + 1) worths
     passed ne = record { before = is.before; each = λ k l below e. by k l below e (cases_eq k m) }
       where
-        by : (k : ℕ) → k < m + 1 → k < teams_in n → first_of firsts k ≡ h → (k ≡ m) ⊎ (k ≡ m → ⊥) → IsWorth n k p (worth_of worths k)
+        by : (k : ℕ) → k < m + 1 → k < teams_in n → first_of firsts k ≡ h → (k ≡ m) ⊎ (k ≡ m → ⊥) → IsWorth n k (earned p k) (worth_of worths k)
         by k l below e (inl same) = absurd (ne (ap (first_of firsts) (sym same) ∙ e))
         by k l below e (inr other) = is.each k (let d : k ≢ m = other in omega arith) below e
 
-    pub taken : (worth : ℤ) → m < teams_in n → first_of firsts m ≡ h → IsWorth n m p worth → AreKnownUpTo n p firsts h (m + 1) (set worths m worth)
+    pub taken : (worth : ℤ) → m < teams_in n → first_of firsts m ≡ h → IsWorth n m (earned p m) worth → AreKnownUpTo n p firsts h (m + 1) (set worths m worth)
     taken worth known e here = record {
       before = record {
         count = length-set worths m worth ∙ is.before.count;
         each = λ k l first. let ne : k ≢ m = (λ same. let a = ap (first_of firsts) same in absurd (omega arith)) in
-            subst (IsWorth n k p) (sym (get_or-set_other worths m k worth (pos 0) ne)) (is.before.each k l first);
+            subst (IsWorth n k (earned p k)) (sym (get_or-set_other worths m k worth (pos 0) ne)) (is.before.each k l first);
       };
       each = λ k l below f. by k l below f (cases_eq k m);
     }
       where
-        by : (k : ℕ) → k < m + 1 → k < teams_in n → first_of firsts k ≡ h → (k ≡ m) ⊎ (k ≡ m → ⊥) → IsWorth n k p (worth_of (set worths m worth) k)
+        by : (k : ℕ) → k < m + 1 → k < teams_in n → first_of firsts k ≡ h → (k ≡ m) ⊎ (k ≡ m → ⊥) → IsWorth n k (earned p k) (worth_of (set worths m worth) k)
         by k l below f (inl same) =
             let inside : m < length worths = let a = is.before.count in omega arith in
-            subst (λ g. IsWorth n g p (worth_of (set worths m worth) g)) (sym same) (subst (IsWorth n m p) (sym (get_or-set_same worths m worth (pos 0) inside)) here)
+            subst (λ g. IsWorth n g (earned p g) (worth_of (set worths m worth) g)) (sym same) (subst (IsWorth n m (earned p m)) (sym (get_or-set_same worths m worth (pos 0) inside)) here)
         by k l below f (inr other) =
             let ne : k ≢ m = other in
-            subst (IsWorth n k p) (sym (get_or-set_other worths m k worth (pos 0) ne)) (is.each k (omega arith) below f)
+            subst (IsWorth n k (earned p k)) (sym (get_or-set_other worths m k worth (pos 0) ne)) (is.each k (omega arith) below f)
 
     pub all_known : teams_in n ≤ m → AreKnownBefore n p firsts (h + 1) worths
     all_known all = record { count = is.before.count; each = λ k l first. by k l first (cases_eq (first_of firsts k) h) }
       where
-        by : (k : ℕ) → k < teams_in n → first_of firsts k < h + 1 → (first_of firsts k ≡ h) ⊎ (first_of firsts k ≡ h → ⊥) → IsWorth n k p (worth_of worths k)
+        by : (k : ℕ) → k < teams_in n → first_of firsts k < h + 1 → (first_of firsts k ≡ h) ⊎ (first_of firsts k ≡ h → ⊥) → IsWorth n k (earned p k) (worth_of worths k)
         by k l first (inl e) = is.each k (omega arith) l e
         by k l first (inr ne) = is.before.each k l (let d : first_of firsts k ≢ h = ne in omega arith)
 
@@ -56,7 +56,7 @@ module _ (n : Limits) (p : Prices) (firsts : List ℕ) (are : AreFirsts n firsts
   pub no_class : (worths : List ℤ) → (first_of firsts h ≡ h → ⊥) → AreKnownBefore n p firsts h worths → AreKnownBefore n p firsts (h + 1) worths
   no_class worths ne before = record { count = before.count; each = λ k l first. by k l first (cases_eq (first_of firsts k) h) }
     where
-      by : (k : ℕ) → k < teams_in n → first_of firsts k < h + 1 → (first_of firsts k ≡ h) ⊎ (first_of firsts k ≡ h → ⊥) → IsWorth n k p (worth_of worths k)
+      by : (k : ℕ) → k < teams_in n → first_of firsts k < h + 1 → (first_of firsts k ≡ h) ⊎ (first_of firsts k ≡ h → ⊥) → IsWorth n k (earned p k) (worth_of worths k)
       by k l first (inl e) = absurd (ne (ap (first_of firsts) (sym e) ∙ are.own k l ∙ e))
       by k l first (inr d) = before.each k l (let x : first_of firsts k ≢ h = d in omega arith)
 

@@ -1,7 +1,7 @@
 -- the bound of prices with the worths of all teams
 use Rattle.std.specs.Prelude.{◌≡◌, ◌<◌, ◌≤◌, ℕ, ℤ, List, length}
 use Rattle.crew_terms.specs.Limits.{Limits, tasks_in}
-use Rattle.crew_terms.specs.Leaf.{Prices, AreInRange, IsOnRequired, IsWorth, Proves, bound_of, worth_of}
+use Rattle.crew_terms.specs.Leaf.{Prices, AreInRange, IsOnRequired, IsWorth, Proves, bound_of, worth_of, earned}
 use Rattle.potentials.specs.Prices.{ArePricesOf}
 use Rattle.label_pricing.specs.Worths.{AreWorths}
 
@@ -13,7 +13,7 @@ pub record IsBoundAt (n : Limits) (p : Prices) (bound : ℤ) : Type 0 where
 
 -- the worths of the first teams, as many as the list has
 abbrev pub AreFirstWorths : Limits → Prices → List ℤ → Type 0
-AreFirstWorths n p worths = (k : ℕ) → k < length worths → IsWorth n k p (worth_of worths k)
+AreFirstWorths n p worths = (k : ℕ) → k < length worths → IsWorth n k (earned p k) (worth_of worths k)
 
 -- prices of the node, 0 on pairs that it doesn't require
 pub record AreNodePrices (n : Limits) (p : Prices) : Type 0 where

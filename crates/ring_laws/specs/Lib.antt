@@ -1,2 +1,3 @@
 pub mod Ring
+pub mod Scales
 pub mod Quotients

@@ -10,7 +10,7 @@ use Rattle.crew_terms.specs.Rules.{IsInstance}
 use Rattle.crew_terms.specs.Total.{total}
 use Rattle.crew_terms.specs.declared.TheConstants.{D}
 use Rattle.search_terms.specs.Opening.{teams_for}
-use Rattle.search_terms.specs.Shares.{FractionalChoice, IsLoose, choice_value}
+use Rattle.share_terms.specs.Shares.{FractionalChoice, IsLoose, choice_value}
 use Rattle.rounding_laws.specs.declared.TheConstants.{MOST_LOSS}
 use Rattle.rounding_laws.specs.Loss.{rounding_loss}
 use Rattle.ring_laws.specs.Ring.{cancel_up_to, swap}

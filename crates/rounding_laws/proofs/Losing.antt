@@ -8,7 +8,7 @@ use Rattle.std.proofs.lemmas.Int.{by_lt_z, clamps, ints}
 use Rattle.std.proofs.Math.IntN.{*ℤ-zero}
 use Rattle.std.proofs.lemmas.List.{get_or_default}
 use Rattle.std.proofs.lemmas.List.Elements.{All-head, All-tail, Contains-append_left, Contains-append_right}
-use Rattle.crew_terms.specs.Leaf.{Prices, IsOnRequired, bound_of, pi_of, reward, rewards, rho_of, term, worth_of}
+use Rattle.crew_terms.specs.Leaf.{Prices, IsOnRequired, bound_of, pi_of, reward, rewards, rho_of, term, worth_of, earned}
 use Rattle.crew_terms.specs.Limits.{GoesOn, IsRoute, Limits, Route, has_required, is_required, pair_of, tasks_in, teams_in}
 use Rattle.crew_terms.specs.Total.{total}
 use Rattle.crew_terms.specs.Totals.{total-plus, total-same}
@@ -23,7 +23,7 @@ use Rattle.search_terms.specs.Duals.{AreDuals, AreUpToPenalty, best_reward, extr
 use Rattle.search_terms.specs.Earned.{AreRounded, BeatsRoutes, rounded}
 use Rattle.search_terms.specs.Opening.{OpensWith, basics, openers, opens, places, teams_for}
 use Rattle.search_terms.specs.Rows.{Rows, number, value_row}
-use Rattle.search_terms.specs.Shares.{IsRouteIn}
+use Rattle.share_terms.specs.Shares.{IsRouteIn}
 use Rattle.rounding_laws.specs.Loss.{rounding_loss}
 use Rattle.ring_laws.specs.Ring.{scale_diff, scale_sum}
 use Rattle.master_laws.specs.Rewards.{best_low}
@@ -125,14 +125,14 @@ route_known : (n : Limits) (k : ℕ) (vs : List Visit) → IsRoute n k vs → Kn
 route_known n k [] r = tt
 route_known n k (v ∷ vs) r = (r.0.known, goes_known n k v vs r.1)
 
-rewards_low : (n : Limits) (w : ℤ) (p d : Prices) (k : ℕ) (vs : List Visit) → AreNear n w p d → k < teams_in n → Known n vs → (w *ℤ rewards p k vs) ≤ℤ (pos D *ℤ rewards d k vs)
+rewards_low : (n : Limits) (w : ℤ) (p d : Prices) (k : ℕ) (vs : List Visit) → AreNear n w p d → k < teams_in n → Known n vs → (w *ℤ rewards (earned p k) vs) ≤ℤ (pos D *ℤ rewards (earned d k) vs)
 rewards_low n w p d k [] a in_k i = let z = *ℤ-zero w in omega (arith, ints)
 rewards_low n w p d k (v ∷ vs) a in_k i =
     let again = rewards_low n w p d k vs a in_k i.1 in
     let t = (a.tasks v.task i.0).low in
     let q = pair_low n w p d k v.task a in_k i.0 in
     let s = scale_sum w (pi_of p v.task) (rho_of p k v.task) in
-    let u = scale_sum w (reward p k v.task) (rewards p k vs) in
+    let u = scale_sum w (reward p k v.task) (rewards (earned p k) vs) in
     omega (arith, ints)
 
 best_near : (n : Limits) (w : ℤ) (p d : Prices) (k : ℕ) (rs : List Route) → AreNear n w p d → k < teams_in n → All (IsRouteIn n) rs
@@ -155,21 +155,21 @@ best_near n w p d k (r ∷ rs) a in_k legal = by_test (eqb k r.team) refl (best_
         by_lt false = inr refl
 
     by_test : (b : Bool) → eqb k r.team ≡ b → (w *ℤ best_reward p rs k) ≤ℤ (pos D *ℤ best_reward d rs k)
-        → (w *ℤ cond b (int_max (rewards p k r.visits) (best_reward p rs k)) (best_reward p rs k)) ≤ℤ (pos D *ℤ cond b (int_max (rewards d k r.visits) (best_reward d rs k)) (best_reward d rs k))
+        → (w *ℤ cond b (int_max (rewards (earned p k) r.visits) (best_reward p rs k)) (best_reward p rs k)) ≤ℤ (pos D *ℤ cond b (int_max (rewards (earned d k) r.visits) (best_reward d rs k)) (best_reward d rs k))
     by_test true e again =
         let is = All-head (IsRouteIn n) r rs legal in
         let route = subst (λ i. IsRoute n i r.visits) (sym (eqb-true k r.team e)) is.route in
-        by_max (rewards p k r.visits) (best_reward p rs k) (which (rewards p k r.visits) (best_reward p rs k)) (rewards d k r.visits) (best_reward d rs k)
+        by_max (rewards (earned p k) r.visits) (best_reward p rs k) (which (rewards (earned p k) r.visits) (best_reward p rs k)) (rewards (earned d k) r.visits) (best_reward d rs k)
         (rewards_low n w p d k r.visits a in_k (route_known n k r.visits route)) again
     by_test false e again = again
 
-held_low : (p : Prices) (rs : List Route) (k : ℕ) (r : Route) → Contains rs r → r.team ≡ k → rewards p k r.visits ≤ℤ best_reward p rs k
+held_low : (p : Prices) (rs : List Route) (k : ℕ) (r : Route) → Contains rs r → r.team ≡ k → rewards (earned p k) r.visits ≤ℤ best_reward p rs k
 held_low p [] k r c e = absurd (omega (arith, c.1))
 held_low p (q ∷ rs) k r (zero, lt, is) e =
     let t = eq-eqb k q.team (sym e ∙ sym (ap (λ (x : Route). x.team) is)) in
-    let a = ap (λ (x : Route). rewards p k x.visits) is in
-    let b = ap (λ u. cond u (int_max (rewards p k q.visits) (best_reward p rs k)) (best_reward p rs k)) t in
-    let m : rewards p k q.visits ≤ℤ int_max (rewards p k q.visits) (best_reward p rs k) = max_left (rewards p k q.visits) (best_reward p rs k) in
+    let a = ap (λ (x : Route). rewards (earned p k) x.visits) is in
+    let b = ap (λ u. cond u (int_max (rewards (earned p k) q.visits) (best_reward p rs k)) (best_reward p rs k)) t in
+    let m : rewards (earned p k) q.visits ≤ℤ int_max (rewards (earned p k) q.visits) (best_reward p rs k) = max_left (rewards (earned p k) q.visits) (best_reward p rs k) in
     omega (arith, ints)
   where
     max_left : (a b : ℤ) → a ≤ℤ int_max a b
@@ -179,8 +179,8 @@ held_low p (q ∷ rs) k r (suc i, lt, is) e = by_test (eqb k q.team) (held_low p
     max_right : (a b c : ℤ) → c ≤ℤ b → c ≤ℤ int_max a b
     max_right a b c h = omega (arith, ints, clamps)
 
-    by_test : (b : Bool) → rewards p k r.visits ≤ℤ best_reward p rs k → rewards p k r.visits ≤ℤ cond b (int_max (rewards p k q.visits) (best_reward p rs k)) (best_reward p rs k)
-    by_test true h = max_right (rewards p k q.visits) (best_reward p rs k) (rewards p k r.visits) h
+    by_test : (b : Bool) → rewards (earned p k) r.visits ≤ℤ best_reward p rs k → rewards (earned p k) r.visits ≤ℤ cond b (int_max (rewards (earned p k) q.visits) (best_reward p rs k)) (best_reward p rs k)
+    by_test true h = max_right (rewards (earned p k) q.visits) (best_reward p rs k) (rewards (earned p k) r.visits) h
     by_test false h = h
 
 -- a worth that doesn't beat the routes is at most their best reward

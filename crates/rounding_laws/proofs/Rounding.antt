@@ -7,7 +7,7 @@ use Rattle.std.proofs.Math.IntN.{*ℤ_comm}
 use Rattle.crew_terms.specs.declared.TheConstants.{D, MOST_PRICE}
 use Rattle.search_terms.specs.Duals.{IsUpTo}
 use Rattle.search_terms.specs.Earned.{rounded}
-use Rattle.search_terms.specs.declared.TheConstants.{BIG_M}
+use Rattle.share_terms.specs.declared.TheConstants.{BIG_M}
 use Rattle.ring_laws.specs.Quotients.{at_most, division, rest_below, rest_low}
 use Rattle.ring_laws.specs.Ring.{not_negative, scale_diff, scale_sum, swap}
 

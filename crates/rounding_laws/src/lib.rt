@@ -12,7 +12,7 @@ ghost use Rattle.search_terms.specs.Earned.{AreRounded, AreWorths, BeatsRoutes};
 ghost use Rattle.search_terms.specs.MasterRun.{IsMasterRun};
 ghost use Rattle.search_terms.specs.Pivot.{IsOptimal};
 ghost use Rattle.search_terms.specs.Rows.{Rows, number, value_row};
-ghost use Rattle.search_terms.specs.Shares.{IsLoose, IsRouteIn, choice_value};
+ghost use Rattle.share_terms.specs.Shares.{IsLoose, IsRouteIn, choice_value};
 ghost use Rattle.search_terms.specs.declared.TheConstants.{RIGHT, VALUE};
 ghost use Rattle.rounding_laws.specs.Loss.{rounding_loss};
 

@@ -22,8 +22,8 @@ use Rattle.rounding_laws.specs.declared.TheConstants.{MOST_LOSS}
 use Rattle.search_core.specs.Shown.{IsShownWhy}
 use Rattle.search_terms.specs.Caused.{LooseProves, ProveNearly}
 use Rattle.search_terms.specs.Proven.{PricesProve}
-use Rattle.search_terms.specs.Shares.{FractionalChoice, choice_value}
-use Rattle.search_terms.specs.declared.TheConstants.{MARGIN}
+use Rattle.share_terms.specs.Shares.{FractionalChoice, choice_value}
+use Rattle.share_terms.specs.declared.TheConstants.{MARGIN}
 use Rattle.search_core.proofs.Showing.{choice_grown}
 
 -- a bound near to the value of a choice proves what the value nearly proves

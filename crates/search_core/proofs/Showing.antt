@@ -40,7 +40,7 @@ use Rattle.search_terms.specs.Earned.{IsEarned}
 use Rattle.search_terms.specs.Overflows.{OverflowAt, InPivot, InColumn, InShares, InPrice}
 use Rattle.search_terms.specs.Rows.{Rows}
 use Rattle.search_terms.specs.Search.{Extends}
-use Rattle.search_terms.specs.Shares.{FractionalChoice, IsFractional, IsLoose, IsRouteIn, Share as RouteShare}
+use Rattle.share_terms.specs.Shares.{FractionalChoice, IsFractional, IsLoose, IsRouteIn, Share as RouteShare}
 use Rattle.search_terms.specs.SearchTree.{ClosedLeaf, EachSplit, OpenLeaf, SearchTree, SplitCause, causes}
 use Rattle.search_terms.specs.Ways.{limits_at, replaced}
 use Rattle.search_tree.specs.Numbered.{grown, node_of, tree_at, tree_of, way_of}

@@ -10,6 +10,7 @@ use Rattle.crew_terms.specs.Plan.{Plan}
 use Rattle.crew_terms.specs.declared.Side.{Side}
 use Rattle.crew_terms.specs.declared.TheConstants.{MOST_NODES}
 use Rattle.keyed_steps.specs.States.{AreBoundsIn, DecidesProved}
+use Rattle.keyed_tree.specs.Aged.{leaves_of}
 use Rattle.keyed_tree.specs.Keyed.{IsWaiting, keyed_root}
 use Rattle.keyed_tree.specs.Numbers.{HaveNumbers}
 use Rattle.node_queue.specs.declared.Waiting.{Waiting}
@@ -20,13 +21,18 @@ use Rattle.search_core.specs.Searching.{Searching, cause_at, price_at, state_of}
 use Rattle.search_terms.specs.Search.{IsKeepable, IsStart, Start}
 use Rattle.search_terms.specs.SearchTree.{OpenLeaf, SearchTree, SplitCause}
 use Rattle.search_terms.specs.Ways.{limits_at, prices_at}
-use Rattle.search_tree.specs.Numbered.{root_node, tree_at, tree_of, way_of}
+use Rattle.search_tree.specs.Numbered.{root_node, tree_at, tree_of, way_of, way_up}
 use Rattle.search_core.proofs.Keeping.{search_of}
 
 -- the tree is one open leaf
 root_tree : (p : ℕ → Prices) (c : ℕ → SplitCause) → tree_of p c (root_node 0 ∷ []) ≡ LeafNode (OpenLeaf (p 0))
 unfolding tree_at
 root_tree p c = refl
+
+-- its way is empty
+pub root_leaves : (key : ℕ) (bound : ℤ) → leaves_of (keyed_root key 0 bound) ≡ record { way = []; bound = bound } ∷ []
+unfolding way_up
+root_leaves key bound = refl
 
 -- the root alone waits
 alone : (key other m : ℕ) (bound b : ℤ) → IsWaiting (keyed_root key 0 bound) other m b → bound ≡ b

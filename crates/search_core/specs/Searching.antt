@@ -1,16 +1,18 @@
 -- a search, as contracts see it
-use Rattle.std.specs.Prelude.{ℕ, Option, None, Some, List, slice_index_or}
+use Rattle.std.specs.Prelude.{ℕ, ℤ, Option, None, Some, List, slice_index_or}
 use Rattle.crew_terms.specs.Instance.{Instance}
 use Rattle.crew_terms.specs.Leaf.{Prices}
 use Rattle.crew_terms.specs.Limits.{Limits, Route, root_limits}
 use Rattle.crew_terms.specs.Plan.{Plan}
 use Rattle.crew_terms.specs.declared.Side.{Side}
+use Rattle.keyed_tree.specs.Aged.{leaves_of, leaves_without}
 use Rattle.keyed_tree.specs.Keyed.{Keyed, IsKey}
 use Rattle.node_queue.specs.Waits.{found}
 use Rattle.node_queue.specs.declared.Waiting.{Waiting}
 use Rattle.node_solver.specs.Causes.{cause_of}
 use Rattle.node_solver.specs.declared.step.Why.TheVariants.{Spent}
 use Rattle.search_core.specs.declared.causes.Cause.{Cause}
+use Rattle.search_terms.specs.BestFirst.{IsDue}
 use Rattle.search_terms.specs.Search.{SearchState}
 use Rattle.search_terms.specs.SearchTree.{SplitCause}
 use Rattle.search_terms.specs.Ways.{limits_at}
@@ -62,3 +64,7 @@ way_to s key = way_of s.keyed.nodes (item_or (found s.keyed.waits key))
 -- the limits of its node
 abbrev pub limits_of_key : List Route → Searching → ℕ → Limits
 limits_of_key columns s key = limits_at (root_limits s.instance) (state_of columns s).tree (way_to s key)
+
+-- it is the oldest of those of least bound
+abbrev pub IsDueKey : Searching → ℕ → Type 0
+IsDueKey s key = (bound : ℤ) × IsDue (leaves_of s.keyed) (record { way = way_to s key; bound = bound }) (leaves_without s.keyed key)

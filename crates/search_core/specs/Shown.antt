@@ -14,7 +14,7 @@ use Rattle.search_core.specs.Searching.{Searching, state_of}
 use Rattle.search_core.specs.declared.causes.Cause.{Cause}
 use Rattle.search_terms.specs.Caused.{AreLooseShown}
 use Rattle.search_terms.specs.Earned.{Spent}
-use Rattle.search_terms.specs.Shares.{IsFractional, IsLoose}
+use Rattle.share_terms.specs.Shares.{IsFractional, IsLoose}
 use Rattle.search_terms.specs.SearchTree.{EachSplit, SplitCause}
 use Rattle.search_tree.specs.Numbered.{tree_of}
 

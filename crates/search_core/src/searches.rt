@@ -1,12 +1,15 @@
 // A search between two steps: what it keeps, and what is asked of it.
-ghost use Rattle.std.specs.Prelude.{◌≡◌, ◌≤◌, ◌<◌, ◌⊎◌, ℕ, List, IfNone, IfOk, IfSome, length, slice_index};
-ghost use Rattle.crew_terms.specs.Limits.{Route as TeamRoute};
+ghost use Rattle.std.specs.Prelude.{◌≡◌, ◌≤◌, ◌<◌, ◌⊎◌, ◌∷◌, [], ℕ, ℤ, List, IfNone, IfOk, IfSome, length, slice_index};
+ghost use Rattle.crew_terms.specs.Leaf.{zero_prices};
+ghost use Rattle.crew_terms.specs.Limits.{Route as TeamRoute, root_limits};
 ghost use Rattle.crew_terms.specs.declared.TheConstants.{MOST_NODES};
+ghost use Rattle.keyed_tree.specs.Aged.{leaves_of};
 ghost use Rattle.keyed_tree.specs.Keyed.{IsKeyed};
 ghost use Rattle.node_queue.specs.Waits.{keys_of};
 ghost use Rattle.search_core.specs.Kept.{IsKeptSearch};
 ghost use Rattle.search_core.specs.Searching.{IsOpenKey, state_of};
 ghost use Rattle.search_core.specs.Steps.{IsCounted, IsDone, IsSearching};
+ghost use Rattle.search_terms.specs.BestFirst.{IsBoundIn};
 ghost use Rattle.search_terms.specs.Search.{IsBound, IsKeepable, IsStart, best};
 
 use crate::causes::Cause;
@@ -81,6 +84,9 @@ impl<'i> Search<'i> {
         requires { nodes ≤ MOST_NODES }
         ensures start { (columns : List TeamRoute)
             → IfOk result (λ s. IsStart instance.now nodes (state_of columns s)) }
+        ensures root { IfOk result (λ s. (bound : ℤ) ×
+            IsBoundIn (root_limits instance.now) (zero_prices (root_limits instance.now)) bound
+            × (leaves_of s.keyed ≡ record { way = []; bound = bound } ∷ [])) }
         ensures instance { IfOk result (λ s. s.instance ≡ instance.now) }
         ensures budget { IfOk result (λ s. s.budget ≡ nodes) }
     {

@@ -3,7 +3,7 @@ ghost use Rattle.std.specs.Prelude.{◌≤◌, ◌<◌, List, IfNone, IfOk, IfSo
 ghost use Rattle.crew_terms.specs.Limits.{Route as TeamRoute, root_limits};
 ghost use Rattle.crew_terms.specs.declared.TheConstants.{MOST_NODES};
 ghost use Rattle.node_queue.specs.Waits.{IsLeast};
-ghost use Rattle.search_core.specs.Searching.{IsOpenKey, state_of};
+ghost use Rattle.search_core.specs.Searching.{IsDueKey, IsOpenKey, state_of};
 ghost use Rattle.search_core.specs.Solved.{IsGrown};
 ghost use Rattle.search_core.specs.Steps.{IsDone, IsSolved};
 
@@ -13,6 +13,7 @@ use crate::searches::Search;
 use column_arena::Columns;
 use crew_instance::Instance;
 use keyed_steps::least_bounds;
+use keyed_tree::leaves_keep_order;
 use std::alloc::{AllocError, Global};
 
 impl<'i> Search<'i> {
@@ -21,6 +22,7 @@ impl<'i> Search<'i> {
     pub fn due(&self) -> Option<usize>
         ensures leaf { IfSome result (IsOpenKey self.now) }
         ensures least { IfSome result (IsLeast self.now.keyed.waits) }
+        ensures oldest { IfSome result (IsDueKey self.now) }
         ensures left { IfSome result (λ _. 0 < self.now.left) }
         ensures better { (columns : List TeamRoute)
             → IfSome result (λ _. IsDone self.now.instance (state_of columns self.now) → ⊥) }
@@ -28,6 +30,7 @@ impl<'i> Search<'i> {
             → IfNone result (IsDone self.now.instance (state_of columns self.now)) }
     {
         least_bounds();
+        leaves_keep_order();
         // What always holds of the tree is known from here on.
         let _ = self.keyed.len();
         if self.left == 0 {

@@ -21,7 +21,7 @@ ghost use Rattle.search_tree.specs.Numbered.{node_of};
 ghost use Rattle.search_tree.specs.declared.nodes.Content.TheVariants as content;
 
 use keyed_steps::{run_leaves, steps_at_closed, steps_at_split};
-use keyed_tree::{numbers_stay, same_numbers_same_tree};
+use keyed_tree::{leaves_keep_order, numbers_stay, same_numbers_same_tree};
 use search_laws::{loose_splits_stay_shown, run_keeps};
 
 /// Where the prices that were found close the leaf under a key, that is a step, and what always holds goes on to hold.
@@ -45,6 +45,7 @@ pub(crate) fn closings_are_steps()
     steps_at_closed();
     same_numbers_same_tree();
     numbers_stay();
+    leaves_keep_order();
 }
 
 /// Where the leaf under a key is split for a cause that the columns earn, that is a step, and what always holds goes on to hold.
@@ -73,4 +74,5 @@ pub(crate) fn splits_are_steps()
     steps_at_split();
     same_numbers_same_tree();
     numbers_stay();
+    leaves_keep_order();
 }

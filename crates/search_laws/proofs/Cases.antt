@@ -15,7 +15,7 @@ use Rattle.crew_terms.specs.Plan.{Plan, Job, job_of, unassigned_count}
 use Rattle.crew_terms.specs.Rules.{IsInstance}
 use Rattle.crew_terms.specs.Limits.{Limits, IsRoute, tasks_in, teams_in, pair_of, is_required, has_required}
 use Rattle.crew_terms.specs.declared.TheConstants.{D, MOST_TEAMS_PER_TASK}
-use Rattle.crew_terms.specs.Leaf.{Prices, AreInRange, IsOnRequired, Proves, pi_of, rho_of, reward, rewards, term, task_price}
+use Rattle.crew_terms.specs.Leaf.{Prices, AreInRange, IsOnRequired, Proves, pi_of, rho_of, reward, rewards, term, task_price, earned}
 use Rattle.crew_terms.specs.Total.{total}
 use Rattle.crew_terms.specs.declared.Pair.{Pair}
 use Rattle.crew_terms.specs.declared.Pair.TheVariants.{Free, Forbidden, Required}
@@ -23,13 +23,13 @@ use Rattle.crew_terms.specs.declared.Visit.{Visit}
 use Rattle.crew_terms.specs.Minutes.{required_teams}
 use Rattle.crew_terms.specs.Decided.{IsDecided}
 use Rattle.search_terms.specs.Proven.{PricesProve}
-use Rattle.search_terms.specs.Shares.{visits_to}
+use Rattle.share_terms.specs.Shares.{visits_to}
 use Rattle.search_terms.specs.Closing.{minute_of, all_cost, IsStuck, ArePricedBy, StuckPrices, CrowdedPrices, ShortPrices, OpenPrices}
 use Rattle.crew_terms.specs.Totals.{total-same, total-le, total-plus, total-zero, total-one, total-front}
 use Rattle.crew_terms.specs.Nodes.{not_required}
 use Rattle.crew_terms.specs.Below.{any_below-some}
-use Rattle.search_laws.proofs.Scales.{times, times-zero, times-suc, times-add, times-of-zero, times-more}
-use Rattle.search_laws.proofs.Duality.{known_route, rewards_total}
+use Rattle.ring_laws.specs.Scales.{times, times-zero, times-suc, times-add, times-of-zero, times-more}
+use Rattle.share_terms.specs.Rewards.{known_route, rewards_total}
 use Rattle.search_laws.proofs.Worths.{EarnsAtMost, routes_prove}
 use Rattle.search_laws.proofs.Required.{IsRequiredPlan}
 use Rattle.search_laws.proofs.Decided.{once, none, leaves_out}
@@ -73,7 +73,7 @@ module _ (n : Limits) (is : IsInstance n.instance) (known : (k j : ℕ) → k < 
   on_required task pair by k j ne = by.pairs k j ∙ ap (λ b. cond b (pair k j) (pos 0)) (not_required (pair_of n k j) ne)
 
   -- what a route of a decided node earns, task by task
-  earns : (k : ℕ) → (vs : List Visit) → IsRoute n k vs → rewards p k vs ≡ total (tasks_in n) (λ j. times (visits_to j vs) (reward p k j))
+  earns : (k : ℕ) → (vs : List Visit) → IsRoute n k vs → rewards (earned p k) vs ≡ total (tasks_in n) (λ j. times (visits_to j vs) (reward p k j))
   earns k vs r = rewards_total p k (tasks_in n) vs (known_route n k vs r)
 
   -- where each reward of a pair that is required is 0, a route earns nothing
@@ -115,7 +115,7 @@ module _ (n : Limits) (is : IsInstance n.instance) (known : (k j : ℕ) → k < 
     own_extra j = priced.pairs k j ∙ ap (λ b. cond (is_required (pair_of n k j)) (cond b (pos (all_cost n)) (pos 0)) (pos 0)) (eq-eqb k k refl)
 
     -- the team's routes leave out a required task
-    own_most : (g : ℕ) → g < tasks_in n → pair_of n k g ≡ Required → (vs : List Visit) → IsRoute n k vs → visits_to g vs ≡ 0 → (rewards p k vs +ℤ pos (all_cost n)) ≤ℤ extras k
+    own_most : (g : ℕ) → g < tasks_in n → pair_of n k g ≡ Required → (vs : List Visit) → IsRoute n k vs → visits_to g vs ≡ 0 → (rewards (earned p k) vs +ℤ pos (all_cost n)) ≤ℤ extras k
     own_most g below_g e vs r out =
         let a = earns k vs r in
         let b = total-le (tasks_in n) (λ j. times (visits_to j vs) (reward p k j) +ℤ cond (eqb j g) (pos (all_cost n)) (pos 0)) (λ j. rho_of p k j)
@@ -157,7 +157,7 @@ module _ (n : Limits) (is : IsInstance n.instance) (known : (k j : ℕ) → k < 
         let own = subst (λ x. IsRoute n x vs) e r in
         let out = leaves_out n is decided k below_k stuck vs own in
         let a = own_most out.0 (within out.0 out.1) out.1 vs own out.2 in
-        let b = ap (λ x. rewards p x vs) e in
+        let b = ap (λ x. rewards (earned p x) vs) e in
         let c = ap extras e in
         let d = ap (λ b. cond b (pos (all_cost n)) (pos 0)) (eq-eqb h k e) in
         omega (arith, ints)

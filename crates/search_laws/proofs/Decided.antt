@@ -8,7 +8,7 @@ use Rattle.crew_terms.specs.declared.Pair.{Pair}
 use Rattle.crew_terms.specs.declared.Pair.TheVariants.{Free, Forbidden, Required}
 use Rattle.crew_terms.specs.declared.Visit.{Visit}
 use Rattle.crew_terms.specs.Decided.{IsDecided, MayBegin}
-use Rattle.search_terms.specs.Shares.{visits_to}
+use Rattle.share_terms.specs.Shares.{visits_to}
 use Rattle.search_terms.specs.Closing.{minute_of, IsStuck, NoMinute, NoTime}
 use Rattle.search_laws.proofs.Worths.{positive}
 

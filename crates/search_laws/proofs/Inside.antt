@@ -6,7 +6,7 @@ use Rattle.std.proofs.lemmas.Int.{ints, clamps}
 use Rattle.std.proofs.lemmas.List.{length-set}
 use Rattle.std.proofs.lemmas.Bool.{cases_eq, or_cases, or_left, or_right, both_ways}
 use Rattle.crew_terms.specs.Limits.{Limits, IsLimits, IsPermittedVisit, IsPermittedStep, tasks_in, teams_in, window_of, pair_of, is_required, has_required, any_below, root_limits}
-use Rattle.crew_terms.specs.Leaf.{Prices, IsValidLeaf, HoldsLocally, term, task_price, worth_of, bound_of}
+use Rattle.crew_terms.specs.Leaf.{Prices, IsValidLeaf, HoldsLocally, term, task_price, worth_of, bound_of, earned}
 use Rattle.crew_terms.specs.Tree.{with_window, with_pair, CanSplit, child}
 use Rattle.crew_terms.specs.declared.Choice.{Choice}
 use Rattle.crew_terms.specs.declared.Choice.TheVariants as choices
@@ -57,7 +57,7 @@ module _ (n : Limits) (windows : List (ℕ × ℕ)) (pairs : List (List Pair)) (
   step_up : (j t h u : ℕ) → IsPermittedStep (changed n windows pairs) j t h u → IsPermittedStep n j t h u
   step_up j t h u s = record { other = s.other; follow = s.follow }
 
-  local_below : (k : ℕ) (p : Prices) (phi : ℕ → ℕ → ℤ) (worth : ℤ) → HoldsLocally n k p phi worth → HoldsLocally (changed n windows pairs) k p phi worth
+  local_below : (k : ℕ) (p : Prices) (phi : ℕ → ℕ → ℤ) (worth : ℤ) → HoldsLocally n k (earned p k) phi worth → HoldsLocally (changed n windows pairs) k (earned p k) phi worth
   local_below k p phi worth h = record {
     tasks = λ j. record {
       alone = λ t v. (h.tasks j).alone t (visit_up k j t v);

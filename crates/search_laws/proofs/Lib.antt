@@ -1,11 +1,8 @@
-pub mod Scales
 pub mod Inside
 pub mod Ways
 pub mod Sound
 pub mod Steps
 pub mod Bounds
-pub mod Duality
-pub mod LooseBound
 pub mod Potentials
 pub mod Worths
 pub mod Decided

@@ -9,7 +9,7 @@ use Rattle.crew_terms.specs.declared.Visit.{Visit}
 use Rattle.crew_laws.specs.Visits.{visit}
 use Rattle.crew_laws.specs.Listed.{of_either}
 use Rattle.crew_terms.specs.Decided.{IsDecided}
-use Rattle.search_terms.specs.Shares.{visits_to}
+use Rattle.share_terms.specs.Shares.{visits_to}
 use Rattle.search_terms.specs.Closing.{AreRequiredVisits}
 use Rattle.search_laws.proofs.Decided.{of_required, rises, visits-other}
 

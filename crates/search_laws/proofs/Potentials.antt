@@ -6,7 +6,7 @@ use Rattle.std.proofs.lemmas.Int.{ints, clamps}
 use Rattle.std.proofs.lemmas.Bool.{cases_eq, cases_lt, both_ways}
 use Rattle.crew_terms.specs.Instance.{Instance, team_of, task_of, minutes_between, IsQualified, CanFollow}
 use Rattle.crew_terms.specs.Limits.{Limits, IsPermittedVisit, IsPermittedStep, IsRoute, GoesOn, tasks_in, window_of, pair_of}
-use Rattle.crew_terms.specs.Leaf.{Prices, HoldsLocally, reward, rewards}
+use Rattle.crew_terms.specs.Leaf.{HoldsLocally, rewards}
 use Rattle.crew_terms.specs.Skills.{bits_had, has_bits}
 use Rattle.crew_terms.specs.declared.Pair.{Pair}
 use Rattle.crew_terms.specs.declared.Pair.TheVariants.{Free, Forbidden, Required}
@@ -126,7 +126,7 @@ tell_step n j t h u = through (λ (x : (j ≢ h) × CanFollow n.instance j t h u
 
 -- ---- potentials of one team
 
-module _ (n : Limits) (positive : (j : ℕ) → j < tasks_in n → 1 ≤ (task_of n.instance j).minutes) (k : ℕ) (p : Prices) where
+module _ (n : Limits) (positive : (j : ℕ) → j < tasks_in n → 1 ≤ (task_of n.instance j).minutes) (k : ℕ) (w : ℕ → ℕ → ℤ) where
   abbrev pub May : ℕ → ℕ → Type 0
   May j t = IsPermittedVisit n k j t
 
@@ -141,8 +141,8 @@ module _ (n : Limits) (positive : (j : ℕ) → j < tasks_in n → 1 ≤ (task_o
 
   -- the greatest rewards from a visit on, over routes with at most d visits after it
   abbrev pub phi : ℕ → ℕ → ℕ → ℤ
-  phi zero j t = reward p k j
-  phi (suc d) j t = reward p k j +ℤ greatest (tasks_in n) (λ h. greatest stop (λ u. cond (tells (can j t h u)) (phi d h u) (pos 0)))
+  phi zero j t = w j t
+  phi (suc d) j t = w j t +ℤ greatest (tasks_in n) (λ h. greatest stop (λ u. cond (tells (can j t h u)) (phi d h u) (pos 0)))
 
   abbrev pub next : ℕ → ℕ → ℕ → ℕ → ℤ
   next d j t h = greatest stop (λ u. cond (tells (can j t h u)) (phi d h u) (pos 0))
@@ -150,7 +150,7 @@ module _ (n : Limits) (positive : (j : ℕ) → j < tasks_in n → 1 ≤ (task_o
   in_time : (j t : ℕ) → May j t → t < stop
   in_time j t v = let a = v.in_shift.returns in omega arith
 
-  phi_alone : (d j t : ℕ) → reward p k j ≤ℤ phi d j t
+  phi_alone : (d j t : ℕ) → w j t ≤ℤ phi d j t
   phi_alone zero j t = omega (arith, ints)
   phi_alone (suc d) j t = let a = greatest_idle (tasks_in n) (next d j t) in omega (arith, ints)
 
@@ -174,7 +174,7 @@ module _ (n : Limits) (positive : (j : ℕ) → j < tasks_in n → 1 ≤ (task_o
       let f = phi_rises (e + d) j t in
       omega (arith, ints)
 
-  phi_step : (d j t h u : ℕ) → CanGo j t h u → (reward p k j +ℤ phi d h u) ≤ℤ phi (suc d) j t
+  phi_step : (d j t h u : ℕ) → CanGo j t h u → (w j t +ℤ phi d h u) ≤ℤ phi (suc d) j t
   phi_step d j t h u go =
       let a = greatest_at (tasks_in n) (next d j t) h go.1.known in
       let b = greatest_at stop (λ v. cond (tells (can j t h v)) (phi d h v) (pos 0)) u (in_time h u go.1) in
@@ -185,20 +185,20 @@ module _ (n : Limits) (positive : (j : ℕ) → j < tasks_in n → 1 ≤ (task_o
   abbrev pub potential : ℕ → ℕ → ℤ
   potential j t = phi (stop - t) j t
 
-  potential_step : (j t h u : ℕ) → May j t → May h u → IsPermittedStep n j t h u → (reward p k j +ℤ potential h u) ≤ℤ potential j t
-  potential_step j t h u v w s =
+  potential_step : (j t h u : ℕ) → May j t → May h u → IsPermittedStep n j t h u → (w j t +ℤ potential h u) ≤ℤ potential j t
+  potential_step j t h u v x s =
       let a = positive j v.known in
       let b = s.follow in
-      let c = in_time h u w in
+      let c = in_time h u x in
       let e : stop - t ≡ suc ((u - suc t) + (stop - u)) = omega arith in
       let f = ap (λ x. phi x j t) e in
-      let g = phi_step ((u - suc t) + (stop - u)) j t h u (s, w) in
+      let g = phi_step ((u - suc t) + (stop - u)) j t h u (s, x) in
       let i = phi_more (u - suc t) (stop - u) h u in
       omega (arith, ints)
 
   -- the visits after a visit that attain its potential
   Tail : ℕ → ℕ → ℕ → Type 0
-  Tail d j t = (ws : List Visit) × GoesOn n k (visit j t) ws × (reward p k j +ℤ rewards p k ws ≡ phi d j t)
+  Tail d j t = (ws : List Visit) × GoesOn n k (visit j t) ws × (w j t +ℤ rewards w ws ≡ phi d j t)
 
   tail : (d j t : ℕ) → Tail d j t
   unfolding Tail
@@ -224,7 +224,7 @@ module _ (n : Limits) (positive : (j : ℕ) → j < tasks_in n → 1 ≤ (task_o
       outer (inr (h, below, e)) rest = inner h e (greatest_reached stop (λ u. cond (tells (can j t h u)) (phi d h u) (pos 0))) rest
 
   -- a route from each visit on attains its potential
-  pub from_visit : (j t : ℕ) → May j t → (r : List Visit) × IsRoute n k (visit j t ∷ r) × (rewards p k (visit j t ∷ r) ≡ potential j t)
+  pub from_visit : (j t : ℕ) → May j t → (r : List Visit) × IsRoute n k (visit j t ∷ r) × (rewards w (visit j t ∷ r) ≡ potential j t)
   unfolding Tail
   from_visit j t here = let r = tail (stop - t) j t in (r.0, (here, r.1), r.2)
 
@@ -234,9 +234,9 @@ module _ (n : Limits) (positive : (j : ℕ) → j < tasks_in n → 1 ≤ (task_o
   abbrev pub greatest_worth : ℤ
   greatest_worth = greatest (tasks_in n) from_task
 
-  pub holds : HoldsLocally n k p potential greatest_worth
+  pub holds : HoldsLocally n k w potential greatest_worth
   holds = record {
-    tasks = λ j. record { alone = λ t v. phi_alone (stop - t) j t; step = λ t h u v w s. potential_step j t h u v w s };
+    tasks = λ j. record { alone = λ t v. phi_alone (stop - t) j t; step = λ t h u v x s. potential_step j t h u v x s };
     worth_rules = record {
       most = λ j t v.
           let a = greatest_at (tasks_in n) from_task j v.known in
@@ -248,7 +248,7 @@ module _ (n : Limits) (positive : (j : ℕ) → j < tasks_in n → 1 ≤ (task_o
   }
 
   Attained : Type 0
-  Attained = (r : List Visit) × IsRoute n k r × (rewards p k r ≡ greatest_worth)
+  Attained = (r : List Visit) × IsRoute n k r × (rewards w r ≡ greatest_worth)
 
   attained : Attained
   unfolding Attained Tail
@@ -271,6 +271,6 @@ module _ (n : Limits) (positive : (j : ℕ) → j < tasks_in n → 1 ≤ (task_o
       outer (inl z) = stays z
       outer (inr (j, below, e)) = inner j e (greatest_reached stop (λ t. cond (tells (tell_visit n k j t)) (potential j t) (pos 0)))
 
-  pub reached : (r : List Visit) × IsRoute n k r × (rewards p k r ≡ greatest_worth)
+  pub reached : (r : List Visit) × IsRoute n k r × (rewards w r ≡ greatest_worth)
   unfolding Attained
   reached = attained

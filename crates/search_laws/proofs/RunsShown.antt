@@ -11,7 +11,7 @@ use Rattle.crew_terms.specs.declared.Side.TheVariants.{First, Second}
 use Rattle.crew_terms.specs.declared.Visit.{Visit}
 use Rattle.search_terms.specs.declared.TheConstants.{PIVOTS}
 use Rattle.search_terms.specs.Rows.{Rows}
-use Rattle.search_terms.specs.Shares.{IsRouteIn}
+use Rattle.share_terms.specs.Shares.{IsRouteIn}
 use Rattle.search_terms.specs.Overflows.{OverflowAt, InPivot, InColumn, InShares, InPrice, IsOfColumn, Column, OfValue}
 use Rattle.search_terms.specs.Earned as earned
 use Rattle.search_terms.specs.Earned.{Why, Loose, Overflowed, Spent, AreLegalOf, Kept, Left, RunIsSpent, RunOverflows, IsEarned}

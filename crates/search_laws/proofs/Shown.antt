@@ -7,7 +7,7 @@ use Rattle.crew_terms.specs.Branches.{LeafNode, SplitNode}
 use Rattle.crew_terms.specs.Tree.{child}
 use Rattle.crew_terms.specs.declared.Side.{Side}
 use Rattle.crew_terms.specs.declared.Side.TheVariants.{First, Second}
-use Rattle.search_terms.specs.Shares.{FractionalChoice}
+use Rattle.share_terms.specs.Shares.{FractionalChoice}
 use Rattle.search_terms.specs.Choice.{IsValidChoice}
 use Rattle.search_terms.specs.Proven.{PricesProve}
 use Rattle.search_terms.specs.Earned.{Why, Loose, Overflowed, Spent}

@@ -5,7 +5,7 @@ use Rattle.std.proofs.lemmas.Int.{ints}
 use Rattle.crew_terms.specs.Instance.{Instance, task_of, no_task}
 use Rattle.crew_terms.specs.Rules.{IsInstance}
 use Rattle.crew_terms.specs.Limits.{Limits, IsRoute, tasks_in, teams_in}
-use Rattle.crew_terms.specs.Leaf.{Prices, AreInRange, IsOnRequired, IsValidLeaf, HoldsLocally, Proves, rewards, rho_of, term, worth_of, bound_of}
+use Rattle.crew_terms.specs.Leaf.{Prices, AreInRange, IsOnRequired, IsValidLeaf, HoldsLocally, Proves, rewards, rho_of, term, worth_of, bound_of, earned}
 use Rattle.crew_terms.specs.Total.{total}
 use Rattle.crew_terms.specs.declared.Visit.{Visit}
 use Rattle.search_terms.specs.Proven.{PricesProve}
@@ -28,24 +28,24 @@ positive i h j l = (h.parts.tasks j no_task l).window.some_minutes
 
 -- every route of team k earns at most as much
 abbrev pub EarnsAtMost : Limits → ℕ → Prices → ℤ → Type 0
-EarnsAtMost n k p x = (r : List Visit) → IsRoute n k r → rewards p k r ≤ℤ x
+EarnsAtMost n k p x = (r : List Visit) → IsRoute n k r → rewards (earned p k) r ≤ℤ x
 
 module _ (n : Limits) (p : Prices) (is : IsInstance n.instance) (range : AreInRange p) (priced : IsOnRequired n p) where
   abbrev worths : List ℤ
-  worths = listing (teams_in n) (λ k. greatest_worth n (positive n.instance is) k p)
+  worths = listing (teams_in n) (λ k. greatest_worth n (positive n.instance is) k (earned p k))
 
   abbrev phi : ℕ → ℕ → ℕ → ℤ
-  phi k = potential n (positive n.instance is) k p
+  phi k = potential n (positive n.instance is) k (earned p k)
 
   abbrev pub Has : Type 0
-  Has = (ws : List ℤ) × (f : ℕ → ℕ → ℕ → ℤ) × IsValidLeaf n p ws f × ((k : ℕ) → k < teams_in n → (r : List Visit) × IsRoute n k r × (rewards p k r ≡ worth_of ws k))
+  Has = (ws : List ℤ) × (f : ℕ → ℕ → ℕ → ℤ) × IsValidLeaf n p ws f × ((k : ℕ) → k < teams_in n → (r : List Visit) × IsRoute n k r × (rewards (earned p k) r ≡ worth_of ws k))
 
   pub have_potentials : Has
   have_potentials = (
     worths,
     phi,
-    record { range = range; priced = priced; valid = λ k b. rw (worth_listing (teams_in n) (λ h. greatest_worth n (positive n.instance is) h p) k b) (holds n (positive n.instance is) k p) },
-    λ k b. let r = reached n (positive n.instance is) k p in (r.0, r.1, r.2 ∙ sym (worth_listing (teams_in n) (λ h. greatest_worth n (positive n.instance is) h p) k b)),
+    record { range = range; priced = priced; valid = λ k b. rw (worth_listing (teams_in n) (λ h. greatest_worth n (positive n.instance is) h (earned p h)) k b) (holds n (positive n.instance is) k (earned p k)) },
+    λ k b. let r = reached n (positive n.instance is) k (earned p k) in (r.0, r.1, r.2 ∙ sym (worth_listing (teams_in n) (λ h. greatest_worth n (positive n.instance is) h (earned p h)) k b)),
   )
 
   -- where each team's routes earn at most x, the prices prove what a bound with x for the worths proves
@@ -65,8 +65,8 @@ module _ (n : Limits) (p : Prices) (is : IsInstance n.instance) (range : AreInRa
       }
 
 -- worths that routes attain prove all that the prices prove
-pub attained_prove : (n : Limits) (p : Prices) (ws : List ℤ) (l : ℕ) → ((k : ℕ) → k < teams_in n → (r : List Visit) × IsRoute n k r × (rewards p k r ≡ worth_of ws k))
-    → ((vs : List ℤ) (f : ℕ → ℕ → ℤ) (k : ℕ) → HoldsLocally n k p f (worth_of vs k) → EarnsAtMost n k p (worth_of vs k))
+pub attained_prove : (n : Limits) (p : Prices) (ws : List ℤ) (l : ℕ) → ((k : ℕ) → k < teams_in n → (r : List Visit) × IsRoute n k r × (rewards (earned p k) r ≡ worth_of ws k))
+    → ((vs : List ℤ) (f : ℕ → ℕ → ℤ) (k : ℕ) → HoldsLocally n k (earned p k) f (worth_of vs k) → EarnsAtMost n k p (worth_of vs k))
     → PricesProve n p l → Proves (bound_of n p ws) l
 attained_prove n p ws l reach most h =
     proves_more (bound_of n p h.worths) (bound_of n p ws) l

@@ -1,13 +1,12 @@
-// The laws of the planner's search: what prices prove in a node and in those inside it, what no prices can prove, what
-// decided nodes hold, and what every run of the search keeps and hands out. Each law is the contract of a function with
-// nothing to do.
+// The laws of the planner's search: what prices prove in a node and in those inside it, what decided nodes hold, and what
+// every run of the search keeps and hands out. Each law is the contract of a function with nothing to do.
 #![tactic(auto)]
 
-ghost use Rattle.std.specs.Prelude.{◌≡◌, ◌≢◌, ◌≤◌, ◌<◌, ◌+◌, ◌-◌, ◌*◌, ◌++◌, ◌∷◌, [], ◌↔◌, ◌≤ℤ◌, ◌*ℤ◌, List, ℕ, ℤ, pos, true};
+ghost use Rattle.std.specs.Prelude.{◌≡◌, ◌≢◌, ◌≤◌, ◌<◌, ◌+◌, ◌++◌, ◌∷◌, [], ◌↔◌, List, ℕ, ℤ, true};
 ghost use Rattle.crew_terms.specs.Branches.{LeafNode, SplitNode, closed, splits};
 ghost use Rattle.crew_terms.specs.Instance.{Instance};
 ghost use Rattle.crew_laws.specs.Visits.{visit};
-ghost use Rattle.crew_terms.specs.Leaf.{AreInRange, HoldsLocally, IsOnRequired, IsValidLeaf, Prices, Proves, bound_of, rewards, worth_of};
+ghost use Rattle.crew_terms.specs.Leaf.{AreInRange, HoldsLocally, IsOnRequired, IsValidLeaf, Prices, Proves, bound_of, earned, rewards, worth_of};
 ghost use Rattle.crew_terms.specs.Legal.{IsLegal};
 ghost use Rattle.crew_terms.specs.Limits.{IsLimits, IsPermittedVisit, IsRoute, IsWithin, Limits, Route, has_required, pair_of, root_limits, tasks_in, teams_in};
 ghost use Rattle.crew_terms.specs.Plan.{Plan, unassigned_count};
@@ -16,7 +15,6 @@ ghost use Rattle.crew_terms.specs.Tree.{CanSplit, IsSound, Tree, child};
 ghost use Rattle.crew_terms.specs.declared.Choice.{Choice};
 ghost use Rattle.crew_terms.specs.declared.Pair.TheVariants.{Required};
 ghost use Rattle.crew_terms.specs.declared.Side.{Side};
-ghost use Rattle.crew_terms.specs.declared.TheConstants.{D};
 ghost use Rattle.crew_terms.specs.declared.Visit.{Visit};
 ghost use Rattle.search_terms.specs.Caused.{AreLooseShown, AreRunsShown, IsCaused, IsLooseShown, LooseProves};
 ghost use Rattle.search_terms.specs.Choice.{IsValidChoice};
@@ -26,9 +24,8 @@ ghost use Rattle.search_terms.specs.Inside.{IsInside, IsNode};
 ghost use Rattle.search_terms.specs.Proven.{PricesProve};
 ghost use Rattle.search_terms.specs.Search.{Becomes, IsBound, IsHandedOut, IsKeepable, IsProved, IsRun, IsSearchRun, IsSearched, IsSplit, IsSearchStep, SearchOutcome, SearchState, best};
 ghost use Rattle.search_terms.specs.SearchTree.{ClosedLeaf, EachOpen, IsTreeOf, OpenLeaf, SearchTree, Split, causes, closed_leaves};
-ghost use Rattle.search_terms.specs.Shares.{FractionalChoice, IsFractional, IsLoose, choice_value, visits_to};
+ghost use Rattle.share_terms.specs.Shares.{visits_to};
 ghost use Rattle.search_terms.specs.Ways.{CameFrom, IsOpenAt, StaysOpen, limits_at, prices_at, replaced};
-ghost use Rattle.search_terms.specs.declared.TheConstants.{MARGIN};
 
 use crew_laws::{
     children_are_limits, leaf_proves, required_teams_are_listed, root_is_limits, root_tree_proves,
@@ -58,16 +55,16 @@ pub fn prices_have_potentials()
         → IsOnRequired n prices →
         (worths : List ℤ) × (phi : ℕ → ℕ → ℕ → ℤ) × IsValidLeaf n prices worths phi ×
         ((k : ℕ) → k < teams_in n → (r : List Visit) × IsRoute n k r
-        × (rewards prices k r ≡ worth_of worths k)) }
+        × (rewards (earned prices k) r ≡ worth_of worths k)) }
 {}
 
 /// A team has potentials that hold locally with its worth: at each visit what some route from there on earns.
 pub fn potentials_are_attained()
-    ensures { (n : Limits) (k : ℕ) (p : Prices) → IsInstance n.instance →
-        (phi : ℕ → ℕ → ℤ) × (worth : ℤ) × HoldsLocally n k p phi worth ×
-        ((r : List Visit) × IsRoute n k r × (rewards p k r ≡ worth)) ×
+    ensures { (n : Limits) (k : ℕ) (w : ℕ → ℕ → ℤ) → IsInstance n.instance →
+        (phi : ℕ → ℕ → ℤ) × (worth : ℤ) × HoldsLocally n k w phi worth ×
+        ((r : List Visit) × IsRoute n k r × (rewards w r ≡ worth)) ×
         ((j t : ℕ) → IsPermittedVisit n k j t → (r : List Visit) × IsRoute n k (visit j t ∷ r)
-        × (rewards p k (visit j t ∷ r) ≡ phi j t)) }
+        × (rewards w (visit j t ∷ r) ≡ phi j t)) }
 {}
 
 /// Worths that routes attain prove what any worths prove.
@@ -75,31 +72,10 @@ pub fn attained_worths_decide()
     ensures { (n : Limits) (prices : Prices) (worths : List ℤ) (phi : ℕ → ℕ → ℕ → ℤ) (l : ℕ) →
         IsValidLeaf n prices worths phi →
         ((k : ℕ) → k < teams_in n → (r : List Visit) × IsRoute n k r
-        × (rewards prices k r ≡ worth_of worths k)) →
+        × (rewards (earned prices k) r ≡ worth_of worths k)) →
         PricesProve n prices l ↔ Proves (bound_of n prices worths) l }
 {
     worth_bounds_routes();
-}
-
-/// Weak duality of linear programs: no valid leaf has a bound above the value of a fractional choice in its node.
-pub fn no_leaf_beats_a_choice()
-    ensures { (n : Limits) (prices : Prices) (worths : List ℤ) (phi : ℕ → ℕ → ℕ → ℤ)
-        (c : FractionalChoice) →
-        IsValidLeaf n prices worths phi → IsFractional n c →
-        (pos c.whole *ℤ bound_of n prices worths) ≤ℤ (pos D *ℤ choice_value n c) }
-{
-    worth_bounds_routes();
-}
-
-/// Where a fractional choice is loose at a number less one and a thousandth, no prices have a bound above that.
-pub fn loose_choices_bound_prices()
-    ensures { (n : Limits) (prices : Prices) (worths : List ℤ) (phi : ℕ → ℕ → ℕ → ℤ)
-        (c : FractionalChoice) (now : ℕ) →
-        IsValidLeaf n prices worths phi → IsFractional n c → 1 ≤ now
-        → IsLoose n c (1000 * (now - 1) + 1) 1000 →
-        bound_of n prices worths ≤ℤ pos ((now - 1) * D + MARGIN) }
-{
-    no_leaf_beats_a_choice();
 }
 
 // ---- nodes, and those that are decided

@@ -7,7 +7,7 @@ use Rattle.search_terms.specs.declared.Place.TheVariants.{Unassigned}
 use Rattle.search_terms.specs.declared.TheConstants.{RIGHT}
 use Rattle.search_terms.specs.Rows.{Rows, number, row_of, basic_of, last}
 use Rattle.search_terms.specs.Opening.{places, place_at, places_where}
-use Rattle.search_terms.specs.Shares.{Share, FractionalChoice}
+use Rattle.share_terms.specs.Shares.{Share, FractionalChoice}
 
 -- the basic solution gives the variable at place j so many of the parts of which `whole` make one
 pub record HasParts (t : Rows) (whole j parts : ℕ) : Type 0 where

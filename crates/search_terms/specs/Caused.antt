@@ -4,8 +4,9 @@ use Rattle.crew_terms.specs.Instance.{Instance}
 use Rattle.crew_terms.specs.Limits.{Limits, Route, root_limits, tasks_in}
 use Rattle.crew_terms.specs.Leaf.{Prices}
 use Rattle.crew_terms.specs.declared.TheConstants.{D}
-use Rattle.search_terms.specs.declared.TheConstants.{MARGIN, PIVOTS}
-use Rattle.search_terms.specs.Shares.{FractionalChoice, choice_value}
+use Rattle.share_terms.specs.declared.TheConstants.{MARGIN}
+use Rattle.search_terms.specs.declared.TheConstants.{PIVOTS}
+use Rattle.share_terms.specs.Shares.{FractionalChoice, choice_value}
 use Rattle.search_terms.specs.Proven.{PricesProve}
 use Rattle.search_terms.specs.Earned.{Why, Loose, Overflowed, Spent, RunIsSpent, RunOverflows}
 use Rattle.search_terms.specs.SearchTree.{SearchTree, SplitCause, EachOpen, EachSplit, causes}

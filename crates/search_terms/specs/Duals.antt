@@ -2,10 +2,11 @@
 use Rattle.std.specs.Prelude.{◌≡◌, ◌<◌, ◌==◌, ℕ, ℤ, pos, ◌-ℤ◌, ◌*ℤ◌, ◌≤ℤ◌, List, [], ◌∷◌, if◌then◌else◌}
 use Rattle.std.specs.Int.{int_min, int_max}
 use Rattle.crew_terms.specs.Limits.{Limits, Route, tasks_in, teams_in, has_required}
-use Rattle.crew_terms.specs.Leaf.{Prices, IsOnRequired, pi_of, rho_of, task_price, rewards, worth_of}
+use Rattle.crew_terms.specs.Leaf.{Prices, IsOnRequired, pi_of, rho_of, task_price, rewards, worth_of, earned}
 use Rattle.crew_terms.specs.Total.{total}
 use Rattle.search_terms.specs.declared.Place.TheVariants.{Shortage, Missed, Unused}
-use Rattle.search_terms.specs.declared.TheConstants.{BIG_M, VALUE}
+use Rattle.share_terms.specs.declared.TheConstants.{BIG_M}
+use Rattle.search_terms.specs.declared.TheConstants.{VALUE}
 use Rattle.search_terms.specs.Rows.{Row, number}
 use Rattle.search_terms.specs.Opening.{OpensWith, places, dual}
 
@@ -22,7 +23,7 @@ pub record AreDualWorths (n : Limits) (value : Row) (worths : List ℤ) : Type 0
 -- the greater of 0 and the best reward of team k's routes among these
 abbrev pub best_reward : Prices → List Route → ℕ → ℤ
 best_reward p [] k = pos 0
-best_reward p (r ∷ rs) k = if k == r.team then int_max (rewards p k r.visits) (best_reward p rs k) else best_reward p rs k
+best_reward p (r ∷ rs) k = if k == r.team then int_max (rewards (earned p k) r.visits) (best_reward p rs k) else best_reward p rs k
 
 -- the term of a task, at prices of which `whole` make the cost of leaving it unassigned
 abbrev pub term_over : Limits → ℤ → Prices → ℕ → ℤ

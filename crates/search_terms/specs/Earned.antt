@@ -3,11 +3,11 @@ use Rattle.std.specs.Prelude.{◌≡◌, ◌<◌, ℕ, ℤ, pos, neg_ℤ, ◌*�
 use Rattle.std.specs.Int.{int_min, int_max, int_div_euclid}
 use Rattle.crew_num.specs.declared.Overflow.{Overflow}
 use Rattle.crew_terms.specs.Limits.{Limits, Route, teams_in}
-use Rattle.crew_terms.specs.Leaf.{Prices, IsOnRequired, IsWorth, Proves, bound_of, pi_of, rho_of, rewards, worth_of}
+use Rattle.crew_terms.specs.Leaf.{Prices, IsOnRequired, IsWorth, Proves, bound_of, pi_of, rho_of, rewards, worth_of, earned}
 use Rattle.crew_terms.specs.declared.TheConstants.{D, MOST_PRICE}
 use Rattle.search_terms.specs.declared.Place.TheVariants.{Shortage, Missed}
 use Rattle.search_terms.specs.declared.TheConstants.{VALUE}
-use Rattle.search_terms.specs.Shares.{FractionalChoice, IsRouteIn}
+use Rattle.share_terms.specs.Shares.{FractionalChoice, IsRouteIn}
 use Rattle.search_terms.specs.Rows.{Rows, number, value_row}
 use Rattle.search_terms.specs.Opening.{places, OpensWith, dual}
 use Rattle.search_terms.specs.Pivot.{IsOptimal}
@@ -64,12 +64,12 @@ pub record AreRounded (n : Limits) (t : Rows) (prices : Prices) : Type 0 where
 -- the worth of each team at these prices
 pub record AreWorths (n : Limits) (prices : Prices) (worths : List ℤ) : Type 0 where
   pub count : length worths ≡ teams_in n
-  pub each : (k : ℕ) → k < teams_in n → IsWorth n k prices (worth_of worths k)
+  pub each : (k : ℕ) → k < teams_in n → IsWorth n k (earned prices k) (worth_of worths k)
 
 -- the worth is greater than 0 and than the rewards of each of the team's routes
 pub record BeatsRoutes (routes : List Route) (k : ℕ) (prices : Prices) (worth : ℤ) : Type 0 where
   pub some : pos 0 <ℤ worth
-  pub more : (r : Route) → Contains routes r → r.team ≡ k → rewards prices k r.visits <ℤ worth
+  pub more : (r : Route) → Contains routes r → r.team ≡ k → rewards (earned prices k) r.visits <ℤ worth
 
 -- the run ends, and no team's worth at its prices beats its routes; these prices don't prove that now tasks stay unassigned
 pub record RunEndsLoose (n : Limits) (now : ℕ) (prices : Prices) (pivots : ℕ) (columns : List Route) : Type 0 where

@@ -1,7 +1,6 @@
 pub mod Choice
 pub mod Inside
 pub mod Proven
-pub mod Shares
 pub mod Closing
 pub mod Rows
 pub mod Opening
@@ -14,5 +13,6 @@ pub mod Earned
 pub mod SearchTree
 pub mod Ways
 pub mod Search
+pub mod BestFirst
 pub mod Caused
 pub mod WayLimits

@@ -7,9 +7,10 @@ use Rattle.crew_terms.specs.Minutes.{required_teams}
 use Rattle.crew_terms.specs.Total.{total}
 use Rattle.search_terms.specs.declared.Place.{Place}
 use Rattle.search_terms.specs.declared.Place.TheVariants.{Right, Value, Unused, Unassigned, Shortage, Excess, Missed, Repeated}
-use Rattle.search_terms.specs.declared.TheConstants.{BIG_M, VALUE}
+use Rattle.share_terms.specs.declared.TheConstants.{BIG_M}
+use Rattle.search_terms.specs.declared.TheConstants.{VALUE}
 use Rattle.search_terms.specs.Rows.{Row, Rows, number}
-use Rattle.search_terms.specs.Shares.{visits_to}
+use Rattle.share_terms.specs.Shares.{visits_to}
 
 -- the required pairs, by task and then by team
 abbrev pub required_pairs : Limits → List (ℕ × ℕ)

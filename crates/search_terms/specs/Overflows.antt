@@ -9,10 +9,11 @@ use Rattle.crew_terms.specs.Limits.{Limits, Route}
 use Rattle.crew_terms.specs.Total.{total}
 use Rattle.search_terms.specs.declared.Place.{Place}
 use Rattle.search_terms.specs.declared.Place.TheVariants.{Right, Unassigned}
-use Rattle.search_terms.specs.declared.TheConstants.{BIG_M, RIGHT, VALUE}
+use Rattle.share_terms.specs.declared.TheConstants.{BIG_M}
+use Rattle.search_terms.specs.declared.TheConstants.{RIGHT, VALUE}
 use Rattle.search_terms.specs.Rows.{Row, Rows, number, row_of, basic_of, value_row, width}
 use Rattle.search_terms.specs.Opening.{cost, places, openers, opener, opening_number, places_where, route_number, times}
-use Rattle.search_terms.specs.Pivot.{IsEntering, IsBounding, IsLeaving, IsOptimal}
+use Rattle.search_terms.specs.Pivot.{IsEntering, IsBounding, IsLeast, IsLeaving, IsOptimal}
 
 -- the next pivot enters the variable at place v at row h, and replaces the number at place j of row i
 pub record IsNumberOfPivot (t : Rows) (v h i j : ℕ) : Type 0 where
@@ -22,10 +23,21 @@ pub record IsNumberOfPivot (t : Rows) (v h i j : ℕ) : Type 0 where
   pub other : i ≢ h
   pub place : j < width t
 
--- the operations of the next pivot: the two products of a choice of its row, and the products and the difference of a number
+-- the choice of the row goes through the rows that bound the variable, and compares each, h, with the best before it, g
+pub record AreCompared (t : Rows) (v g h : ℕ) : Type 0 where
+  pub best : IsLeast t v h g
+  pub next : IsBounding t v h
+
+-- the two products of a comparison: the right side of each row, and the other's number at place v
+pub data IsOfChoice (t : Rows) (v : ℕ) (f : Overflow) : Type 0 where
+  OfNext : (g h : ℕ) (compared : AreCompared t v g h)
+      (is : f ≡ fault Mul (number (row_of t h) RIGHT) (number (row_of t g) v)) → IsOfChoice t v f
+  OfBest : (g h : ℕ) (compared : AreCompared t v g h)
+      (is : f ≡ fault Mul (number (row_of t g) RIGHT) (number (row_of t h) v)) → IsOfChoice t v f
+
+-- the operations of the next pivot: those of the choice of its row, and the products and the difference of a number
 pub data IsOfPivot (t : Rows) (f : Overflow) : Type 0 where
-  Ratio : (v h i : ℕ) (enters : IsEntering t v) (one : IsBounding t v h) (other : IsBounding t v i)
-      (is : f ≡ fault Mul (number (row_of t h) RIGHT) (number (row_of t i) v)) → IsOfPivot t f
+  Ratio : (v : ℕ) (enters : IsEntering t v) (how : IsOfChoice t v f) → IsOfPivot t f
   OfRow : (v h i j : ℕ) (at : IsNumberOfPivot t v h i j)
       (is : f ≡ fault Mul (number (row_of t h) v) (number (row_of t i) j)) → IsOfPivot t f
   OfPivotRow : (v h i j : ℕ) (at : IsNumberOfPivot t v h i j)

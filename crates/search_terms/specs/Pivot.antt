@@ -28,6 +28,13 @@ pub record IsBounding (t : Rows) (v h : ℕ) : Type 0 where
 abbrev pub IsRatioUpTo : Rows → ℕ → ℕ → ℕ → Type 0
 IsRatioUpTo t v h i = (number (row_of t h) RIGHT *ℤ number (row_of t i) v) ≤ℤ (number (row_of t i) RIGHT *ℤ number (row_of t h) v)
 
+-- row g has the least ratio of the first i rows, and the lowest basic variable of those
+pub record IsLeast (t : Rows) (v i g : ℕ) : Type 0 where
+  pub below : g < i
+  pub bounds : IsBounding t v g
+  pub least : (k : ℕ) → k < i → IsBounding t v k → IsRatioUpTo t v g k
+  pub lowest : (k : ℕ) → k < i → IsBounding t v k → IsRatioUpTo t v k g → basic_of t g ≤ basic_of t k
+
 -- the row of least ratio, and among those the row whose basic variable is lowest (Bland's rule)
 pub record IsLeaving (t : Rows) (v h : ℕ) : Type 0 where
   pub bounds : IsBounding t v h

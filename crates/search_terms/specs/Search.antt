@@ -11,7 +11,7 @@ use Rattle.crew_terms.specs.declared.Side.{Side}
 use Rattle.search_terms.specs.declared.TheConstants.{PIVOTS}
 use Rattle.search_terms.specs.Choice.{IsValidChoice}
 use Rattle.search_terms.specs.Proven.{PricesProve, ProveAsMuch}
-use Rattle.search_terms.specs.Shares.{IsRouteIn}
+use Rattle.share_terms.specs.Shares.{IsRouteIn}
 use Rattle.search_terms.specs.Earned.{IsEarned}
 use Rattle.search_terms.specs.SearchTree.{SearchTree, OpenLeaf, ClosedLeaf, Split, EachOpen, IsTreeOf}
 use Rattle.search_terms.specs.Ways.{IsOpenAt, limits_at, prices_at, replaced}

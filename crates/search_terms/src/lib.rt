@@ -1,17 +1,11 @@
-// The words of the planner's search: the choices that split a node, what prices prove in it, shares of routes, the rows of
-// the master problem and their runs, earned splits, and the tree, the steps and the runs of a search.
+// The words of the planner's search: the choices that split a node, what prices prove in it, the rows of the master problem
+// and their runs, earned splits, and the tree, the steps and the runs of a search.
 #![tactic(auto)]
 
 pub use crew_num::{Op, Overflow};
 
-/// What a visit that is missing or too many costs, in unassigned tasks: the penalty of the big-M method.
-pub const BIG_M: u32 = 1_000_000;
-
 /// The most pivots of a run of the master, in a step of a planner's search.
 pub const PIVOTS: u32 = 20_000;
-
-/// A thousandth of a task, in 1/D: a loose split's prices may stay this far behind its shares.
-pub const MARGIN: u32 = 840_000;
 
 /// The place of the right side in a row.
 pub const RIGHT: usize = 0;

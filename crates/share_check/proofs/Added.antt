@@ -8,7 +8,7 @@ use Rattle.std.proofs.lemmas.List.{get_or-set_same, get_or-set_other, length-set
 use Rattle.std.proofs.lemmas.List.Sums.{sum_by_more}
 use Rattle.crew_num.specs.declared.Mixed.{Mixed}
 use Rattle.crew_terms.specs.declared.Visit.{Visit}
-use Rattle.search_terms.specs.Shares.{visits_to}
+use Rattle.share_terms.specs.Shares.{visits_to}
 use Rattle.share_check.specs.CellSums.{AreSums, IsSum, sum_at, visit_at}
 
 -- sums of the same numbers

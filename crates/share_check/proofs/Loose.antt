@@ -8,7 +8,7 @@ use Rattle.crew_terms.specs.Instance.{task_of}
 use Rattle.crew_terms.specs.Limits.{Limits, tasks_in, teams_in, is_required, pair_of}
 use Rattle.crew_terms.specs.Total.{total}
 use Rattle.crew_terms.specs.Totals.{lt_or_last}
-use Rattle.search_terms.specs.Shares.{Share, FractionalChoice, IsLoose, task_gap, pair_gap, unassigned_of, shares_of, visits_to, weighed_visits, distance}
+use Rattle.share_terms.specs.Shares.{Share, FractionalChoice, IsLoose, task_gap, pair_gap, unassigned_of, shares_of, visits_to, weighed_visits, distance}
 
 -- sums of numbers that are not negative
 total_least : (m : ℕ) (f : ℕ → ℤ) → ((i : ℕ) → pos 0 ≤ℤ f i) → pos 0 ≤ℤ total m f

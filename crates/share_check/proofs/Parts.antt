@@ -5,7 +5,7 @@ use Rattle.std.proofs.lemmas.Int.{ints}
 use Rattle.std.specs.Prelude.{◌+ℤ◌, ◌-ℤ◌, ◌*ℤ◌, ◌≤ℤ◌, ◌<ℤ◌, unsigned_abs}
 use Rattle.std.proofs.lemmas.Bool.{cases_lt}
 use Rattle.crew_terms.specs.Total.{total}
-use Rattle.search_terms.specs.Shares.{distance}
+use Rattle.share_terms.specs.Shares.{distance}
 
 -- fewer wholes than `most`
 pub below_most : (w : ℤ) (part whole most n : ℕ) → pos 0 ≤ℤ w → part < whole → (w *ℤ pos whole) +ℤ pos part ≡ pos n → w <ℤ pos most → n ≤ most * whole

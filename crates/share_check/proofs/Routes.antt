@@ -6,7 +6,7 @@ use Rattle.std.proofs.lemmas.List.{get_or-set_same, get_or-set_other}
 use Rattle.std.proofs.lemmas.List.Elements.{filter-append}
 use Rattle.crew_terms.specs.Limits.{Limits, IsRoute, GoesOn, tasks_in, teams_in}
 use Rattle.crew_terms.specs.declared.Visit.{Visit}
-use Rattle.search_terms.specs.Shares.{Share, shares_of}
+use Rattle.share_terms.specs.Shares.{Share, shares_of}
 use Rattle.share_check.specs.CellSums.{visit_at}
 use Rattle.share_check.specs.Summed.{IsSumsOf}
 use Rattle.share_check.specs.declared.sums.Sums.{Sums}

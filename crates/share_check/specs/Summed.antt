@@ -1,7 +1,7 @@
 -- the sums of the shares of a cause
 use Rattle.std.specs.Prelude.{◌≡◌, ◌<◌, ◌+◌, ◌-◌, ◌*◌, ℕ, List, length, slice_index_or}
 use Rattle.crew_terms.specs.Limits.{Limits, tasks_in, teams_in}
-use Rattle.search_terms.specs.Shares.{Share, FractionalChoice, IsFractional, IsLoose, parts_of, shares_of, weighed_visits}
+use Rattle.share_terms.specs.Shares.{Share, FractionalChoice, IsFractional, IsLoose, parts_of, shares_of, weighed_visits}
 use Rattle.share_check.specs.CellSums.{AreSums, IsSum}
 use Rattle.share_check.specs.declared.sums.Sums.{Sums}
 use Rattle.share_check.specs.declared.sums.ShareSums.{ShareSums}

@@ -1,7 +1,7 @@
 // Sums of shares, each as a number of wholes and a part of one. A sum stops where it is past any that a loose choice has.
 ghost use Rattle.std.specs.Prelude.{◌≡◌, ◌≤◌, ◌<◌, ◌+◌, ◌*◌, ◌^◌, ◌==◌, ℕ, pos, length, if◌then◌else◌};
 ghost use Rattle.crew_num.specs.Mixed.{IsMixed, value};
-ghost use Rattle.search_terms.specs.Shares.{visits_to};
+ghost use Rattle.share_terms.specs.Shares.{visits_to};
 ghost use Rattle.share_check.specs.CellSums.{AreSums, IsSum, visit_at};
 
 use crew_num::{Mixed, mixed_add};

@@ -3,13 +3,13 @@ ghost use Rattle.std.specs.Prelude.{◌≡◌, ◌≤◌, ◌<◌, ◌*◌, ◌^
 ghost use Rattle.crew_num.specs.Mixed.{IsMixed, value};
 ghost use Rattle.crew_terms.specs.Limits.{tasks_in};
 ghost use Rattle.crew_terms.specs.Total.{total};
-ghost use Rattle.search_terms.specs.Shares.{FractionalChoice, task_gap, unassigned_of, weighed_visits};
+ghost use Rattle.share_terms.specs.Shares.{FractionalChoice, task_gap, unassigned_of, weighed_visits};
 ghost use Rattle.share_check.specs.CellSums.{AreSums, IsSum};
 
 use crate::cells::{NOTHING, share_of};
 use crate::value::gap_of;
-use cert_format::WideNumbers;
 use crew_num::{Mixed, mixed_add};
+use line_in::WideNumbers;
 use node_limits::Limits;
 
 /// How far the visits to a task are from what its assigned share needs; None where they are too many to tell it.

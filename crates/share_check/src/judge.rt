@@ -3,7 +3,7 @@ ghost use Rattle.std.specs.Prelude.{◌≡◌, ◌≤◌, ◌<◌, ◌*◌, ◌^
 ghost use Rattle.crew_num.specs.Mixed.{IsMixed, value};
 ghost use Rattle.crew_terms.specs.Limits.{Limits as NodeLimits, has_required, tasks_in, teams_in};
 ghost use Rattle.crew_terms.specs.Total.{total};
-ghost use Rattle.search_terms.specs.Shares.{FractionalChoice, IsRouteIn, Share, pair_gap, parts_of, shares_of, weighed_visits};
+ghost use Rattle.share_terms.specs.Shares.{FractionalChoice, IsRouteIn, Share, pair_gap, parts_of, shares_of, weighed_visits};
 ghost use Rattle.share_check.specs.Summed.{IsLooseChoice, IsSharesOf};
 
 use crate::cells::NOTHING;
@@ -11,8 +11,8 @@ use crate::gaps::{spare_sum, task_gaps};
 use crate::pairs::team_gaps;
 use crate::sums::ShareSums;
 use crate::value::{is_one_at_most, is_within};
-use cert_format::WideNumbers;
 use crew_num::{Mixed, mixed_add};
+use line_in::WideNumbers;
 use node_limits::Limits;
 
 /// Whether each task with a required pair has no unassigned share.

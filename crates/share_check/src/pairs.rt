@@ -3,7 +3,7 @@ ghost use Rattle.std.specs.Prelude.{◌≡◌, ◌≤◌, ◌<◌, ◌*◌, ◌^
 ghost use Rattle.crew_num.specs.Mixed.{IsMixed, value};
 ghost use Rattle.crew_terms.specs.Limits.{tasks_in, teams_in};
 ghost use Rattle.crew_terms.specs.Total.{total};
-ghost use Rattle.search_terms.specs.Shares.{FractionalChoice, pair_gap, shares_of, weighed_visits};
+ghost use Rattle.share_terms.specs.Shares.{FractionalChoice, pair_gap, shares_of, weighed_visits};
 ghost use Rattle.share_check.specs.CellSums.{AreSums, IsSum};
 
 use crate::cells::NOTHING;

@@ -2,7 +2,7 @@
 ghost use Rattle.std.specs.Prelude.{◌≡◌, ◌≤◌, ◌<◌, ◌^◌, ◌++◌, [], ◌∷◌, ℕ, List, pos, length, IfOk};
 ghost use Rattle.crew_num.specs.Mixed.{IsMixed, value};
 ghost use Rattle.crew_terms.specs.Limits.{Limits as NodeLimits, tasks_in, teams_in};
-ghost use Rattle.search_terms.specs.Shares.{IsRouteIn, Share};
+ghost use Rattle.share_terms.specs.Shares.{IsRouteIn, Share};
 ghost use Rattle.share_check.specs.CellSums.{visit_at};
 ghost use Rattle.share_check.specs.Summed.{HasRoom, IsSharesOf, IsSumsOf};
 

@@ -1,7 +1,7 @@
 // The parts of a choice's value: how far its sums are from what the node needs.
 ghost use Rattle.std.specs.Prelude.{◌≡◌, ◌≤◌, ◌<◌, ◌+◌, ◌-◌, ◌*◌, ◌^◌, ◌≤ℤ◌, ◌*ℤ◌, ℕ, pos, IfSome, MatchBool, MatchOption};
 ghost use Rattle.crew_num.specs.Mixed.{IsMixed, value};
-ghost use Rattle.search_terms.specs.Shares.{distance};
+ghost use Rattle.share_terms.specs.Shares.{distance};
 ghost use Rattle.share_check.specs.CellSums.{IsSum};
 
 use crate::cells::{MANY, share_of};

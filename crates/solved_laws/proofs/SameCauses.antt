@@ -9,7 +9,7 @@ use Rattle.search_core.specs.Searching.{split_cause}
 use Rattle.search_core.specs.declared.causes.Cause.{Cause}
 use Rattle.search_terms.specs.Earned.{Loose as LooseAt}
 use Rattle.search_terms.specs.SearchTree.{SplitCause}
-use Rattle.search_terms.specs.Shares.{Share as RouteShare}
+use Rattle.share_terms.specs.Shares.{Share as RouteShare}
 use Rattle.solved_laws.proofs.Told.{told_shares}
 use Rattle.solved_laws.specs.Told.{Tell, split_cause_in, told_of, told_why}
 

@@ -24,7 +24,7 @@ use Rattle.node_solver.specs.declared.step.Why.{Why}
 use Rattle.node_solver.specs.declared.step.Why.TheVariants as whys
 use Rattle.search_core.specs.Shown.{IsShownCause, IsShownWhy, ShowsLoose}
 use Rattle.search_core.specs.declared.causes.Cause.{Cause}
-use Rattle.search_terms.specs.Shares.{FractionalChoice, IsFractional, IsLoose, IsRouteIn, Share as RouteShare, parts_of, shares_of}
+use Rattle.share_terms.specs.Shares.{FractionalChoice, IsFractional, IsLoose, IsRouteIn, Share as RouteShare, parts_of, shares_of}
 use Rattle.solved_laws.specs.Told.{IsInRange, told_of, told_why}
 
 -- ---- shares

@@ -7,7 +7,7 @@ use Rattle.std.proofs.lemmas.Int.{ints}
 use Rattle.std.proofs.lemmas.List.{get_or_default, get_or-map, length-map}
 use Rattle.std.proofs.lemmas.List.Elements.{All-get_or, All-from_get_or, recursion_from_All}
 use Rattle.std.proofs.lemmas.List.FromFn.{fill_by_all, get_or-map-range_with_len}
-use Rattle.crew_terms.specs.Leaf.{Prices, IsOnRequired, IsPrice, IsWorth, rho_of, worth_of}
+use Rattle.crew_terms.specs.Leaf.{Prices, IsOnRequired, IsPrice, IsWorth, rho_of, worth_of, earned}
 use Rattle.crew_terms.specs.Limits.{Limits, IsPermittedVisit, pair_of, tasks_in, teams_in}
 use Rattle.crew_terms.specs.Minutes.{IsListOf, IsMinuteOf, first_minute, minute_count, open_tasks, priced, required_teams}
 use Rattle.crew_terms.specs.declared.Pair.{Pair}
@@ -29,9 +29,9 @@ all_mapped In f [] each = tt
 all_mapped In f (x ∷ xs) each = (each x, all_mapped In f xs each)
 
 module _ (n : Limits) (p : Prices)
-    (worths_fit : (k : ℕ) (v : ℤ) → k < teams_in n → IsWorth n k p v → FitsSigned w64 v)
-    (worths_least : (k : ℕ) (v : ℤ) → IsWorth n k p v → pos 0 ≤ℤ v)
-    (bests_fit : (k j t : ℕ) (v : ℤ) → k < teams_in n → IsPermittedVisit n k j t → IsBest n k p j t v → FitsSigned w64 v) where
+    (worths_fit : (k : ℕ) (v : ℤ) → k < teams_in n → IsWorth n k (earned p k) v → FitsSigned w64 v)
+    (worths_least : (k : ℕ) (v : ℤ) → IsWorth n k (earned p k) v → pos 0 ≤ℤ v)
+    (bests_fit : (k j t : ℕ) (v : ℤ) → k < teams_in n → IsPermittedVisit n k j t → IsBest n k (earned p k) j t v → FitsSigned w64 v) where
   best_rows : (k : ℕ) → k < teams_in n → (js : List ℕ) (rows : List (List ℤ)) → AreBestRows n k p js rows → AreRows IsSigned (minute_count n k) js rows
   best_rows k known [] [] are = tt
   best_rows k known [] (row ∷ rows) are = absurd are
@@ -88,7 +88,7 @@ module _ (n : Limits) (p : Prices)
     pub are_worths : AreWorths n p (worths_of leaf)
     are_worths = record {
       count = (let c = tables_count 0 leaf.tables same.tables in let l = length-map leaf.tables (λ (t : Potentials). t.worth) in omega (arith, c, l));
-      each = λ k known. subst (IsWorth n k p) (sym (worth_at k known)) (table_of k known).worth;
+      each = λ k known. subst (IsWorth n k (earned p k)) (sym (worth_at k known)) (table_of k known).worth;
     }
 
     -- ---- potentials
@@ -103,13 +103,13 @@ module _ (n : Limits) (p : Prices)
         (open_ones : (k : ℕ) → IsListOf (λ j. (t : ℕ) × IsPermittedVisit n k j t) (open_tasks n k))
         (placed : (k a m : ℕ) → k < teams_in n → a < length (open_tasks n k)
         → phi_of n leaf k (slice_index (open_tasks n k) a) (first_minute n k (slice_index (open_tasks n k) a) + m) ≡ get_or (get_or (get_or leaf.tables k no_potentials).phi a []) m (pos 0)) where
-      pub best_at : (k j t : ℕ) → k < teams_in n → IsPermittedVisit n k j t → IsBest n k p j t (phi_of n leaf k j t)
+      pub best_at : (k j t : ℕ) → k < teams_in n → IsPermittedVisit n k j t → IsBest n k (earned p k) j t (phi_of n leaf k j t)
       best_at k j t known here = found ((open_ones k).each j).1 (t, here)
         where
           minute : IsMinuteOf n k j t
           minute = (minutes k j t).0 here
 
-          at_place : (a : ℕ) → a < length (open_tasks n k) → slice_index (open_tasks n k) a ≡ j → IsBest n k p j t (phi_of n leaf k j t)
+          at_place : (a : ℕ) → a < length (open_tasks n k) → slice_index (open_tasks n k) a ≡ j → IsBest n k (earned p k) j t (phi_of n leaf k j t)
           at_place a below is_j =
               let row = row_at k (open_tasks n k) (get_or leaf.tables k no_potentials).phi a (table_of k known).rows below in
               let m = t - first_minute n k j in
@@ -119,10 +119,10 @@ module _ (n : Limits) (p : Prices)
               let count = row_j.count in
               let t_is : first_minute n k j + m ≡ t = omega (arith, from) in
               let value = subst (λ i. phi_of n leaf k i (first_minute n k i + m) ≡ get_or (get_or (get_or leaf.tables k no_potentials).phi a []) m (pos 0)) is_j (placed k a m known below) in
-              subst (λ u. IsBest n k p j u (phi_of n leaf k j u)) t_is
-              (subst (IsBest n k p j (first_minute n k j + m)) (sym value) (row_j.each m (omega (arith, count, from, until))))
+              subst (λ u. IsBest n k (earned p k) j u (phi_of n leaf k j u)) t_is
+              (subst (IsBest n k (earned p k) j (first_minute n k j + m)) (sym value) (row_j.each m (omega (arith, count, from, until))))
 
-          found : ((t : ℕ) × IsPermittedVisit n k j t → Contains (open_tasks n k) j) → (t : ℕ) × IsPermittedVisit n k j t → IsBest n k p j t (phi_of n leaf k j t)
+          found : ((t : ℕ) × IsPermittedVisit n k j t → Contains (open_tasks n k) j) → (t : ℕ) × IsPermittedVisit n k j t → IsBest n k (earned p k) j t (phi_of n leaf k j t)
           found has may = let x = has may in at_place x.0 x.1 (index_is x.0 x.1 x.2)
             where
               index_is : (a : ℕ) → a < length (open_tasks n k) → get_or (open_tasks n k) a j ≡ j → slice_index (open_tasks n k) a ≡ j

@@ -3,7 +3,7 @@ use Rattle.std.proofs.Common.{[], ◌≡◌, ◌<◌, ◌+◌, ◌↔◌, ℕ, L
 use Rattle.std.specs.Prelude.{ℤ, pos, FitsSigned, ◌≤ℤ◌, slice_index}
 use Rattle.std.specs.Int.{w64}
 use Rattle.crew_terms.specs.Branches.{LeafNode, SplitNode, Claim, Bare, Open, Closed}
-use Rattle.crew_terms.specs.Leaf.{Prices, AreInRange, HoldsLocally, IsOnRequired, IsValidLeaf, IsWorth, Proves, bound_of, rho_of, worth_of}
+use Rattle.crew_terms.specs.Leaf.{Prices, AreInRange, HoldsLocally, IsOnRequired, IsValidLeaf, IsWorth, Proves, bound_of, rho_of, worth_of, earned}
 use Rattle.crew_terms.specs.Limits.{Limits, IsPermittedVisit, pair_of, tasks_in, teams_in}
 use Rattle.crew_terms.specs.Minutes.{IsListOf, IsMinuteOf, first_minute, open_tasks, priced, required_teams}
 use Rattle.crew_terms.specs.Rules.{IsInstance}
@@ -21,9 +21,9 @@ use Rattle.cert_write.specs.Dossiers.{IsPricedClaim, IsPricedLeaf, IsPricedTree}
 use Rattle.written_laws.specs.Proved.{IsProvedLeaf, IsProvedTree}
 use Rattle.written_laws.proofs.Leaves.{are_worths, best_at, prices_same, written}
 
-module _ (least : (n : Limits) (k : ℕ) (p : Prices) (v : ℤ) → IsWorth n k p v → pos 0 ≤ℤ v)
-    (worths : (n : Limits) (k : ℕ) (p : Prices) (v : ℤ) → IsInstance n.instance → AreInRange p → k < teams_in n → IsWorth n k p v → FitsSigned w64 v)
-    (bests : (n : Limits) (k : ℕ) (p : Prices) (j t : ℕ) (v : ℤ) → IsInstance n.instance → AreInRange p → k < teams_in n → IsPermittedVisit n k j t → IsBest n k p j t v → FitsSigned w64 v)
+module _ (least : (n : Limits) (k : ℕ) (p : Prices) (v : ℤ) → IsWorth n k (earned p k) v → pos 0 ≤ℤ v)
+    (worths : (n : Limits) (k : ℕ) (p : Prices) (v : ℤ) → IsInstance n.instance → AreInRange p → k < teams_in n → IsWorth n k (earned p k) v → FitsSigned w64 v)
+    (bests : (n : Limits) (k : ℕ) (p : Prices) (j t : ℕ) (v : ℤ) → IsInstance n.instance → AreInRange p → k < teams_in n → IsPermittedVisit n k j t → IsBest n k (earned p k) j t v → FitsSigned w64 v)
     (in_range : (n : Limits) (leaf : Leaf) → IsWritten n leaf → AreInRange (prices_of n leaf) × IsOnRequired n (prices_of n leaf))
     (required : (n : Limits) (j : ℕ) → IsListOf (λ k. (k < teams_in n) × (pair_of n k j ≡ Required)) (required_teams n j))
     (priced_ones : (n : Limits) → IsListOf (λ j. (j < tasks_in n) × ((k : ℕ) × (k < teams_in n) × (pair_of n k j ≡ Required))) (priced n))
@@ -49,7 +49,7 @@ module _ (least : (n : Limits) (k : ℕ) (p : Prices) (v : ℤ) → IsWorth n k 
       (open_ones : (n : Limits) (k : ℕ) → IsListOf (λ j. (t : ℕ) × IsPermittedVisit n k j t) (open_tasks n k))
       (potential : (n : Limits) (leaf : Leaf) (k a m : ℕ) → IsWritten n leaf → k < teams_in n → a < length (open_tasks n k)
       → phi_of n leaf k (slice_index (open_tasks n k) a) (first_minute n k (slice_index (open_tasks n k) a) + m) ≡ get_or (get_or (get_or leaf.tables k no_potentials).phi a []) m (pos 0))
-      (hold : (n : Limits) (k : ℕ) (p : Prices) (phi : ℕ → ℕ → ℤ) (worth : ℤ) → ((j t : ℕ) → IsPermittedVisit n k j t → IsBest n k p j t (phi j t)) → IsWorth n k p worth → HoldsLocally n k p phi worth)
+      (hold : (n : Limits) (k : ℕ) (p : Prices) (phi : ℕ → ℕ → ℤ) (worth : ℤ) → ((j t : ℕ) → IsPermittedVisit n k j t → IsBest n k (earned p k) j t (phi j t)) → IsWorth n k (earned p k) worth → HoldsLocally n k (earned p k) phi worth)
       (decide : (n : Limits) (p : Prices) (worths : List ℤ) (l : ℕ) → IsInstance n.instance → AreInRange p → IsOnRequired n p → AreWorths n p worths → PricesProve n p l ↔ Proves (bound_of n p worths) l) where
     module _ (n : Limits) (instance : IsInstance n.instance) (p : Prices) (is : IsPriced n p) (leaf : Leaf) (same : IsPricedLeaf n p leaf) where
       leaf_valid : IsValidLeaf n p (worths_of leaf) (phi_of n leaf)

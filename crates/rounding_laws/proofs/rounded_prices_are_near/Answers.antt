@@ -3,7 +3,7 @@ use Rattle.std.specs.Prelude.{◌<ℤ◌}
 use Rattle.crew_terms.specs.Leaf.{bound_of}
 use Rattle.search_terms.specs.BasicChoice.{choice_of}
 use Rattle.search_terms.specs.Rows.{number, value_row}
-use Rattle.search_terms.specs.Shares.{choice_value}
+use Rattle.share_terms.specs.Shares.{choice_value}
 use Rattle.search_terms.specs.declared.TheConstants.{RIGHT, VALUE}
 use Rattle.rounding_laws.specs.Loss.{rounding_loss}
 use Rattle.rounding_laws.proofs.Loose.{in_parts}

@@ -1,5 +1,6 @@
 use Rattle.std.proofs.Common.{ap, ◌∙◌, w64}
 use Rattle.std.proofs.lemmas.Int.{to_z-of_z}
+use Rattle.crew_terms.specs.Leaf.{earned}
 use Rattle.cert_write.specs.Steps.{table_in}
 use Rattle.crew_io.specs.Chains.{puts_same}
 use Rattle.cert_write.specs.Tables.{team_lines}
@@ -16,5 +17,5 @@ returns-clause-puts g c t priced =
     puts_same g.K.Sink _ _ _ _ _
     (ap (λ v. text (team_lines n k (table_in n k v c.price_with-worth.new.table))) (to_z-of_z w64 c.price_with-worth.result (record { sfits = c.price_with-worth.type_inv }))
     ∙ ap (λ x. text (team_lines n k x))
-    (table_is n k p _ (c.teams_have_bests.ensures.one n k p) found.best c.price_with-worth.result found.worth (c.one_worth.ensures n k p) t priced))
+    (table_is n k p _ (c.teams_have_bests.ensures.one n k (earned p k)) found.best c.price_with-worth.result found.worth (c.one_worth.ensures n k (earned p k)) t priced))
     c.put_table.ensures

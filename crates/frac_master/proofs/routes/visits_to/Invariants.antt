@@ -1,5 +1,5 @@
 use Rattle.std.proofs.Common.{◌≡◌, ◌≤◌, take}
-use Rattle.search_terms.specs.Shares.{visits_to}
+use Rattle.share_terms.specs.Shares.{visits_to}
 use Rattle.frac_master.proofs.routes.visits_to.Given as goal
 
 abbrev pub invariant-loop-v : goal.invariant-loop-v

@@ -7,6 +7,7 @@ use Rattle.crew_terms.specs.Tree.{child}
 use Rattle.crew_terms.specs.declared.Side.TheVariants.{First, Second}
 use Rattle.keyed_steps.specs.States.{DecidesProved}
 use Rattle.potentials.specs.Prices.{ArePricesOf}
+use Rattle.search_terms.specs.BestFirst.{IsBoundIn}
 use Rattle.search_terms.specs.Search.{Found, Own}
 use Rattle.handed_prices.proofs.Turning.{as_much}
 use Rattle.handed_prices.proofs.handing.hand_on.Goals as goal
@@ -22,6 +23,10 @@ returns-then-proved-most_proved-clause-handed c =
       on = Found (as_much n c.args.own.now found c.args.bound c.proved.result.count c.most_proved.result c.requires.bound c.proved.ensures.count
           (λ l k p. c.most_proved.ensures.greatest l k (subst (λ (z : ℤ). Proves z l) (sym same) p)) le (λ m l. c.less_is_proved.ensures n found l m)) kept;
       shape = subst (λ (p : Prices). ArePricesOf n p) (sym kept) c.requires.found;
+      low = subst (λ (p : Prices). IsBoundIn (child n c.args.choice First) p c.child_bounds-bounds.result.0) (sym kept)
+          c.child_bounds-bounds.ensures.low;
+      high = subst (λ (p : Prices). IsBoundIn (child n c.args.choice Second) p c.child_bounds-bounds.result.1) (sym kept)
+          c.child_bounds-bounds.ensures.high;
       first = subst (λ (p : Prices). DecidesProved (child n c.args.choice First) p c.child_bounds-bounds.result.0) (sym kept)
           c.child_bounds-bounds.ensures.first;
       second = subst (λ (p : Prices). DecidesProved (child n c.args.choice Second) p c.child_bounds-bounds.result.1) (sym kept)
@@ -39,6 +44,10 @@ returns-clause-handed c =
       on = Own o c.most_proved.ensures.most ((c.requires.bound o c.most_proved.ensures.most).1 (subst (λ (z : ℤ). Proves z o) same c.most_proved.ensures.proves))
           (λ p. let g = c.proved.ensures.count.greatest o c.most_proved.ensures.most p in omega arith) refl;
       shape = c.requires.own;
+      low = subst (λ (p : Prices). IsBoundIn (child n c.args.choice First) p c.child_bounds-bounds-2.result.0) kept
+          c.child_bounds-bounds-2.ensures.low;
+      high = subst (λ (p : Prices). IsBoundIn (child n c.args.choice Second) p c.child_bounds-bounds-2.result.1) kept
+          c.child_bounds-bounds-2.ensures.high;
       first = subst (λ (p : Prices). DecidesProved (child n c.args.choice First) p c.child_bounds-bounds-2.result.0) kept
           c.child_bounds-bounds-2.ensures.first;
       second = subst (λ (p : Prices). DecidesProved (child n c.args.choice Second) p c.child_bounds-bounds-2.result.1) kept

@@ -9,6 +9,7 @@ use Rattle.crew_terms.specs.Tree.{child}
 use Rattle.keyed_steps.specs.States.{DecidesProved}
 use Rattle.label_pricing.specs.Pricing.{HasRoom}
 use Rattle.node_limits.specs.Trail.{Trail}
+use Rattle.search_terms.specs.BestFirst.{IsBoundIn}
 use Rattle.handed_prices.proofs.Turning.{child_prices, proved_required, taken_back}
 use Rattle.handed_prices.proofs.handing.side_bound.Goals as goal
 
@@ -32,6 +33,18 @@ proved-proved-requires-clause-room c =
 
 pub returns-clause-bound : goal.returns-clause-bound
 returns-clause-bound c =
+    let b = c.proved-proved.result.bound in
+    let range : FitsSigned w128 b = search rules in
+    let n = child c.args.limits.now.limits c.args.choice c.args.side in
+    subst (λ (z : ℤ). IsBoundIn n c.args.prices.now z) (sym (to_z-of_z w128 b range))
+    (subst (λ (m : Limits). IsBoundIn m c.args.prices.now b) (ap (λ (t : Trail). t.limits) c.turn_to.ensures) (record {
+      worths = c.proved-proved.new.self.worths;
+      worth = record { count = c.proved-proved.ensures.worths.count; each = c.proved-proved.ensures.worths.each };
+      is = c.proved-proved.ensures.bound;
+    }))
+
+pub returns-clause-decides : goal.returns-clause-decides
+returns-clause-decides c =
     let b = c.proved-proved.result.bound in
     let range : FitsSigned w128 b = search rules in
     let n = child c.args.limits.now.limits c.args.choice c.args.side in

@@ -1,10 +1,12 @@
 use Rattle.std.proofs.Common.{◌≡◌, ◌-◌, ◌*◌, length, ap, sym, ◌∙◌, subst, arith, w64, to_z, of_z}
 use Rattle.std.specs.Prelude.{FitsSigned, ◌+ℤ◌, ◌≤ℤ◌, pos}
 use Rattle.std.proofs.lemmas.Int.{ints, to_z-of_z}
+use Rattle.crew_terms.specs.Leaf.{earned}
+use Rattle.crew_terms.specs.declared.TheConstants.{MOST_PRICE}
 use Rattle.crew_terms.specs.Instance.{Instance}
 use Rattle.label_pricing.specs.Cells.{IsGrid}
 use Rattle.label_pricing.specs.Best.{IsBest, IsAfter}
-use Rattle.label_pricing.specs.Turns.{most_reward}
+use Rattle.potentials.specs.Sums.{rewards_bounded}
 use Rattle.label_pricing.proofs.Best.{best_from_after}
 use Rattle.label_pricing.proofs.Onward.{small_after, task_is}
 use Rattle.label_pricing.proofs.after.label_at.Goals as goal
@@ -33,30 +35,30 @@ after-next-requires c =
     }
 
 module _ (c : goal.After-struct_told-1) where
-  next : IsAfter c.args.limits.now.limits c.args.k c.args.prices.now c.args.j c.args.t c.after-next.result
-  next = c.after-next.ensures c.args.limits.now.limits c.args.k c.args.prices.now (sym c.instance.ensures.instance) c.requires.turn c.requires.end c.requires.cells
+  next : IsAfter c.args.limits.now.limits c.args.k (earned c.args.prices.now c.args.k) c.args.j c.args.t c.after-next.result
+  next = c.after-next.ensures c.args.limits.now.limits c.args.k (earned c.args.prices.now c.args.k) (sym c.instance.ensures.instance) c.requires.turn c.requires.end c.requires.cells
 
-  small : c.after-next.result.value ≤ℤ pos ((2880 - c.args.t) * most_reward)
-  small = small_after c.args.limits.now.limits c.args.k c.args.prices.now c.earned.ensures.range c.instance.ensures.is_instance c.args.end c.requires.end c.requires.day c.args.j c.args.t c.after-next.result
+  small : c.after-next.result.value ≤ℤ pos ((2880 - c.args.t) * (2 * MOST_PRICE))
+  small = small_after c.args.limits.now.limits c.args.k (earned c.args.prices.now c.args.k) (rewards_bounded c.args.prices.now c.args.k c.reward.ensures.limits.range) c.instance.ensures.is_instance c.args.end c.requires.end c.requires.day c.args.j c.args.t c.after-next.result
       c.requires.visit.known (c.requires.end c.args.j c.args.t c.requires.visit) next
 
-  earned_fits : FitsSigned w64 c.earned.result
-  earned_fits = let a = c.earned.ensures.least in let b = c.earned.ensures.most in omega (arith, ints)
+  earned_fits : FitsSigned w64 c.reward.result
+  earned_fits = let a = c.reward.ensures.range.least in let b = c.reward.ensures.range.most in omega (arith, ints)
 
   next_fits : FitsSigned w64 c.after-next.result.value
   next_fits = let a = small in let b = next.label.least in omega (arith, ints)
 
-  sum_fits : FitsSigned w64 (c.earned.result +ℤ c.after-next.result.value)
-  sum_fits = let a = small in let b = next.label.least in let d = c.earned.ensures.least in let e = c.earned.ensures.most in omega (arith, ints)
+  sum_fits : FitsSigned w64 (c.reward.result +ℤ c.after-next.result.value)
+  sum_fits = let a = small in let b = next.label.least in let d = c.reward.ensures.range.least in let e = c.reward.ensures.range.most in omega (arith, ints)
 
-  inner : to_z w64 (of_z w64 c.earned.result) +ℤ to_z w64 (of_z w64 c.after-next.result.value) ≡ c.earned.result +ℤ c.after-next.result.value
-  inner = let a = to_z-of_z w64 c.earned.result earned_fits in let b = to_z-of_z w64 c.after-next.result.value next_fits in cc
+  inner : to_z w64 (of_z w64 c.reward.result) +ℤ to_z w64 (of_z w64 c.after-next.result.value) ≡ c.reward.result +ℤ c.after-next.result.value
+  inner = let a = to_z-of_z w64 c.reward.result earned_fits in let b = to_z-of_z w64 c.after-next.result.value next_fits in cc
 
 pub overflow_add-result : goal.overflow_add-result
 overflow_add-result c = subst (FitsSigned w64) (sym (inner c)) (sum_fits c)
 
 pub returns-clause-best : goal.returns-clause-best
 returns-clause-best c =
-    subst (IsBest c.args.limits.now.limits c.args.k c.args.prices.now c.args.j c.args.t)
-    (sym (ap (λ v. to_z w64 (of_z w64 v)) (inner c) ∙ to_z-of_z w64 (c.earned.result +ℤ c.after-next.result.value) (sum_fits c) ∙ ap (λ v. v +ℤ c.after-next.result.value) c.earned.ensures.reward))
-    (best_from_after c.args.limits.now.limits c.args.k c.args.prices.now c.args.j c.args.t c.after-next.result c.requires.visit (next c))
+    subst (IsBest c.args.limits.now.limits c.args.k (earned c.args.prices.now c.args.k) c.args.j c.args.t)
+    (sym (ap (λ v. to_z w64 (of_z w64 v)) (inner c) ∙ to_z-of_z w64 (c.reward.result +ℤ c.after-next.result.value) (sum_fits c) ∙ ap (λ v. v +ℤ c.after-next.result.value) c.reward.ensures.sum))
+    (best_from_after c.args.limits.now.limits c.args.k (earned c.args.prices.now c.args.k) c.args.j c.args.t c.after-next.result c.requires.visit (next c))

@@ -1,4 +1,5 @@
 use Rattle.std.proofs.Common.{◌≤◌, ◌<◌}
+use Rattle.crew_terms.specs.Leaf.{earned}
 use Rattle.crew_terms.specs.Limits.{IsPermittedVisit}
 use Rattle.label_pricing.specs.Best.{IsBest}
 use Rattle.label_pricing.proofs.tables.run_end.Given as goal
@@ -9,5 +10,5 @@ invariant-loop l = record {
   late : l.last < l.turn.end;
   small : l.step ≤ 4096;
   visit : IsPermittedVisit l.limits.limits l.k l.j l.last;
-  best : IsBest l.limits.limits l.k l.prices l.j l.last l.value;
+  best : IsBest l.limits.limits l.k (earned l.prices l.k) l.j l.last l.value;
 }

@@ -2,8 +2,8 @@ use Rattle.std.proofs.Common.{◌<◌, length, get_or, sym, subst, arith, ap, w6
 use Rattle.std.specs.Prelude.{◌≤ℤ◌, FitsSigned}
 use Rattle.std.proofs.lemmas.Int.{to_z-of_z}
 use Rattle.std.proofs.lemmas.List.Elements.{Contains-get_or}
-use Rattle.crew_terms.specs.Leaf.{rewards}
-use Rattle.search_terms.specs.Shares.{IsRouteIn}
+use Rattle.crew_terms.specs.Leaf.{earned, rewards}
+use Rattle.share_terms.specs.Shares.{IsRouteIn}
 use Rattle.column_arena.specs.Columns.{column_of, no_column}
 use Rattle.node_solver.specs.Meeting.IsMet.{Earned}
 use Rattle.node_solver.proofs.MeetingLemmas.{entered_is}
@@ -29,5 +29,5 @@ returns-then-earns-clause-met g c = λ _.
     (entered_is n cs c.args.run.now.ids i c.requires.over.legal below) in
     let known : id < length cs = subst (λ l. get_or l i 0 < length cs) (sym c.ids-id-items.ensures) (c.requires.over.at.along.known i 0 below) in
     let fits : FitsSigned w64 c.args.worth = c.ranges.worth in
-    let enough : c.args.worth ≤ℤ rewards c.args.prices.now c.args.k (column_of cs id).visits = simp to_z-of_z at (c.earns.ensures.enough c.if-earns.true) in
+    let enough : c.args.worth ≤ℤ rewards (earned c.args.prices.now c.args.k) (column_of cs id).visits = simp to_z-of_z at (c.earns.ensures.enough c.if-earns.true) in
     Earned (column_of cs id) (Contains-get_or cs id no_column known) legal (c.earns.ensures.team c.if-earns.true) enough

@@ -2,7 +2,7 @@ use Rattle.std.proofs.Common.{◌≡◌, pos, sym, ap, subst, ◌∙◌, w64}
 use Rattle.std.specs.Prelude.{◌<ℤ◌, FitsSigned}
 use Rattle.std.proofs.lemmas.Int.{to_z-of_z}
 use Rattle.std.proofs.lemmas.Result.{on_ok_weaker}
-use Rattle.crew_terms.specs.Leaf.{rewards}
+use Rattle.crew_terms.specs.Leaf.{rewards, earned}
 use Rattle.crew_terms.specs.Limits.{IsRoute}
 use Rattle.route_terms.specs.Routes.{route_of}
 use Rattle.search_terms.specs.Search.{IsColumn}
@@ -36,7 +36,7 @@ returns-clause-met g c =
     let p = c.args.prices.now in
     let visits = c.route.result.now in
     let route : IsRoute n c.args.k visits = subst (IsRoute n c.args.k) (sym c.route.ensures) c.price.ensures.route in
-    let earns : rewards p c.args.k visits ≡ c.price.result = ap (rewards p c.args.k) c.route.ensures ∙ c.price.ensures.rewards in
+    let earns : rewards (earned p c.args.k) visits ≡ c.price.result = ap (rewards (earned p c.args.k)) c.route.ensures ∙ c.price.ensures.rewards in
     on_ok_weaker c.enter.result
     (met_by n (g.C.Columns.columns c.enter.new.columns) c.args.k p c.args.worth c.price.result visits c.requires.team c.requires.worth c.price.ensures.worth route earns)
     c.enter.ensures.held

@@ -10,7 +10,7 @@ use Rattle.master_run.specs.Shares.{fractional_of}
 use Rattle.master_run.specs.State.{routes_of}
 use Rattle.rounding_laws.specs.declared.TheConstants.{MOST_LOSS}
 use Rattle.search_terms.specs.Earned.{AreWorths as EarnedWorths, BeatsRoutes}
-use Rattle.search_terms.specs.Shares.{IsLoose, choice_value}
+use Rattle.share_terms.specs.Shares.{IsLoose, choice_value}
 use Rattle.node_solver.specs.Loose.{AreHeld, IsShownLoose}
 use Rattle.node_solver.proofs.MeetingLemmas.{met_unbeaten}
 use Rattle.branch_choice.specs.Uses.{IsPermittedUse}

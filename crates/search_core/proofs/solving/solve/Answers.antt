@@ -5,9 +5,11 @@ use Rattle.std.proofs.lemmas.List.{append-nil}
 use Rattle.crew_terms.specs.Instance.{Instance}
 use Rattle.crew_terms.specs.Leaf.{zero_prices}
 use Rattle.crew_terms.specs.Limits.{Route, root_limits}
+use Rattle.keyed_tree.specs.Aged.{leaves_of, leaves_without}
 use Rattle.search_core.specs.Searching.{state_of, way_to}
 use Rattle.search_core.specs.Steps.{IsDone, IsOutcome, IsShownOutcome, IsSolved}
 use Rattle.search_core.specs.declared.causes.Outcome.{Outcome}
+use Rattle.search_terms.specs.BestFirst.{AgedLeaf, Begins, ComeOf, IsBestFirst, Takes}
 use Rattle.search_terms.specs.Caused.{AreLooseShown}
 use Rattle.search_terms.specs.Search.{Goes, IsSearchRun, IsSearchStep, Starts}
 use Rattle.search_terms.specs.SearchTree.{SearchTree}
@@ -22,6 +24,11 @@ ok_both (Err e) f a b = tt
 pub loop-key-init : goal.loop-key-init
 loop-key-init g c = record {
   run = λ held. Starts (state_of held c.in_ok-search.search) (c.in_ok-search.ensures.start held);
+  order = λ held.
+      let root = c.in_ok-search.ensures.root in
+      let kept = g.C.Columns.columns c.args.columns.now in
+      subst (λ (leaves : List AgedLeaf). IsBestFirst c.args.instance.now c.args.nodes kept kept (state_of held c.in_ok-search.search) leaves) (sym root.2)
+      (Begins (state_of held c.in_ok-search.search) root.0 (c.in_ok-search.ensures.start held) root.1);
   instance = c.in_ok-search.ensures.instance;
   priced = λ rest. subst (λ (t : SearchTree). AreLooseShown (root_limits c.in_ok-search.search.instance) t)
       (sym (c.in_ok-search.ensures.start (g.C.Columns.columns c.args.columns.now ++ rest)).tree) tt;
@@ -42,6 +49,15 @@ loop-key-preserved g c =
     record {
       run = λ held. Goes was pool (state_of held s) (state_of held t) way (inv.run held)
           (subst (λ (i : Instance). IsSearchStep i way PIVOTS was pool (state_of held s) (state_of held t)) inv.instance (step.step held));
+      order = λ held.
+          let aged = step.aged held in
+          let due = c.in-Some.ensures.oldest in
+          subst (λ (leaves : List AgedLeaf). IsBestFirst c.args.instance.now c.args.nodes (g.C.Columns.columns c.args.columns.now) pool (state_of held t) leaves)
+          (sym aged.leaves)
+          (Takes was pool (state_of held s) (state_of held t) (leaves_of s.keyed) (leaves_without s.keyed c.in-Some.key) aged.new
+          (record { way = way; bound = due.0 }) (inv.order held) due.1
+          (subst (λ (i : Instance). IsSearchStep i way PIVOTS was pool (state_of held s) (state_of held t)) inv.instance (step.step held))
+          (subst (λ (i : Instance). ComeOf (root_limits i) way (state_of held s).tree (state_of held t).tree aged.new) inv.instance aged.come));
       instance = step.instance ∙ inv.instance;
       shown = step.shown inv.shown;
       priced = step.priced inv.priced;
@@ -63,6 +79,8 @@ returns-clause-outcome g c =
     (ok_both c.close.result (λ (o : Outcome) (is : IsOutcome s.instance pool (state_of pool s) o) (shows : IsShownOutcome s.instance pool (state_of pool s) o). record {
       state = state_of pool s;
       run = subst (λ (i : Instance). IsSearchRun i c.args.nodes kept pool (state_of pool s)) (sym inv.instance) (inv.run pool);
+      leaves = leaves_of s.keyed;
+      order = subst (λ (i : Instance). IsBestFirst i c.args.nodes kept pool (state_of pool s) (leaves_of s.keyed)) (sym inv.instance) (inv.order pool);
       outcome = is;
       shown = shows;
       loose = subst (λ (cs : List Route). AreLooseShown (root_limits s.instance) (state_of cs s).tree) (append-nil pool) (inv.priced []);

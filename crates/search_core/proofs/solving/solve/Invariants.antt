@@ -1,14 +1,18 @@
 use Rattle.std.proofs.Common.{◌≡◌, List}
 use Rattle.crew_terms.specs.Limits.{Route}
+use Rattle.keyed_tree.specs.Aged.{leaves_of}
 use Rattle.search_core.specs.Searching.{state_of}
 use Rattle.search_core.specs.Shown.{AreLoosePriced, AreShown}
 use Rattle.search_core.specs.Solved.{IsGrown}
+use Rattle.search_terms.specs.BestFirst.{IsBestFirst}
 use Rattle.search_terms.specs.Search.{IsSearchRun}
 use Rattle.search_core.proofs.solving.solve.Given as goal
 
 abbrev pub invariant-loop-key : goal.invariant-loop-key
 invariant-loop-key g l = record {
   run : (held : List Route) → IsSearchRun l.instance l.nodes (g.C.Columns.columns l.initial.columns) (g.C.Columns.columns l.columns) (state_of held l.search);
+  order : (held : List Route) → IsBestFirst l.instance l.nodes (g.C.Columns.columns l.initial.columns) (g.C.Columns.columns l.columns) (state_of held l.search)
+      (leaves_of l.search.keyed);
   instance : l.search.instance ≡ l.instance;
   priced : AreLoosePriced (g.C.Columns.columns l.columns) l.search;
   shown : AreShown (g.C.Columns.columns l.columns) l.search;

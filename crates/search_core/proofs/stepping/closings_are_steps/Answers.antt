@@ -1,16 +1,18 @@
 use Rattle.std.proofs.Common.{◌≡◌, ◌+◌, ◌-◌, ◌++◌, ◌∙◌, ◌∷◌, [], List, Some, length, refl, ap, sym, subst, append_assoc, arith}
 use Rattle.std.specs.Prelude.{unwrap_or}
-use Rattle.std.proofs.lemmas.List.{length-append, length-set}
+use Rattle.std.proofs.lemmas.List.{append-nil, length-append, length-set}
 use Rattle.crew_terms.specs.Leaf.{Prices}
 use Rattle.crew_terms.specs.Limits.{Limits, Route, root_limits}
 use Rattle.crew_terms.specs.Plan.{unassigned_count}
 use Rattle.crew_terms.specs.declared.Side.{Side}
 use Rattle.keyed_steps.specs.States.{limits_of, state_in}
+use Rattle.keyed_tree.specs.Aged.{leaves_without}
 use Rattle.keyed_tree.specs.Numbers.{HaveNumbers}
 use Rattle.search_core.specs.Searching.{Searching, cause_at, price_at, state_of, way_to}
 use Rattle.search_core.specs.Steps.{after_step}
 use Rattle.search_terms.specs.Proven.{PricesProve}
 use Rattle.crew_terms.specs.Branches.{LeafNode}
+use Rattle.search_terms.specs.BestFirst.{ComeOf, NoLeaf}
 use Rattle.search_terms.specs.Caused.{AreLooseShown}
 use Rattle.search_terms.specs.Search.{Closes, IsSearchStep, Then}
 use Rattle.search_terms.specs.SearchTree.{ClosedLeaf, SearchTree}
@@ -94,6 +96,13 @@ returns x = λ s key n own pivots bound columns more found kept keyed prices ins
             (subst (λ (cs : List Route). AreLooseShown root (state_of cs s).tree) more_is (old (extends.added ++ rest)));
         shown = shown_closed s columns more N.instance N found extends plan key n keyed prices kept put;
         step = λ held. subst (λ (y : List Side). IsSearchStep i y pivots columns more (state_of held s) (state_of held t)) (sym way) (step held);
+        aged = λ held. record {
+          new = [];
+          come = subst (λ (y : List Side). ComeOf root y (state_of held s).tree (state_of held t).tree []) (sym way)
+              (NoLeaf (price_at prices last) (taken.tree (price_at prices) (cause_at held s.causes)
+              ∙ ap (λ (u : SearchTree). replaced u (way_of s.keyed.nodes n) (LeafNode (ClosedLeaf (price_at prices last)))) (tree held)));
+          leaves = x.leaves_keep_order.ensures.taken s.keyed keyed key n last was taken ∙ sym (append-nil (leaves_without s.keyed key));
+        };
         stay = λ other ne o.
             let v = taken.stays other o.0 o.1 ne o.2 in
             ((o.0, o.1, v), way_is t other o.0 o.1 v ∙ taken.ways o.0 (was.leaves other o.0 o.1 o.2).0 ∙ sym (way_is s other o.0 o.1 o.2));

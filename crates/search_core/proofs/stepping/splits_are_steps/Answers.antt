@@ -1,4 +1,4 @@
-use Rattle.std.proofs.Common.{◌≡◌, ◌<◌, ◌+◌, ◌-◌, ◌++◌, ◌∙◌, ◌∷◌, [], ℕ, List, length, refl, ap, sym, subst, append_assoc, arith}
+use Rattle.std.proofs.Common.{◌≡◌, ◌<◌, ◌+◌, ◌-◌, ◌++◌, ◌∙◌, ◌∷◌, [], ℕ, ℤ, List, length, refl, ap, sym, subst, append_assoc, arith}
 use Rattle.std.specs.Prelude.{unwrap_or}
 use Rattle.std.proofs.lemmas.List.{length-append, length-set}
 use Rattle.crew_terms.specs.Leaf.{Prices}
@@ -10,6 +10,7 @@ use Rattle.crew_terms.specs.declared.Side.{Side}
 use Rattle.crew_terms.specs.declared.Side.TheVariants.{First, Second}
 use Rattle.handed_prices.specs.Handed.{prices_or}
 use Rattle.keyed_steps.specs.States.{DecidesProved, limits_of, state_in}
+use Rattle.keyed_tree.specs.Aged.{leaves_of, leaves_without}
 use Rattle.keyed_tree.specs.Keyed.{Before, IsFirst, IsSecond}
 use Rattle.keyed_tree.specs.Numbers.{HasNumber, HaveNumbers}
 use Rattle.node_solver.specs.Plans.{now_after}
@@ -21,6 +22,7 @@ use Rattle.search_core.specs.Steps.{after_step}
 use Rattle.search_core.specs.declared.causes.Cause.{Cause}
 use Rattle.crew_terms.specs.Branches.{LeafNode, SplitNode}
 use Rattle.node_solver.specs.Causes.{cause_of}
+use Rattle.search_terms.specs.BestFirst.{AgedLeaf, ComeOf, IsBoundIn, TwoLeaves}
 use Rattle.search_terms.specs.Caused.{AreLooseShown, IsLooseShown, LooseProves}
 use Rattle.search_terms.specs.Earned.{IsEarned, Why as Reason}
 use Rattle.search_terms.specs.Search.{IsHandedOn, IsSearchStep, IsSplit, Splits, Then}
@@ -43,6 +45,10 @@ old_price prices after more k is l = ap (λ (ps : List Prices). price_at ps k) i
 old_cause : (held : List Route) (causes after more : List Cause) (k : ℕ) → after ≡ causes ++ more → k < length causes
     → cause_at held after k ≡ cause_at held causes k
 old_cause held causes after more k is l = ap (λ (cs : List Cause). cause_at held cs k) is ∙ cause_stays held causes more k l
+
+-- the leaves that come of a split
+abbrev two_leaves : List Side → ℤ × ℤ → List AgedLeaf
+two_leaves way bounds = record { way = way ++ First ∷ []; bound = bounds.0 } ∷ record { way = way ++ Second ∷ []; bound = bounds.1 } ∷ []
 
 pub returns : goal.returns
 returns x = λ s key n own pivots bound columns more found choice why handed keyed prices causes inst is some was now w content_is extends plan splits put.
@@ -165,6 +171,25 @@ returns x = λ s key n own pivots bound columns more found choice why handed key
             (subst (λ (cs : List Route). AreLooseShown root (state_of cs s).tree) more_is (old (extends.added ++ rest)));
         shown = shown_split s columns more N.instance N found extends plan key n own choice the_cause handed keyed prices causes put at here;
         step = λ held. subst (λ (y : List Side). IsSearchStep i y pivots columns more (state_of held s) (state_of held t)) (sym way) (step held);
+        aged = λ held.
+            let at_way = way_of s.keyed.nodes n in
+            let has = x.run_leaves.ensures i s.budget s.left key n own bound (price_at s.prices) (cause_at held s.causes) s.plan s.keyed inst (is.run held) was w content_is in
+            let the_split : Split = record { choice = choice; cause = cause_at held causes last } in
+            let new : SearchTree = SplitNode the_split (LeafNode (OpenLeaf (price_at prices number))) (LeafNode (OpenLeaf (price_at prices number))) in
+            let low : IsBoundIn (child (limits_at root (state_of held s).tree at_way) choice First) (price_at prices number) handed.bounds.0 =
+            subst (λ (m : Limits). IsBoundIn (child m choice First) (price_at prices number) handed.bounds.0) (sym has.limits)
+            (subst (λ (p : Prices). IsBoundIn (child N choice First) p handed.bounds.0) (sym price) splits.on.low) in
+            let high : IsBoundIn (child (limits_at root (state_of held s).tree at_way) choice Second) (price_at prices number) handed.bounds.1 =
+            subst (λ (m : Limits). IsBoundIn (child m choice Second) (price_at prices number) handed.bounds.1) (sym has.limits)
+            (subst (λ (p : Prices). IsBoundIn (child N choice Second) p handed.bounds.1) (sym price) splits.on.high) in
+            let tree_is = turned.tree (price_at prices) (cause_at held causes) ∙ ap (λ (u : SearchTree). replaced u at_way new) (tree held) in
+            record {
+              new = two_leaves (way_to s key) handed.bounds;
+              come = subst (λ (y : List Side). ComeOf root y (state_of held s).tree (state_of held t).tree (two_leaves y handed.bounds)) (sym way)
+                  (TwoLeaves the_split (price_at prices number) handed.bounds.0 handed.bounds.1 tree_is low high);
+              leaves = subst (λ (y : List Side). leaves_of keyed ≡ leaves_without s.keyed key ++ two_leaves y handed.bounds) (sym way)
+                  (x.leaves_keep_order.ensures.turned s.keyed keyed key n last number bound choice handed.bounds was w turned);
+            };
         stay = λ other ne o.
             let v = turned.stays other o.0 o.1 ne o.2 in
             ((o.0, o.1, v), way_is t other o.0 o.1 v ∙ turned.ways o.0 (was.leaves other o.0 o.1 o.2).0 ∙ sym (way_is s other o.0 o.1 o.2));

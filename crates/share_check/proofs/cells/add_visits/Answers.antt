@@ -1,6 +1,6 @@
 use Rattle.std.proofs.Common.{◌+◌, ◌*◌, take, ap, sym, ◌∙◌, arith}
 use Rattle.std.specs.Prelude.{◌==◌, if◌then◌else◌}
-use Rattle.search_terms.specs.Shares.{visits_to}
+use Rattle.share_terms.specs.Shares.{visits_to}
 use Rattle.share_check.specs.CellSums.{visit_at}
 use Rattle.share_check.proofs.Added.{parts_told, sums_same, share_more, visits_more, take_whole}
 use Rattle.share_check.proofs.cells.add_visits.Goals as goal

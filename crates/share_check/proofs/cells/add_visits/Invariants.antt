@@ -1,6 +1,6 @@
 use Rattle.std.proofs.Common.{◌≡◌, ◌+◌, ◌*◌, ℕ, pos, length, take}
 use Rattle.crew_num.specs.Mixed.{value}
-use Rattle.search_terms.specs.Shares.{visits_to}
+use Rattle.share_terms.specs.Shares.{visits_to}
 use Rattle.share_check.specs.CellSums.{AreSums}
 use Rattle.share_check.proofs.cells.add_visits.Given as goal
 

@@ -2,7 +2,7 @@ use Rattle.std.proofs.Common.{pos, ap, sym, ◌∙◌, arith}
 use Rattle.std.proofs.lemmas.Int.{ints}
 use Rattle.std.specs.Prelude.{slice_index_or}
 use Rattle.crew_num.specs.Mixed.{value}
-use Rattle.search_terms.specs.Shares.{unassigned_of}
+use Rattle.share_terms.specs.Shares.{unassigned_of}
 use Rattle.share_check.proofs.Parts.{next_total}
 use Rattle.share_check.proofs.gaps.spare_sum.Goals as goal
 

@@ -1,7 +1,7 @@
 use Rattle.std.proofs.Common.{◌≡◌, ◌*◌, pos}
 use Rattle.crew_num.specs.Mixed.{IsMixed, value}
 use Rattle.crew_terms.specs.Total.{total}
-use Rattle.search_terms.specs.Shares.{FractionalChoice, unassigned_of}
+use Rattle.share_terms.specs.Shares.{FractionalChoice, unassigned_of}
 use Rattle.share_check.proofs.gaps.spare_sum.Given as goal
 
 abbrev pub invariant-loop-j : goal.invariant-loop-j

@@ -3,7 +3,7 @@ use Rattle.std.proofs.lemmas.Int.{ints}
 use Rattle.std.specs.Prelude.{slice_index_or}
 use Rattle.crew_num.specs.Mixed.{value}
 use Rattle.crew_terms.specs.Instance.{Instance}
-use Rattle.search_terms.specs.Shares.{task_gap}
+use Rattle.share_terms.specs.Shares.{task_gap}
 use Rattle.share_check.proofs.Parts.{next_total}
 use Rattle.share_check.proofs.gaps.task_gaps.Goals as goal
 

@@ -2,7 +2,7 @@ use Rattle.std.proofs.Common.{length, ap, arith}
 use Rattle.std.proofs.lemmas.Int.{ints}
 use Rattle.crew_num.specs.Mixed.{value}
 use Rattle.crew_terms.specs.Instance.{Instance}
-use Rattle.search_terms.specs.Shares.{pair_gap}
+use Rattle.share_terms.specs.Shares.{pair_gap}
 use Rattle.share_check.proofs.Parts.{next_total}
 use Rattle.share_check.proofs.pairs.team_gaps.Goals as goal
 

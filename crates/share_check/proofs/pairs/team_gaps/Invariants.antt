@@ -1,7 +1,7 @@
 use Rattle.std.proofs.Common.{◌≡◌, ◌*◌, pos}
 use Rattle.crew_num.specs.Mixed.{IsMixed, value}
 use Rattle.crew_terms.specs.Total.{total}
-use Rattle.search_terms.specs.Shares.{FractionalChoice, pair_gap, shares_of, weighed_visits}
+use Rattle.share_terms.specs.Shares.{FractionalChoice, pair_gap, shares_of, weighed_visits}
 use Rattle.share_check.specs.CellSums.{AreSums}
 use Rattle.share_check.proofs.pairs.team_gaps.Given as goal
 

@@ -22,6 +22,7 @@ returns c =
     let leaf = item_of (found c.self.inside.queue c.args.key) c.unwrap-n.result (sym c.item.ensures ∙ c.unwrap-n.ensures) in
     let is : IsTaken old new c.args.key c.unwrap-n.result c.args.prices = record {
       nodes = c.close.ensures.nodes;
+      waits = c.take.ensures.rest;
       tree = c.close.ensures.tree;
       ways = c.close.ensures.ways;
       stays = rest_stays old new c.args.key c.take.ensures.rest;

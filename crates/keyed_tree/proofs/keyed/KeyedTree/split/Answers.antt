@@ -6,7 +6,7 @@ use Rattle.search_tree.specs.declared.nodes.Node.{Node}
 use Rattle.search_tree.specs.Numbered.{HasSplit}
 use Rattle.keyed_tree.specs.Keyed.{Keyed, IsKeyed, IsTurned, IsWaiting}
 use Rattle.keyed_tree.proofs.Found.{found_before, item_of, none_found, without_last}
-use Rattle.keyed_tree.proofs.Keeping.{IsPut, same_item, turned_before, turned_keyed, turned_stays}
+use Rattle.keyed_tree.proofs.Keeping.{IsPut, put_last, same_item, turned_before, turned_keyed, turned_stays}
 use Rattle.keyed_tree.proofs.keyed.KeyedTree.split.Goals as goal
 
 -- what was put twice and taken twice
@@ -91,6 +91,9 @@ returns-clause-ok c =
     (none_found old.waits c.in_ok-low.high c.in_ok-low.ensures.other) c.in_ok-low.ensures.differ in
     let turned : IsTurned old new c.args.key n c.args.choice c.args.cause c.args.prices c.args.bounds = record {
       nodes = c.in_default.ensures.nodes;
+      low = c.in_ok-low.low;
+      high = c.in_ok-low.high;
+      waits = put_last old new c.args.key c.in_ok-low.low c.in_ok-low.high c.args.bounds is;
       tree = c.in_default.ensures.tree;
       ways = c.in_default.ensures.ways;
       stays = turned_stays old new c.args.key c.in_ok-low.low c.in_ok-low.high c.args.bounds is;

@@ -3,6 +3,7 @@ use Rattle.std.specs.Prelude.{FitsSigned}
 use Rattle.std.specs.Vec.{with_items}
 use Rattle.std.proofs.lemmas.Int.{to_z-of_z}
 use Rattle.std.proofs.lemmas.List.{with_items_is}
+use Rattle.crew_terms.specs.Leaf.{earned}
 use Rattle.label_pricing.specs.Cells.{AreCells, IsGrid}
 use Rattle.label_pricing.proofs.Best.{worth_from_first}
 use Rattle.label_pricing.specs.Turns.{AreTurns}
@@ -38,31 +39,31 @@ pub follow-requires-clause-label : goal.follow-requires-clause-label
 follow-requires-clause-label c =
     let n = c.args.limits.now.limits in
     let k = c.args.k in
-    let p = c.args.prices.now in
+    let earns = earned c.args.prices.now c.args.k in
     let same : c.deref-4.result.now ≡ c.sweep.new.grid = c.deref-4.ensures.value ∙ with_items_is c.args.self.now.cells c.sweep.new.grid (let a = c.sweep.auto.grid in let b = c.deref_mut.ensures.len in omega arith) in
     let starts = c.start_of-self.ensures.start n k (subst (AreTurns n k) (sym c.deref-2.ensures.value) c.find_turns.ensures.turns) in
     let places = sym (c.places-places.ensures.count ∙ ap (λ i. length i.places) c.instance.ensures.instance) in
-    (c.first-label.ensures n k p c.end_of-self.result c.instance.ensures.is_instance places starts c.start_of-self.ensures.end
-    (subst (AreCells n k p c.start_of-self.result c.end_of-self.result) (sym same) c.sweep.ensures.cells)).label
+    (c.first-label.ensures n k earns c.end_of-self.result c.instance.ensures.is_instance places starts c.start_of-self.ensures.end
+    (subst (AreCells n k earns c.start_of-self.result c.end_of-self.result) (sym same) c.sweep.ensures.cells)).label
 
 pub returns-clause-worth : goal.returns-clause-worth
 returns-clause-worth c =
     let n = c.args.limits.now.limits in
     let k = c.args.k in
-    let p = c.args.prices.now in
+    let earns = earned c.args.prices.now c.args.k in
     let same : c.deref-4.result.now ≡ c.sweep.new.grid = c.deref-4.ensures.value ∙ with_items_is c.args.self.now.cells c.sweep.new.grid (let a = c.sweep.auto.grid in let b = c.deref_mut.ensures.len in omega arith) in
     let starts = c.start_of-self.ensures.start n k (subst (AreTurns n k) (sym c.deref-2.ensures.value) c.find_turns.ensures.turns) in
     let places = sym (c.places-places.ensures.count ∙ ap (λ i. length i.places) c.instance.ensures.instance) in
     let fits : FitsSigned w64 c.first-label.result.value = search rules in
-    rw (to_z-of_z w64 c.first-label.result.value fits) (worth_from_first n k p c.first-label.result
-    (c.first-label.ensures n k p c.end_of-self.result c.instance.ensures.is_instance places starts c.start_of-self.ensures.end
-    (subst (AreCells n k p c.start_of-self.result c.end_of-self.result) (sym same) c.sweep.ensures.cells)))
+    rw (to_z-of_z w64 c.first-label.result.value fits) (worth_from_first n k earns c.first-label.result
+    (c.first-label.ensures n k earns c.end_of-self.result c.instance.ensures.is_instance places starts c.start_of-self.ensures.end
+    (subst (AreCells n k earns c.start_of-self.result c.end_of-self.result) (sym same) c.sweep.ensures.cells)))
 
 pub returns-clause-priced : goal.returns-clause-priced
 returns-clause-priced c =
     let n = c.args.limits.now.limits in
     let k = c.args.k in
-    let p = c.args.prices.now in
+    let earns = earned c.args.prices.now c.args.k in
     let same : (with_items c.args.self.now.cells c.sweep.new.grid).items ≡ c.sweep.new.grid = with_items_is c.args.self.now.cells c.sweep.new.grid (let a = c.sweep.auto.grid in let b = c.deref_mut.ensures.len in omega arith) in
     record {
       turns = c.find_turns.ensures.turns;
@@ -71,5 +72,5 @@ returns-clause-priced c =
       order = c.start_of-self.ensures.end;
       day = c.end_of-self.ensures.day n k (subst (AreTurns n k) (sym c.deref.ensures.value) c.find_turns.ensures.turns);
       grid = subst (IsGrid (length n.instance.places)) (sym same) c.sweep.ensures.grid;
-      cells = subst (AreCells n k p c.start_of-self.result c.end_of-self.result) (sym same) c.sweep.ensures.cells;
+      cells = subst (AreCells n k earns c.start_of-self.result c.end_of-self.result) (sym same) c.sweep.ensures.cells;
     }

@@ -2,7 +2,7 @@ use Rattle.std.proofs.Common.{rules, ◌≡◌, ◌<◌, ◌+◌, ℕ, Vec, Glob
 use Rattle.std.specs.Prelude.{FitsSigned}
 use Rattle.std.proofs.lemmas.Int.{to_z-of_z}
 use Rattle.std.proofs.lemmas.List.{get_or_read_under}
-use Rattle.crew_terms.specs.Leaf.{IsWorth}
+use Rattle.crew_terms.specs.Leaf.{IsWorth, earned}
 use Rattle.crew_terms.specs.Limits.{IsRoute, teams_in}
 use Rattle.label_pricing.specs.Pricing.{Pricing}
 use Rattle.price_ascent.specs.Classes.{AreKnownUpTo, first_of}
@@ -39,9 +39,9 @@ loop-k-preserved c =
           let first : first_of firsts k ≡ h = let a = w.if-index-h.true in omega arith in
           let fits : FitsSigned w64 c.price-worth.result = search rules in
           let worth = to_z w64 (of_z w64 c.price-worth.result) in
-          let own = subst (IsWorth n h p) (sym (to_z-of_z w64 c.price-worth.result fits)) c.price-worth.ensures.worth in
-          let here : IsWorth n k p worth =
-          of_class n p firsts c.requires.firsts h (λ g. IsWorth n g p worth) own (λ g alike. c.alike_teams_earn_alike.ensures.worths n h g p worth alike c.requires.required own) k known first in
+          let own = subst (IsWorth n h (earned p h)) (sym (to_z-of_z w64 c.price-worth.result fits)) c.price-worth.ensures.worth in
+          let here : IsWorth n k (earned p k) worth =
+          of_class n p firsts c.requires.firsts h (λ g. IsWorth n g (earned p g) worth) own (λ g alike. c.alike_teams_earn_alike.ensures.worths n h g p worth alike c.requires.required own) k known first in
           let route : IsRoute n k c.price-worth.new.self.route =
           of_class n p firsts c.requires.firsts h (λ g. IsRoute n g c.price-worth.new.self.route) c.price-worth.ensures.route (λ g alike. c.alike_teams_earn_alike.ensures.routes n h g c.price-worth.new.self.route alike c.price-worth.ensures.route) k known first in
           let routes = w.in_ok-take.ensures.routes n known (subst (λ (a : Pricing). IsRoute n k a.route) (sym is.pricer) route) is.routes in

@@ -1,10 +1,18 @@
-use Rattle.std.proofs.Common.{◌≡◌, ◌≤◌, ◌∙◌, inl, inr, [], ℕ, Option, None, Some, ap, sym, subst, arith, rules}
+use Rattle.std.proofs.Common.{◌≡◌, ◌≤◌, ◌∙◌, inl, inr, [], ℕ, ℤ, List, Option, None, Some, ap, sym, subst, arith, rules}
 use Rattle.std.specs.Prelude.{IfNone, IfSome}
 use Rattle.std.proofs.lemmas.Grind.{common_steps}
 use Rattle.crew_terms.specs.Instance.{Instance}
-use Rattle.search_core.specs.Searching.{Searching, cause_at, price_at, state_of}
+use Rattle.crew_terms.specs.declared.Side.{Side}
+use Rattle.keyed_tree.specs.Aged.{leaves_of, leaves_without}
+use Rattle.keyed_tree.specs.Keyed.{IsKey, IsKeyed, IsWaiting, Keyed}
+use Rattle.node_queue.specs.Waits.{IsLeast}
+use Rattle.search_core.specs.Kept.{searching}
+use Rattle.search_core.specs.Searching.{IsDueKey, Searching, cause_at, price_at, state_of}
 use Rattle.search_core.specs.Steps.{IsDone}
+use Rattle.search_terms.specs.BestFirst.{IsDue}
 use Rattle.search_terms.specs.Search.{IsBound, SearchState}
+use Rattle.search_tree.specs.Numbered.{way_of}
+use Rattle.search_core.proofs.StepLemmas.{way_is}
 use Rattle.search_core.proofs.searches.Search.due.Goals as goal
 
 none_follows : {X : Type 0} {A B : Type 0} (o : Option X) → (A → B) → IfNone o A → IfNone o B
@@ -51,3 +59,22 @@ returns-clause-better c = λ columns.
           (subst (λ b. IsBound s.instance t b) (sym (c.best.ensures columns)) is))
       | inr spent ↦ absurd (omega (arith, left, same, spent))
     ])
+
+-- what the law of keys says of the least one
+abbrev KeepsDue : Type 0
+KeepsDue = (k : Keyed) (key n : ℕ) (bound : ℤ) → IsKeyed k → IsLeast k.waits key → IsWaiting k key n bound
+    → IsDue (leaves_of k) (record { way = way_of k.nodes n; bound = bound }) (leaves_without k key)
+
+due_key : KeepsDue → (s : Searching) (o : Option ℕ) → IsKeyed s.keyed → IfSome o (IsLeast s.keyed.waits) → IfSome o (IsKey s.keyed)
+    → IfSome o (IsDueKey s)
+due_key law s None keyed least waits = tt
+due_key law s (Some key) keyed least waits = (
+  waits.1,
+  subst (λ (way : List Side). IsDue (leaves_of s.keyed) (record { way = way; bound = waits.1 }) (leaves_without s.keyed key))
+      (sym (way_is s key waits.0 waits.1 waits.2)) (law s.keyed key waits.0 waits.1 keyed least waits.2),
+)
+
+pub returns-clause-oldest : goal.returns-clause-oldest
+returns-clause-oldest c =
+    subst (λ (s : Searching). IfSome c.least.result (IsDueKey s)) c.self.view_is
+    (due_key c.leaves_keep_order.ensures.due (searching c.self.inside) c.least.result c.len.ensures.keyed c.least.ensures.oldest c.least.ensures.waits)

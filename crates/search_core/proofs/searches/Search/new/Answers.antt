@@ -6,15 +6,17 @@ use Rattle.crew_terms.specs.Instance.{Instance}
 use Rattle.crew_terms.specs.Leaf.{Prices, zero_prices}
 use Rattle.crew_terms.specs.Limits.{Limits, root_limits}
 use Rattle.keyed_steps.specs.States.{DecidesProved}
-use Rattle.keyed_tree.specs.Keyed.{keyed_root}
+use Rattle.keyed_tree.specs.Aged.{leaves_of}
+use Rattle.keyed_tree.specs.Keyed.{Keyed, keyed_root}
 use Rattle.label_pricing.specs.Pricing.{HasRoom}
 use Rattle.node_limits.specs.Trail.{Trail}
 use Rattle.potentials.specs.Prices.{ArePricesOf}
 use Rattle.search_core.specs.Kept.{IsKeptSearch}
 use Rattle.search_core.specs.Searching.{Searching, state_of}
+use Rattle.search_terms.specs.BestFirst.{IsBoundIn}
 use Rattle.search_terms.specs.Search.{IsStart}
 use Rattle.search_core.proofs.Keeping.{same_search}
-use Rattle.search_core.proofs.Starting.{first_kept, first_search, starts}
+use Rattle.search_core.proofs.Starting.{first_kept, first_search, root_leaves, starts}
 use Rattle.search_core.proofs.searches.Search.new.Goals as goal
 
 pub invariant_of-result : goal.invariant_of-result
@@ -69,3 +71,23 @@ returns-clause-start c = λ columns.
     let same = same_search c.in_ok-limits.limits.limits.instance I nodes plan plan nodes nodes c.in_ok-keyed.keyed (keyed_root key 0 b) c.push.new.self.items (zeros ∷ [])
     c.new.result.items [] inst refl refl keyed items c.new.ensures.items in
     subst (λ (s : Searching). IsStart I nodes (state_of columns s)) (sym same) (starts I nodes key plan b c.in_ok-plan.ensures columns)
+
+pub returns-clause-root : goal.returns-clause-root
+returns-clause-root c =
+    let I = c.args.instance.now in
+    let lim : c.in_ok-limits.limits.limits ≡ root_limits I = ap (λ (t : Trail). t.limits) c.in_ok-limits.ensures in
+    let zeros : Prices = zero_prices (root_limits I) in
+    let zero : c.in_ok-zero.zero ≡ zeros = c.in_ok-zero.ensures.zeros ∙ ap (λ (n : Limits). zero_prices n) lim in
+    let b = c.proved-bound.result.bound in
+    let range : FitsSigned w128 b = search rules in
+    let key = c.in_ok-keyed.ensures.0 in
+    let keyed : c.in_ok-keyed.keyed ≡ keyed_root key 0 b = c.in_ok-keyed.ensures.1 ∙ ap (λ (z : ℤ). keyed_root key 0 z) (to_z-of_z w128 b range) in
+    let at : IsBoundIn c.in_ok-limits.limits.limits c.in_ok-zero.zero b = record {
+      worths = c.proved-bound.new.self.worths;
+      worth = record { count = c.proved-bound.ensures.worths.count; each = c.proved-bound.ensures.worths.each };
+      is = c.proved-bound.ensures.bound;
+    } in (
+      b,
+      subst (λ (n : Limits). IsBoundIn n zeros b) lim (subst (λ (p : Prices). IsBoundIn c.in_ok-limits.limits.limits p b) zero at),
+      ap (λ (k : Keyed). leaves_of k) keyed ∙ root_leaves key b,
+    )

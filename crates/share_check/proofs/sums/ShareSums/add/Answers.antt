@@ -1,7 +1,7 @@
 use Rattle.std.proofs.Common.{◌≡◌, ◌<◌, ◌++◌, ◌∷◌, [], ℕ, length, set, get_or, sym, ◌∙◌, subst, arith}
 use Rattle.std.proofs.lemmas.List.{length-set}
 use Rattle.crew_terms.specs.Limits.{tasks_in, teams_in}
-use Rattle.search_terms.specs.Shares.{Share, shares_of}
+use Rattle.share_terms.specs.Shares.{Share, shares_of}
 use Rattle.share_check.specs.declared.sums.Sums.{Sums}
 use Rattle.share_check.specs.Summed.{IsSumsOf}
 use Rattle.share_check.proofs.Routes.{known_at, teams_put}

@@ -6,7 +6,7 @@ use Rattle.crew_num.specs.declared.Mixed.{Mixed}
 use Rattle.crew_terms.specs.Instance.{no_task}
 use Rattle.crew_terms.specs.Limits.{tasks_in}
 use Rattle.crew_terms.specs.Total.{total}
-use Rattle.search_terms.specs.Shares.{IsFractional, parts_of, shares_of, unassigned_of, weighed_visits}
+use Rattle.share_terms.specs.Shares.{IsFractional, parts_of, shares_of, unassigned_of, weighed_visits}
 use Rattle.share_check.specs.CellSums.{AreSums}
 use Rattle.share_check.specs.Summed.{IsLooseChoice}
 use Rattle.share_check.proofs.Added.{parts_told}

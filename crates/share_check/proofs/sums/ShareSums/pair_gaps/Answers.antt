@@ -5,7 +5,7 @@ use Rattle.crew_num.specs.Mixed.{value}
 use Rattle.crew_terms.specs.Instance.{Instance}
 use Rattle.crew_terms.specs.Limits.{Limits, tasks_in, teams_in}
 use Rattle.crew_terms.specs.Total.{total}
-use Rattle.search_terms.specs.Shares.{Share, pair_gap, shares_of, weighed_visits}
+use Rattle.share_terms.specs.Shares.{Share, pair_gap, shares_of, weighed_visits}
 use Rattle.share_check.specs.CellSums.{AreSums}
 use Rattle.share_check.specs.Summed.{IsSumsOf, IsSharesOf}
 use Rattle.share_check.specs.declared.sums.Sums.{Sums}

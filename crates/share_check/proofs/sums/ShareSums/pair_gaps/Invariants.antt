@@ -2,7 +2,7 @@ use Rattle.std.proofs.Common.{◌≡◌, ◌*◌, pos}
 use Rattle.crew_num.specs.Mixed.{IsMixed, value}
 use Rattle.crew_terms.specs.Limits.{tasks_in}
 use Rattle.crew_terms.specs.Total.{total}
-use Rattle.search_terms.specs.Shares.{FractionalChoice, pair_gap}
+use Rattle.share_terms.specs.Shares.{FractionalChoice, pair_gap}
 use Rattle.share_check.specs.Summed.{IsSharesOf}
 use Rattle.share_check.proofs.sums.ShareSums.pair_gaps.Given as goal
 

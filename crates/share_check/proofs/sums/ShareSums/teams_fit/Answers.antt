@@ -1,7 +1,7 @@
 use Rattle.std.proofs.Common.{◌≡◌, ◌≤◌, ◌<◌, ℕ, List, length, get_or, sym, subst, arith, inl, inr}
 use Rattle.std.proofs.lemmas.Bool.{cases_eq}
 use Rattle.crew_terms.specs.Limits.{Limits, tasks_in, teams_in}
-use Rattle.search_terms.specs.Shares.{Share, parts_of, shares_of}
+use Rattle.share_terms.specs.Shares.{Share, parts_of, shares_of}
 use Rattle.share_check.specs.Summed.{IsSumsOf, IsSharesOf}
 use Rattle.share_check.specs.declared.sums.Sums.{Sums}
 use Rattle.share_check.specs.declared.sums.ShareSums.{ShareSums}

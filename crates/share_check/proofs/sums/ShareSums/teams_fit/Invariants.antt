@@ -1,6 +1,6 @@
 use Rattle.std.proofs.Common.{◌≤◌, ◌<◌, ℕ, List}
 use Rattle.crew_terms.specs.Limits.{Limits}
-use Rattle.search_terms.specs.Shares.{Share, parts_of, shares_of}
+use Rattle.share_terms.specs.Shares.{Share, parts_of, shares_of}
 use Rattle.share_check.specs.Summed.{IsSharesOf}
 use Rattle.share_check.proofs.sums.ShareSums.teams_fit.Given as goal
 

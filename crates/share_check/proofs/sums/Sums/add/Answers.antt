@@ -2,7 +2,7 @@ use Rattle.std.proofs.Common.{◌+◌, ◌*◌, ◌++◌, ◌∷◌, [], List, l
 use Rattle.std.proofs.lemmas.List.{with_items_is}
 use Rattle.std.proofs.lemmas.List.Sums.{sum_by_push}
 use Rattle.crew_num.specs.declared.Mixed.{Mixed}
-use Rattle.search_terms.specs.Shares.{Share, parts_of, visits_to, weighed_visits}
+use Rattle.share_terms.specs.Shares.{Share, parts_of, visits_to, weighed_visits}
 use Rattle.share_check.specs.CellSums.{AreSums, IsSum}
 use Rattle.share_check.proofs.Added.{sums_same}
 use Rattle.share_check.proofs.sums.Sums.add.Goals as goal

@@ -6,9 +6,9 @@ use Rattle.std.proofs.lemmas.Int.{ints, by_lt_z}
 use Rattle.crew_terms.specs.Limits.{Limits}
 use Rattle.crew_terms.specs.declared.TheConstants.{D}
 use Rattle.crew_terms.specs.Leaf.{}
-use Rattle.search_terms.specs.declared.TheConstants.{MARGIN}
-use Rattle.search_terms.specs.Shares.{FractionalChoice, IsLoose, choice_value}
-use Rattle.search_laws.proofs.Scales.{times, times-plus, times-le, times-times}
+use Rattle.share_terms.specs.declared.TheConstants.{MARGIN}
+use Rattle.share_terms.specs.Shares.{FractionalChoice, IsLoose, choice_value}
+use Rattle.ring_laws.specs.Scales.{times, times-plus, times-le, times-times}
 
 -- what holds so often holds once
 once : (q : ℕ) (y z : ℤ) → 1 ≤ q → times q y ≤ℤ times q z → y ≤ℤ z

@@ -4,7 +4,7 @@ use Rattle.crew_terms.specs.Instance.{task_of}
 use Rattle.crew_terms.specs.Limits.{Limits, Route, IsRoute, tasks_in, teams_in, pair_of, is_required, has_required}
 use Rattle.crew_terms.specs.Total.{total}
 use Rattle.crew_terms.specs.declared.Visit.{Visit}
-use Rattle.search_terms.specs.declared.TheConstants.{BIG_M}
+use Rattle.share_terms.specs.declared.TheConstants.{BIG_M}
 
 -- how often the visits come to task j
 abbrev pub visits_to : ℕ → List Visit → ℕ

@@ -1,6 +1,6 @@
 use Rattle.crew_terms.specs.Leaf.{bound_of}
-use Rattle.search_laws.proofs.LooseBound.{loose_bound}
-use Rattle.search_laws.proofs.loose_choices_bound_prices.Goals as goal
+use Rattle.cause_laws.proofs.LooseBound.{loose_bound}
+use Rattle.cause_laws.proofs.loose_choices_bound_prices.Goals as goal
 
 pub returns : goal.returns
 returns c = λ n prices worths phi choice now valid is some loose.

@@ -7,54 +7,25 @@ use Rattle.std.proofs.Math.IntN.{pos-*ℤ-pos}
 use Rattle.std.proofs.lemmas.List.Sums.{sum_by-cons}
 use Rattle.std.proofs.lemmas.Bool.{eqb-true, eq-eqb, ne_eqb, cases_Bool}
 use Rattle.crew_terms.specs.Instance.{task_of}
-use Rattle.crew_terms.specs.Limits.{Limits, IsRoute, GoesOn, tasks_in, teams_in, pair_of, has_required}
+use Rattle.crew_terms.specs.Limits.{Limits, IsRoute, tasks_in, teams_in, pair_of, has_required}
 use Rattle.crew_terms.specs.declared.TheConstants.{D, MOST_PRICE}
-use Rattle.search_terms.specs.declared.TheConstants.{BIG_M}
-use Rattle.crew_terms.specs.Leaf.{Prices, IsValidLeaf, pi_of, rho_of, reward, rewards, term, task_price, worth_of, bound_of}
+use Rattle.share_terms.specs.declared.TheConstants.{BIG_M}
+use Rattle.crew_terms.specs.Leaf.{earned, Prices, IsValidLeaf, pi_of, rho_of, reward, rewards, term, task_price, worth_of, bound_of}
 use Rattle.crew_terms.specs.Total.{total}
 use Rattle.crew_terms.specs.declared.Pair.{Pair}
 use Rattle.crew_terms.specs.declared.Pair.TheVariants.{Free, Forbidden, Required}
 use Rattle.crew_terms.specs.declared.Visit.{Visit}
-use Rattle.search_terms.specs.Shares.{IsRouteIn, Share, FractionalChoice, IsFractional, unassigned_of, shares_of, parts_of, visits_to, weighed_visits, distance, task_gap, pair_gap, choice_value}
+use Rattle.share_terms.specs.Shares.{IsRouteIn, Share, FractionalChoice, IsFractional, unassigned_of, shares_of, parts_of, visits_to, weighed_visits, distance, task_gap, pair_gap, choice_value}
 use Rattle.crew_terms.specs.Totals.{total-same, total-le, total-plus, total-zero, total-one, total-swap}
-use Rattle.search_laws.proofs.Scales.{times, times-zero, times-suc, times-add, times-plus, times-minus, times-le, times-of-zero, times-more, times-times, times-total, times-apart}
-
--- ---- a route's rewards, task by task
-
-abbrev pub AreKnown : ℕ → List Visit → Type 0
-AreKnown tasks [] = Unit {0}
-AreKnown tasks (v ∷ vs) = (v.task < tasks) × AreKnown tasks vs
-
-known_on : (n : Limits) (k : ℕ) (v : Visit) (vs : List Visit) → GoesOn n k v vs → AreKnown (tasks_in n) vs
-known_on n k v [] h = tt
-known_on n k v (w ∷ ws) h = (h.1.known, known_on n k w ws h.2)
-
-pub known_route : (n : Limits) (k : ℕ) (vs : List Visit) → IsRoute n k vs → AreKnown (tasks_in n) vs
-known_route n k [] h = tt
-known_route n k (v ∷ vs) h = (h.0.known, known_on n k v vs h.1)
-
-visits-cons : (v : Visit) (vs : List Visit) (j : ℕ) → visits_to j (v ∷ vs) ≡ cond (eqb v.task j) 1 0 + visits_to j vs
-visits-cons v vs j = sum_by-cons (λ (w : Visit). cond (eqb w.task j) 1 0) v vs
-
-pub rewards_total : (p : Prices) (k tasks : ℕ) (vs : List Visit) → AreKnown tasks vs → rewards p k vs ≡ total tasks (λ j. times (visits_to j vs) (reward p k j))
-rewards_total p k tasks [] h = sym (total-zero tasks (λ j. times 0 (reward p k j)) (λ j b. times-zero (reward p k j)))
-rewards_total p k tasks (v ∷ vs) h =
-    let rest = rewards_total p k tasks vs h.1 in
-    let each = total-same tasks (λ j. times (visits_to j (v ∷ vs)) (reward p k j)) (λ j. times (cond (eqb v.task j) 1 0) (reward p k j) +ℤ times (visits_to j vs) (reward p k j))
-    (λ j b. ap (λ m. times m (reward p k j)) (visits-cons v vs j) ∙ times-add (cond (eqb v.task j) 1 0) (visits_to j vs) (reward p k j)) in
-    let plus = total-plus tasks (λ j. times (cond (eqb v.task j) 1 0) (reward p k j)) (λ j. times (visits_to j vs) (reward p k j)) in
-    let one = total-one tasks (λ j. times (cond (eqb v.task j) 1 0) (reward p k j)) v.task h.0
-    (λ j b ne. ap (λ t. times (cond t 1 0) (reward p k j)) (ne_eqb v.task j (λ e. ne (sym e))) ∙ times-zero (reward p k j)) in
-    let same = ap (λ t. times (cond t 1 0) (reward p k v.task)) (eq-eqb v.task v.task refl) in
-    let once = times-suc 0 (reward p k v.task) in
-    let none = times-zero (reward p k v.task) in
-    omega (arith, ints)
+use Rattle.share_terms.specs.Rewards.{known_route, rewards_total}
+use Rattle.ring_laws.specs.Scales.{times, times-zero, times-suc, times-add, times-plus, times-minus, times-le, times-of-zero, times-more, times-times}
+use Rattle.cause_laws.proofs.Gaps.{times-total, times-apart}
 
 -- ---- what the shares of a team earn
 
-abbrev earned : Prices → ℕ → List Share → ℤ
-earned p k [] = pos 0
-earned p k (s ∷ shares) = times s.parts (rewards p k s.route.visits) +ℤ earned p k shares
+abbrev shares_earn : Prices → ℕ → List Share → ℤ
+shares_earn p k [] = pos 0
+shares_earn p k (s ∷ shares) = times s.parts (rewards (earned p k) s.route.visits) +ℤ shares_earn p k shares
 
 -- each share is of a route of the team
 abbrev AreOf : Limits → ℕ → List Share → Type 0
@@ -64,7 +35,7 @@ AreOf n k (s ∷ shares) = IsRoute n k s.route.visits × AreOf n k shares
 weighed-cons : (s : Share) (shares : List Share) (j : ℕ) → weighed_visits (s ∷ shares) j ≡ s.parts * visits_to j s.route.visits + weighed_visits shares j
 weighed-cons s shares j = sum_by-cons (λ (r : Share). r.parts * visits_to j r.route.visits) s shares
 
-earned_total : (n : Limits) (p : Prices) (k : ℕ) (shares : List Share) → AreOf n k shares → earned p k shares ≡ total (tasks_in n) (λ j. times (weighed_visits shares j) (reward p k j))
+earned_total : (n : Limits) (p : Prices) (k : ℕ) (shares : List Share) → AreOf n k shares → shares_earn p k shares ≡ total (tasks_in n) (λ j. times (weighed_visits shares j) (reward p k j))
 earned_total n p k [] h = sym (total-zero (tasks_in n) (λ j. times 0 (reward p k j)) (λ j b. times-zero (reward p k j)))
 earned_total n p k (s ∷ shares) h =
     let rest = earned_total n p k shares h.1 in
@@ -79,10 +50,10 @@ earned_total n p k (s ∷ shares) h =
     let plus = total-plus (tasks_in n) (λ j. times s.parts (times (visits_to j s.route.visits) (reward p k j))) (λ j. times (weighed_visits shares j) (reward p k j)) in
     omega (arith, ints)
 
-earned_most : (n : Limits) (p : Prices) (k : ℕ) (worth : ℤ) → ((r : List Visit) → IsRoute n k r → rewards p k r ≤ℤ worth) → (shares : List Share) → AreOf n k shares → earned p k shares ≤ℤ times (parts_of shares) worth
+earned_most : (n : Limits) (p : Prices) (k : ℕ) (worth : ℤ) → ((r : List Visit) → IsRoute n k r → rewards (earned p k) r ≤ℤ worth) → (shares : List Share) → AreOf n k shares → shares_earn p k shares ≤ℤ times (parts_of shares) worth
 earned_most n p k worth most [] h = let a = times-zero worth in omega (arith, ints)
 earned_most n p k worth most (s ∷ shares) h =
-    let a = times-le s.parts (rewards p k s.route.visits) worth (most s.route.visits h.0) in
+    let a = times-le s.parts (rewards (earned p k) s.route.visits) worth (most s.route.visits h.0) in
     let b = earned_most n p k worth most shares h.1 in
     let c = ap (λ m. times m worth) (sum_by-cons (λ (r : Share). r.parts) s shares) in
     let d = times-add s.parts (parts_of shares) worth in
@@ -129,7 +100,7 @@ known_shares n (s ∷ shares) a = let r = a 0 s (omega arith) in (r.team, r.rout
 -- ---- the bound and the value
 
 module _ (n : Limits) (p : Prices) (worths : List ℤ) (phi : ℕ → ℕ → ℕ → ℤ) (c : FractionalChoice) (leaf : IsValidLeaf n p worths phi) (is : IsFractional n c)
-    (most : (k : ℕ) → k < teams_in n → (r : List Visit) → IsRoute n k r → rewards p k r ≤ℤ worth_of worths k) where
+    (most : (k : ℕ) → k < teams_in n → (r : List Visit) → IsRoute n k r → rewards (earned p k) r ≤ℤ worth_of worths k) where
   abbrev all_w : ℕ → ℕ
   all_w j = weighed_visits c.shares j
 
