@@ -162,7 +162,9 @@ dossiers_small() {
   ratios 'dossiers of a small airport' "$made/many" "$crew" check
 }
 dossiers_smallest() {
-  repeat "$here/../examples/first.dossier" "$made/many"
+  # in form 1, which is the smaller one
+  sed -e 's/^crew dossier 2/crew dossier 1/' -e '/^frozen /d' "$here/../examples/first.dossier" >"$made/once"
+  repeat "$made/once" "$made/many"
   ratios 'the smallest dossiers' "$made/many" "$crew" check
 }
 leaf() {
