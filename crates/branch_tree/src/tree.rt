@@ -7,7 +7,7 @@ ghost use Rattle.branch_tree.specs.Levels.{next_node};
 
 use arrayvec::ArrayVec;
 use crew_terms::{Choice, MOST_NODES, TreeCounts};
-use potentials::Prices;
+use kept_prices::KeptPrices;
 use std::marker::Model;
 
 // The most splits above a leaf.
@@ -24,15 +24,18 @@ pub enum LeafState {
     Closed,
 }
 
-/// A node of a branch tree: a split, or a leaf with what it claims and its prices. A bare leaf has prices too.
+/// A node of a branch tree: a split, or a leaf with what it claims and its prices, at rest. A bare leaf has prices too.
 #[derive(Drop)]
 pub enum Node {
     Split(Choice),
-    Leaf { state: LeafState, prices: Prices },
+    Leaf {
+        state: LeafState,
+        prices: KeptPrices,
+    },
 }
 
 /// A branch tree of at most 100,000 splits: its nodes in preorder, so that the first child of a split comes
-/// right behind it, and the second child behind all of the first. What its leaves claim is not proved.
+/// right after it, and the second child after all of the first. What its leaves claim is not proved.
 #[derive(Drop)]
 pub struct Tree {
     nodes: Vec<Node>,

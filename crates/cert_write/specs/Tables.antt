@@ -1,7 +1,7 @@
 -- the lines of a team in a node, and the room for its potentials
 use Rattle.std.specs.Prelude.{ℕ, nat_lt, Bool, List, ◌∷◌}
 use Rattle.crew_terms.specs.Instance.{Instance}
-use Rattle.crew_terms.specs.Limits.{Limits}
+use Rattle.crew_terms.specs.Limits.{Limits, root_limits}
 use Rattle.crew_terms.specs.Minutes.{first_minute, minute_count, open_tasks}
 use Rattle.crew_terms.specs.Words.{Words}
 use Rattle.dossier_terms.specs.Dossier.{Potentials}
@@ -9,13 +9,15 @@ use Rattle.dossier_terms.specs.Lines.{potentials_line, rows_lines, steps_line, w
 use Rattle.dossier_terms.specs.Runs.{runs_of}
 use Rattle.dossier_terms.specs.declared.DossierForm.TheVariants.{Two}
 use Rattle.label_pricing.specs.Pricing.{HasRoom}
+use Rattle.potentials.specs.Prices.{ArePricesOf}
 use Rattle.potentials.specs.Table.{PotentialRow, IsTableOf}
 use Rattle.cert_write.specs.Steps.{row_in}
 use Rattle.cert_write.specs.declared.tables.Room.{Room}
 
--- there is room for any team of the instance, and for its potentials
+-- there is room for the prices of any leaf of the instance, for any team, and for its potentials
 pub record IsRoomOf (i : Instance) (room : Room) : Type 0 where
   pub pricer : HasRoom i room.pricer
+  pub prices : ArePricesOf (root_limits i) room.prices
   pub table : IsTableOf i room.table
 
 -- team k may begin task j at some minute

@@ -9,7 +9,7 @@ use node_limits::Limits;
 use std::alloc::{AllocError, Global};
 use tree_walk::Walk;
 
-/// The limits of the node that is due, the way to it, and room for pricing: all memory that writing takes.
+/// The limits of the node that is due, the way to it, and room for its prices and for pricing: all memory that writing takes.
 #[derive(Drop)]
 pub(crate) struct Desk<'i> {
     pub(crate) limits: Limits<'i>,
@@ -28,9 +28,9 @@ impl<'i> Desk<'i> {
     {
         let depth = tree.depth() as usize;
         let mut limits = Limits::root(alloc, instance)?;
+        let room = Room::reserve(alloc, &limits)?;
         limits.reserve(depth)?;
         let walk = Walk::open(alloc, depth)?;
-        let room = Room::reserve(alloc, instance)?;
         Ok(Desk { limits, walk, room })
     }
 }

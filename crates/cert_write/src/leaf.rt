@@ -12,8 +12,10 @@ ghost use Rattle.crew_io.specs.Puts.{Puts};
 ghost use Rattle.dossier_terms.specs.Dossier.{Leaf};
 ghost use Rattle.dossier_terms.specs.Lines.{claim_lines, leaf_lines, price_line};
 ghost use Rattle.dossier_terms.specs.declared.DossierForm.TheVariants.{Two};
+ghost use Rattle.label_pricing.specs.Pricing.{HasRoom};
 ghost use Rattle.line_out.specs.Parts.{next_word, part_word};
 ghost use Rattle.potentials.specs.Prices.{ArePricesOf};
+ghost use Rattle.potentials.specs.Table.{IsTableOf};
 ghost use Rattle.cert_write.specs.Dossiers.{IsPricedClaim, IsPricedLeaf};
 ghost use Rattle.cert_write.specs.Leaves.{extra_prices, extra_words, state_line};
 ghost use Rattle.cert_write.specs.Tables.{IsRoomOf};
@@ -25,9 +27,11 @@ use branch_tree::LeafState;
 use crew_io::put::put_all;
 use crew_io::sink::{Sink, WriteFault};
 use crew_terms::{MOST_TEAMS, Pair};
+use kept_prices::KeptPrices;
+use label_pricing::Pricer;
 use line_out::{Part, put_line, put_next};
 use node_limits::Limits;
-use potentials::Prices;
+use potentials::{Prices, Table};
 
 /// The most parts of the line of a task's required teams: a word, the task, and a price for each team.
 const MOST_PARTS: usize = MOST_TEAMS + 2;
@@ -132,24 +136,45 @@ fn put_extras<K: Sink>(out: &mut K, limits: &Limits<'_>, prices: &Prices) -> Res
 }
 
 /// The lines of the numbers of a leaf: its prices, and for each team its worth and its potentials.
-fn put_leaf<K: Sink>(
+fn put_numbers<K: Sink>(
     out: &mut K,
     limits: &Limits<'_>,
     prices: &Prices,
-    room: &mut Room,
+    pricer: &mut Pricer,
+    table: &mut Table,
 ) -> Result<(), WriteFault>
     requires prices { ArePricesOf limits.now.limits prices.now }
-    requires room { IsRoomOf limits.now.limits.instance room.old }
+    requires room { HasRoom limits.now.limits.instance pricer.old }
+    requires table { IsTableOf limits.now.limits.instance table.old }
     ensures puts { (leaf : Leaf) → IsPricedLeaf limits.now.limits prices.now leaf →
+        Puts K.Sink (flat_map line_text (leaf_lines Two limits.now.limits leaf)) out.old
+        out.new result }
+    ensures room { HasRoom limits.now.limits.instance pricer.new }
+    ensures table { IsTableOf limits.now.limits.instance table.new }
+{
+    // An instance has few tasks.
+    let _ = limits.instance();
+    put_price_line(out, prices)?;
+    put_extras(out, limits, prices)?;
+    put_tables(out, limits, prices, pricer, table)
+}
+
+/// The same of prices at rest, which are put into the room first.
+fn put_leaf<K: Sink>(
+    out: &mut K,
+    limits: &Limits<'_>,
+    kept: &KeptPrices,
+    room: &mut Room,
+) -> Result<(), WriteFault>
+    requires prices { ArePricesOf limits.now.limits kept.now }
+    requires room { IsRoomOf limits.now.limits.instance room.old }
+    ensures puts { (leaf : Leaf) → IsPricedLeaf limits.now.limits kept.now leaf →
         Puts K.Sink (flat_map line_text (leaf_lines Two limits.now.limits leaf)) out.old
         out.new result }
     ensures room { IsRoomOf limits.now.limits.instance room.new }
 {
-    // It is known from here on how many tasks an instance may have.
-    let _ = limits.instance();
-    put_price_line(out, prices)?;
-    put_extras(out, limits, prices)?;
-    put_tables(out, limits, prices, &mut room.pricer, &mut room.table)
+    kept.put(limits, &mut room.prices);
+    put_numbers(out, limits, &room.prices, &mut room.pricer, &mut room.table)
 }
 
 /// The first line of a leaf.
@@ -169,7 +194,7 @@ pub(crate) fn put_claim<K: Sink>(
     out: &mut K,
     limits: &Limits<'_>,
     state: LeafState,
-    prices: &Prices,
+    prices: &KeptPrices,
     room: &mut Room,
 ) -> Result<(), WriteFault>
     requires prices { ArePricesOf limits.now.limits prices.now }

@@ -15,7 +15,6 @@ ghost use Rattle.cert_write.specs.Steps.{table_in};
 ghost use Rattle.cert_write.specs.Tables.{IsRoomOf, may_begin, row_line, team_lines};
 
 use crate::steps::put_steps;
-use crew_instance::Instance;
 use crew_io::sink::{Sink, WriteFault};
 use crew_laws::minutes_are_permitted;
 use label_pricing::{Pricer, one_worth, teams_have_bests};
@@ -24,21 +23,27 @@ use node_limits::Limits;
 use potentials::{Prices, Table};
 use std::alloc::{AllocError, Global};
 
-/// Room for pricing, and for the potentials of one team.
+/// Room for pricing, for the prices of one leaf, and for the potentials of one team.
 #[derive(Drop)]
 pub(crate) struct Room {
     pub(crate) pricer: Pricer,
+    pub(crate) prices: Prices,
     pub(crate) table: Table,
 }
 
 impl Room {
-    /// Room for the teams and tasks of an instance.
-    pub(crate) fn reserve(alloc: Global, instance: &Instance) -> Result<Room, AllocError>
-        ensures { IfOk result (IsRoomOf instance.now) }
+    /// Room for the teams and tasks of a node's instance.
+    pub(crate) fn reserve(alloc: Global, limits: &Limits<'_>) -> Result<Room, AllocError>
+        ensures { IfOk result (IsRoomOf limits.now.limits.instance) }
     {
-        let pricer = Pricer::reserve(alloc, instance)?;
-        let table = Table::reserve(alloc, instance)?;
-        Ok(Room { pricer, table })
+        let pricer = Pricer::reserve(alloc, limits.instance())?;
+        let prices = Prices::zero(alloc, limits)?;
+        let table = Table::reserve(alloc, limits.instance())?;
+        Ok(Room {
+            pricer,
+            prices,
+            table,
+        })
     }
 }
 

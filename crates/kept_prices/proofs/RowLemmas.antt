@@ -1,13 +1,14 @@
 -- rows of prices, element by element
-use Rattle.std.proofs.Common.{◌≡◌, ◌≢◌, ◌≤◌, ◌<◌, ◌+◌, ◌++◌, ◌∙◌, ◌⊎◌, inl, inr, ℕ, ℤ, zero, suc, pos, List, [], ◌∷◌, length, get_or, set, take, refl, ap, sym, subst, arith, replicate, map, get_or-set_other, get_or-set_same}
+use Rattle.std.proofs.Common.{◌≡◌, ◌≢◌, ◌≤◌, ◌<◌, ◌+◌, ◌++◌, ◌∙◌, ◌⊎◌, inl, inr, ℕ, ℤ, pos, List, [], ◌∷◌, length, get_or, set, take, refl, ap, sym, subst, arith, replicate, map, get_or-set_other, get_or-set_same}
 use Rattle.std.specs.List.{range_with_len}
 use Rattle.std.proofs.lemmas.Bool.{cases_eq, cases_lt}
-use Rattle.std.proofs.lemmas.List.{same_lists, get_or-replicate, length-replicate, get_or_default, get_or-map, get_or_past, length-set, take_more, take_more_set, get_or_append_left, get_or-map, get_or_push, length-append, map-append}
+use Rattle.std.proofs.lemmas.List.{same_lists, get_or-replicate, length-replicate, get_or_default, get_or-map, get_or_past, length-set, take_all, take_more, take_more_set, get_or_append_left, get_or-map, get_or_push, length-append, map-append}
+use Rattle.std.proofs.lemmas.List.Elements.{All-get_or}
 use Rattle.std.proofs.lemmas.List.FromFn.{get_or-map-range_with_len, length-map-range_with_len}
 use Rattle.kept_prices.specs.Rows.{AreRows, IsRowFor, LeftOut, Whole, row_at, rows_in, whole_row, with_row}
 use Rattle.std.specs.Global.{Vec}
 use Rattle.crew_terms.specs.Leaf.{IsPrice, Prices}
-use Rattle.potentials.specs.Prices.{with_rho}
+use Rattle.potentials.specs.Prices.{ArePrices, with_rho}
 use Rattle.std.proofs.lemmas.Int.{ints}
 
 -- two lists with the same elements, where a default is given
@@ -119,11 +120,6 @@ zero_price = record { least = omega (arith, ints); most = omega (arith, ints) }
 pub no_rows : (n : ℕ) → AreRows n []
 no_rows n = record { count = λ k. LeftOut refl; range = λ k j. zero_price }
 
--- a row has at most as many prices
-pub row_few : (n : ℕ) (row : List ℤ) → IsRowFor n row → length row ≤ n
-row_few n row (LeftOut none) = let e = ap length none in omega arith
-row_few n row (Whole count) = omega arith
-
 -- the row of a team
 pub row_is : (rows : List (Vec ℤ)) (row : Vec ℤ) (k : ℕ) → k < length rows → row ≡ get_or rows k row → row.items ≡ row_at rows k
 row_is rows row k known is =
@@ -143,3 +139,19 @@ prices_of pi rho = record { pi = pi; rho = rho }
 -- prices by their parts
 pub same_prices : (p : Prices) (pi : List ℤ) (rho : List (List ℤ)) → p.pi ≡ pi → p.rho ≡ rho → p ≡ prices_of pi rho
 same_prices p pi rho a b = ap (λ (x : List ℤ). prices_of x p.rho) a ∙ ap (λ (x : List (List ℤ)). prices_of pi x) b
+
+-- each price of a row is that of the whole row
+pub price_at : (n : ℕ) (row : List ℤ) (j : ℕ) → IsRowFor n row → j < n → get_or row j (pos 0) ≡ get_or (whole_row n row) j (pos 0)
+price_at n row j (LeftOut none) known =
+    let count = length-replicate n (pos 0) in
+    ap (λ (r : List ℤ). get_or r j (pos 0)) none ∙ sym (get_or-replicate n j (pos 0) (pos 0) (omega arith))
+    ∙ ap (λ (r : List ℤ). get_or (whole_row n r) j (pos 0)) (sym none)
+price_at n row j (Whole count) known = ap (λ (r : List ℤ). get_or r j (pos 0)) (sym (whole_same n row count))
+
+-- lists with the same front are the same where that is all of them
+pub same_front : (n : ℕ) (xs ys : List ℤ) → length xs ≤ n → length ys ≤ n → take n xs ≡ take n ys → xs ≡ ys
+same_front n xs ys few as_few same = sym (take_all n xs few) ∙ same ∙ take_all n ys as_few
+
+-- a team has as many prices as there are tasks
+pub row_count : (p : Prices) (k : ℕ) → ArePrices p → k < length p.rho → length (get_or p.rho k []) ≡ length p.pi
+row_count p k are known = All-get_or (λ (r : List ℤ). length r ≡ length p.pi) p.rho k [] known are.columns

@@ -1,14 +1,19 @@
 -- what the fields stand for
-use Rattle.std.specs.Prelude.{◌≤◌, ℕ, pos, length, slice_index_or}
-use Rattle.crew_terms.specs.Leaf.{IsPrice, Prices}
-use Rattle.crew_terms.specs.declared.TheConstants.{MOST_TASKS, MOST_TEAMS}
+use Rattle.std.specs.Prelude.{length}
+use Rattle.crew_terms.specs.Leaf.{Prices}
 use Rattle.kept_prices.specs.Rows.{AreRows, rows_in}
 use Rattle.kept_prices.specs.declared.kept.KeptPrices.TheInside.{Inside}
+use Rattle.kept_prices.specs.declared.kept.Rows.{Rows}
+use Rattle.potentials.specs.Prices.{ArePrices}
+
+-- the prices of the rows
+abbrev pub prices_in : Rows → Prices
+prices_in r = record { pi = r.tasks.items; rho = rows_in (length r.tasks.items) r.teams.items }
 
 abbrev pub kept_prices : Inside → Prices
-kept_prices a = record { pi = a.tasks.items; rho = rows_in (length a.tasks.items) a.teams.items }
+kept_prices a = prices_in a.rows.value
 
--- the prices are in their range
+-- they are prices, and each row is left out or whole
 pub record IsKept (a : Inside) : Type 0 where
-  pub tasks : (j : ℕ) → IsPrice (slice_index_or a.tasks.items j (pos 0))
-  pub rows : AreRows (length a.tasks.items) a.teams.items
+  pub prices : ArePrices (kept_prices a)
+  pub rows : AreRows (length a.rows.value.tasks.items) a.rows.value.teams.items

@@ -1,5 +1,5 @@
 -- rows of prices, of which those that are all 0 are left out
-use Rattle.std.specs.Prelude.{◌≡◌, ◌<◌, ℕ, ℤ, pos, List, [], ◌∷◌, length, map, replicate, slice_index_or, slice_set}
+use Rattle.std.specs.Prelude.{◌≡◌, ℕ, ℤ, pos, List, [], ◌∷◌, length, map, replicate, slice_index_or, slice_set}
 use Rattle.std.specs.Global.{Vec}
 use Rattle.crew_terms.specs.Leaf.{IsPrice, Prices}
 
@@ -29,7 +29,3 @@ row_at rows k = slice_index_or (map (λ (row : Vec ℤ). row.items) rows) k []
 pub record AreRows (n : ℕ) (rows : List (Vec ℤ)) : Type 0 where
   pub count : (k : ℕ) → IsRowFor n (row_at rows k)
   pub range : (k j : ℕ) → IsPrice (slice_index_or (row_at rows k) j (pos 0))
-
--- no team has a price of its own
-abbrev pub AreIdle : Prices → Type 0
-AreIdle p = (k : ℕ) → k < length p.rho → slice_index_or p.rho k [] ≡ replicate (length p.pi) (pos 0)

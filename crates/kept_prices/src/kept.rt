@@ -1,22 +1,28 @@
 // Prices at rest.
 ghost use Rattle.std.specs.Prelude.{◌≡◌, ◌<◌, ◌^◌, length, IfOk};
 ghost use Rattle.crew_terms.specs.Limits.{tasks_in};
-ghost use Rattle.potentials.specs.Prices.{ArePricesOf};
-ghost use Rattle.kept_prices.specs.Rows.{AreIdle, AreRows, rows_in};
+ghost use Rattle.potentials.specs.Prices.{ArePrices, ArePricesOf};
+ghost use Rattle.kept_prices.specs.Rows.{AreRows, rows_in};
 
 use crate::rows::{put_row, put_tasks, row_of, tasks_of};
 use node_limits::Limits;
 use potentials::Prices;
 use std::alloc::{AllocError, Global};
 use std::marker::Model;
+use std::rc::Rc;
+
+/// The prices of the tasks, and for each team a row for all tasks, or none.
+#[derive(Drop)]
+pub(crate) struct Rows {
+    tasks: Vec<i64>,
+    teams: Vec<Vec<i64>>,
+}
 
 /// Prices of a node at rest: those of the tasks, and those of the teams that have some of their own. So they take room for
-/// the tasks and for such teams alone, where `Prices` have room for all.
+/// the tasks and for such teams alone, where `Prices` have room for all. Who shares them takes no room for them again.
 #[derive(Drop)]
 pub struct KeptPrices {
-    tasks: Vec<i64>,
-    // For each team a row for all tasks, or none.
-    teams: Vec<Vec<i64>>,
+    rows: Rc<Rows>,
 }
 
 impl Model for KeptPrices {
@@ -45,13 +51,12 @@ fn rows_of(alloc: Global, limits: &Limits<'_>, prices: &Prices) -> Result<Vec<Ve
     Ok(rows)
 }
 
-/// Puts the prices of all teams, which have none yet.
+/// Puts the prices of all teams in the place of others.
 fn put_rows(prices: &mut Prices, teams: &[Vec<i64>])
     requires count { length teams.now ≡ length prices.old.rho }
     requires few { length teams.now < 2 ^ 32 }
     requires few_tasks { length prices.old.pi < 2 ^ 32 }
     requires rows { AreRows (length prices.old.pi) teams.now }
-    requires idle { AreIdle prices.old }
     ensures { prices.new ≡ record prices.old { rho = rows_in (length prices.old.pi) teams.now } }
 {
     for k in 0..teams.len() as u32 {
@@ -65,11 +70,34 @@ impl KeptPrices {
         requires { ArePricesOf limits.now.limits prices.now }
         ensures { IfOk result (λ kept. kept ≡ prices.now) }
     {
-        // It is known from here on that the prices are in their range.
+        // The prices are in their range.
         let _ = prices.tasks();
         let tasks = tasks_of(alloc, limits, prices)?;
         let teams = rows_of(alloc, limits, prices)?;
-        Ok(KeptPrices { tasks, teams })
+        let rows = Rc::new(alloc, Rows { tasks, teams })?;
+        Ok(KeptPrices { rows })
+    }
+
+    /// The same prices once more, which share their room. AllocError where they are shared too often.
+    pub fn share(&self) -> Result<KeptPrices, AllocError>
+        ensures same { IfOk result (λ kept. kept ≡ self.now) }
+        ensures limits { ArePrices self.now }
+    {
+        let rows = self.rows.clone()?;
+        Ok(KeptPrices { rows })
+    }
+
+    /// Puts the prices in the place of others of the node. It takes no memory.
+    pub fn put(&self, limits: &Limits<'_>, prices: &mut Prices)
+        requires own { ArePricesOf limits.now.limits self.now }
+        requires room { ArePricesOf limits.now.limits prices.old }
+        ensures { prices.new ≡ self.now }
+    {
+        // An instance has few tasks and few teams.
+        let _ = (limits.instance().tasks(), limits.instance().teams());
+        let rows = self.rows.as_ref();
+        put_tasks(prices, &rows.tasks);
+        put_rows(prices, &rows.teams);
     }
 
     /// The prices, in room of their own. AllocError where there is no memory.
@@ -77,11 +105,8 @@ impl KeptPrices {
         requires { ArePricesOf limits.now.limits self.now }
         ensures { IfOk result (λ prices. prices ≡ self.now) }
     {
-        // It is known from here on that tasks and teams are few.
-        let _ = (limits.instance().tasks(), limits.instance().teams());
         let mut prices = Prices::zero(alloc, limits)?;
-        put_tasks(&mut prices, &self.tasks);
-        put_rows(&mut prices, &self.teams);
+        self.put(limits, &mut prices);
         Ok(prices)
     }
 }

@@ -59,7 +59,7 @@ pub(crate) fn row_of(
     ensures count { IfOk result (λ row. IsRowFor (tasks_in limits.now.limits) row.items) }
     ensures range { IfOk result (λ row. (j : ℕ) → IsPrice (slice_index_or row.items j (pos 0))) }
 {
-    // It is known from here on that each team has as many prices as there are tasks, all in their range.
+    // Each team has as many prices as there are tasks, all in their range.
     let _ = prices.tasks();
     if is_idle(limits, prices, k) {
         return Ok(Vec::new(alloc));
@@ -91,19 +91,22 @@ pub(crate) fn put_tasks(prices: &mut Prices, tasks: &[i64])
     }
 }
 
-/// Puts the prices of a team, which has none yet, if there are any.
+/// The price of the task in the row; 0 where the row is left out.
+fn price_in(row: &[i64], j: u32) -> i64
+    ensures { result ≡ slice_index_or row.now j (pos 0) }
+{
+    row.get(j as usize).copied().unwrap_or(0)
+}
+
+/// Puts the prices of a team in the place of others: zeros where the row is left out.
 pub(crate) fn put_row(prices: &mut Prices, k: u32, row: &[i64])
     requires team { k < length prices.old.rho }
     requires row { IsRowFor (length prices.old.pi) row.now }
-    requires few { length row.now < 2 ^ 32 }
+    requires few { length prices.old.pi < 2 ^ 32 }
     requires range { (j : ℕ) → IsPrice (slice_index_or row.now j (pos 0)) }
-    requires idle { slice_index_or prices.old.rho k [] ≡ whole_row (length prices.old.pi) [] }
     ensures { prices.new ≡ with_row prices.old k (whole_row (length prices.old.pi) row.now) }
 {
-    if row.is_empty() {
-        return;
-    }
-    for j in 0..row.len() as u32 {
-        prices.set_rho(k, j, row[j as usize]);
+    for j in 0..prices.tasks() as u32 {
+        prices.set_rho(k, j, price_in(row, j));
     }
 }

@@ -6,6 +6,7 @@ use crate::asserts::same;
 use branch_tree::{LeafState, Node, Tree};
 use crew_fixtures::one_task;
 use crew_terms::Choice;
+use kept_prices::KeptPrices;
 use node_limits::Limits;
 use potentials::Prices;
 use std::alloc::Global;
@@ -15,7 +16,8 @@ use std::test::Fail;
 fn leaf(alloc: Global, limits: &Limits<'_>, state: LeafState) -> Result<Node, Fail>
     ensures { IfOk result (λ node. IsPreorder (node ∷ [])) }
 {
-    let prices = Prices::zero(alloc, limits)?;
+    let zero = Prices::zero(alloc, limits)?;
+    let prices = KeptPrices::of(alloc, limits, &zero)?;
     Ok(Node::Leaf { state, prices })
 }
 

@@ -12,10 +12,10 @@ use crew_fixtures::{
 use crew_instance::Instance;
 use crew_io::sink::MemSink;
 use search_core::{AscentEffort, Effort, Outcome, ScoutEffort, Search};
-use solved_laws::{run_outcomes_are_writable, solved_causes_may_be_told, told_causes};
 use std::alloc::{AllocError, Global};
 use std::process::Abort;
 use std::test::Fail;
+use written_laws::{run_outcomes_are_writable, solved_causes_may_be_told, told_causes};
 
 const NO_ASCENT: AscentEffort = AscentEffort {
     rounds: 0,

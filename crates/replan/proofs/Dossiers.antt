@@ -39,9 +39,9 @@ use Rattle.search_core.specs.declared.causes.Outcome.{Outcome}
 use Rattle.search_terms.specs.Caused.{AreLooseShown, IsCaused}
 use Rattle.search_terms.specs.Search.{IsHandedOut, IsSearchRun, IsSearched, SearchOutcome, SearchState}
 use Rattle.search_terms.specs.SearchTree.{SplitCause, causes}
-use Rattle.solved_laws.specs.Proved.{IsProvedOutcome}
-use Rattle.tree_outlines.specs.Outline.{IsPricedAs, handed_out}
-use Rattle.solved_laws.specs.Told.{AreTold, Tell}
+use Rattle.written_laws.specs.Solved.{IsProvedOutcome}
+use Rattle.search_core.specs.Outline.{IsPricedAs, handed_out}
+use Rattle.written_laws.specs.Told.{AreTold, Tell}
 use Rattle.written_laws.specs.Proved.{AreCauses, IsProvedGiven, IsProvedTree, proved_is_writable}
 
 -- ---- the laws that stand below

@@ -17,7 +17,7 @@ use Rattle.replan.specs.Rounds.{EachLeftProves}
 use Rattle.search_terms.specs.Proven.{PricesProve}
 use Rattle.search_terms.specs.Search.{IsHandedOut, SearchState, Untaken, Whole}
 use Rattle.search_terms.specs.SearchTree.{ClosedLeaf, EachOpen, IsTreeOf, OpenLeaf, SearchTree}
-use Rattle.tree_outlines.specs.Outline.{IsPricedAs}
+use Rattle.search_core.specs.Outline.{IsPricedAs}
 use Rattle.written_laws.specs.Proved.{IsProvedTree}
 
 abbrev pub KeepPrices : Type 0

@@ -15,7 +15,7 @@ use Rattle.column_arena.specs.Columns.{AreColumns}
 use Rattle.replan.specs.declared.counts.Counts.{Counts}
 use Rattle.search_core.specs.Steps.{IsSolved}
 use Rattle.search_core.specs.declared.causes.Outcome.{Outcome}
-use Rattle.solved_laws.specs.Told.{AreTold}
+use Rattle.written_laws.specs.Told.{AreTold}
 
 -- the columns that were kept
 abbrev pub kept_in : Given → List Route

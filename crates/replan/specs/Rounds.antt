@@ -15,7 +15,7 @@ use Rattle.cert_write.specs.Dossiers.{causes_of}
 use Rattle.search_terms.specs.Caused.{IsCaused}
 use Rattle.search_terms.specs.Search.{SearchOutcome}
 use Rattle.search_terms.specs.SearchTree.{SplitCause}
-use Rattle.solved_laws.specs.Told.{Tell}
+use Rattle.written_laws.specs.Told.{Tell}
 use Rattle.day_terms.specs.Rounds.{Round}
 
 -- ---- what the leaves prove that are not closed

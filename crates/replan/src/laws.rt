@@ -19,11 +19,10 @@ use branch_tree::one_tree;
 use dossier_laws::good_bounds;
 use search_core::outcomes_are_searched;
 use search_laws::searches_are_caused;
-use solved_laws::{
-    solved_causes_may_be_told, solved_pools_are_of_the_instance, solved_trees_are_proved,
-    told_causes_tell,
+use written_laws::{
+    leaves_keep_their_prices, solved_causes_may_be_told, solved_pools_are_of_the_instance,
+    solved_trees_are_proved, told_causes_tell, written_dossiers_are_good,
 };
-use written_laws::{leaves_keep_their_prices, written_dossiers_are_good};
 
 /// A dossier of what the search comes to is one of the round that is handed the kept columns by names.
 pub(crate) fn outcomes_are_rounds()

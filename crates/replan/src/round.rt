@@ -26,8 +26,8 @@ use crew_io::sink::Sink;
 use flight_changes::PlannedJobs;
 use node_limits::Limits;
 use search_core::{DAY_EFFORT, Outcome, solve};
-use solved_laws::{solved_pools_are_of_the_instance, told_causes};
 use std::alloc::{AllocError, Global};
+use written_laws::{solved_pools_are_of_the_instance, told_causes};
 
 /// The most routes that a pool may have.
 const MOST_ROUTES: usize = 9_223_372_036_854_775_807;

@@ -16,7 +16,7 @@ use Rattle.search_tree.specs.declared.nodes.Content.{Content}
 use Rattle.search_tree.specs.declared.nodes.Content.TheVariants as content
 use Rattle.search_tree.specs.declared.nodes.Node.{Node}
 use Rattle.search_tree.specs.Numbered.{grown, node_of, tree_at}
-use Rattle.tree_outlines.specs.Outline.{IsClaimed, IsPricedAs, claimed, handed_out, outline, outline_with}
+use Rattle.search_core.specs.Outline.{IsClaimed, IsPricedAs, claimed, handed_out, outline, outline_with}
 
 grown_splits : (p q : ℕ → Prices) (c d : ℕ → SplitCause) (k : Content) (low high : ℕ → SearchTree)
     → ((n : ℕ) → splits (low n) ≡ splits (high n)) → splits (grown p c k low) ≡ splits (grown q d k high)

@@ -4,7 +4,7 @@ use Rattle.crew_terms.specs.Instance.{Instance}
 use Rattle.crew_terms.specs.Leaf.{Prices}
 use Rattle.crew_terms.specs.Limits.{Limits, root_limits}
 use Rattle.crew_terms.specs.Plan.{Plan}
-use Rattle.keyed_tree.specs.Keyed.{Keyed}
+use Rattle.search_tree.specs.Keyed.{Keyed}
 use Rattle.label_pricing.specs.Pricing.{HasRoom}
 use Rattle.node_walk.specs.Walks.{IsBack}
 use Rattle.search_core.specs.Kept.{IsKept, IsKeptSearch, searching}

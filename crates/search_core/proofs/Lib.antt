@@ -6,3 +6,5 @@ pub mod Starting
 pub mod HandingOut
 pub mod Showing
 pub mod Pricing
+pub mod Turning
+pub mod Walking

@@ -20,8 +20,8 @@ use Rattle.crew_terms.specs.declared.Choice.{Choice}
 use Rattle.crew_terms.specs.declared.Side.{Side}
 use Rattle.crew_terms.specs.declared.Side.TheVariants.{First, Second}
 use Rattle.frac_master.specs.declared.shares.Share.{Share}
-use Rattle.handed_prices.specs.declared.handing.Handed.{Handed}
-use Rattle.keyed_tree.specs.Keyed.{Keyed}
+use Rattle.search_core.specs.declared.handing.Handed.{Handed}
+use Rattle.search_tree.specs.Keyed.{Keyed}
 use Rattle.master_run.specs.Shares.{fractional_of, share_of}
 use Rattle.node_solver.specs.Causes.{cause_of}
 use Rattle.node_solver.specs.Loose.{HasHeld, IsShown}
@@ -47,7 +47,7 @@ use Rattle.search_tree.specs.Numbered.{grown, node_of, tree_at, tree_of, way_of}
 use Rattle.search_tree.specs.declared.nodes.Content.{Content}
 use Rattle.search_tree.specs.declared.nodes.Content.TheVariants as content
 use Rattle.search_tree.specs.declared.nodes.Node.{Node}
-use Rattle.tree_outlines.specs.Outline.{outline, outline_with}
+use Rattle.search_core.specs.Outline.{outline, outline_with}
 use Rattle.search_core.proofs.HandingOut.{same_splits}
 
 -- ---- what a step shows

@@ -6,9 +6,9 @@ use Rattle.crew_terms.specs.Instance.{Instance}
 use Rattle.crew_terms.specs.Leaf.{IsOnRequired, Prices}
 use Rattle.crew_terms.specs.Limits.{Limits, root_limits, tasks_in}
 use Rattle.crew_terms.specs.Plan.{unassigned_count}
-use Rattle.keyed_steps.specs.States.{DecidesProved, HasLeaf, limits_of}
-use Rattle.keyed_tree.specs.Keyed.{IsWaiting}
-use Rattle.keyed_tree.specs.Numbers.{HasNumber}
+use Rattle.search_tree.specs.States.{DecidesProved, HasLeaf, limits_of}
+use Rattle.search_tree.specs.Keyed.{IsWaiting}
+use Rattle.search_tree.specs.Numbers.{HasNumber}
 use Rattle.potentials.specs.Prices.{ArePricesOf}
 use Rattle.search_core.specs.Counts.{few_unassigned}
 use Rattle.search_core.specs.Kept.{IsKept}

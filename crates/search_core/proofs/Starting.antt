@@ -9,10 +9,10 @@ use Rattle.crew_terms.specs.Limits.{Route, root_limits}
 use Rattle.crew_terms.specs.Plan.{Plan}
 use Rattle.crew_terms.specs.declared.Side.{Side}
 use Rattle.crew_terms.specs.declared.TheConstants.{MOST_NODES}
-use Rattle.keyed_steps.specs.States.{AreBoundsIn, DecidesProved}
-use Rattle.keyed_tree.specs.Aged.{leaves_of}
-use Rattle.keyed_tree.specs.Keyed.{IsWaiting, keyed_root}
-use Rattle.keyed_tree.specs.Numbers.{HaveNumbers}
+use Rattle.search_tree.specs.States.{AreBoundsIn, DecidesProved}
+use Rattle.search_tree.specs.Aged.{leaves_of}
+use Rattle.search_tree.specs.Keyed.{IsWaiting, keyed_root}
+use Rattle.search_tree.specs.Numbers.{HaveNumbers}
 use Rattle.node_queue.specs.declared.Waiting.{Waiting}
 use Rattle.node_queue.specs.Waits.{found}
 use Rattle.potentials.specs.Prices.{ArePricesOf}

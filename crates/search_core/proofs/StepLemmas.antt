@@ -7,14 +7,14 @@ use Rattle.crew_terms.specs.Instance.{Instance}
 use Rattle.crew_terms.specs.Leaf.{Prices}
 use Rattle.crew_terms.specs.Limits.{Limits, Route}
 use Rattle.crew_terms.specs.Plan.{Plan, unassigned_count}
-use Rattle.handed_prices.specs.Handed.{prices_or}
+use Rattle.search_core.specs.Handed.{prices_or}
 use Rattle.node_queue.specs.declared.Waiting.{Waiting}
 use Rattle.node_queue.specs.Waits.{found}
 use Rattle.node_solver.specs.Causes.{cause_of}
 use Rattle.node_solver.specs.Plans.{IsBetterPlan, now_after}
 use Rattle.node_solver.specs.declared.step.Why.{Why}
 use Rattle.node_solver.specs.declared.step.Why.TheVariants.{Loose, Overflow, Spent}
-use Rattle.keyed_tree.specs.Keyed.{IsWaiting}
+use Rattle.search_tree.specs.Keyed.{IsWaiting}
 use Rattle.potentials.specs.Prices.{ArePricesOf}
 use Rattle.search_core.specs.Searching.{Searching, cause_at, item_or, price_at, split_cause, way_to}
 use Rattle.search_core.specs.Settled.{number_of, option_items}

@@ -3,8 +3,8 @@ use Rattle.std.specs.Prelude.{◌≤◌, ℕ, List, IfSome}
 use Rattle.crew_terms.specs.Leaf.{Prices}
 use Rattle.crew_terms.specs.Limits.{Limits, Route}
 use Rattle.crew_terms.specs.declared.Choice.{Choice}
-use Rattle.handed_prices.specs.Handed.{IsHanded}
-use Rattle.handed_prices.specs.declared.handing.Handed.{Handed}
+use Rattle.search_core.specs.Handed.{IsHanded}
+use Rattle.search_core.specs.declared.handing.Handed.{Handed}
 use Rattle.node_solver.specs.Causes.{cause_of}
 use Rattle.node_solver.specs.Plans.{IsBetterPlan, now_after}
 use Rattle.node_solver.specs.declared.step.Why.{Why}

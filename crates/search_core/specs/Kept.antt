@@ -2,8 +2,8 @@
 use Rattle.std.specs.Prelude.{◌≡◌, ◌≤◌, ◌<◌, ◌+◌, ◌*◌, List, [], length, All}
 use Rattle.crew_terms.specs.Limits.{Route, root_limits}
 use Rattle.crew_terms.specs.declared.TheConstants.{MOST_NODES}
-use Rattle.keyed_steps.specs.States.{AreBoundsIn}
-use Rattle.keyed_tree.specs.Numbers.{HaveNumbers}
+use Rattle.search_tree.specs.States.{AreBoundsIn}
+use Rattle.search_tree.specs.Numbers.{HaveNumbers}
 use Rattle.label_pricing.specs.Pricing.{HasRoom}
 use Rattle.potentials.specs.Prices.{ArePricesOf}
 use Rattle.search_core.specs.Searching.{Searching, cause_at, price_at, state_of}

@@ -7,3 +7,6 @@ pub mod Solved
 pub mod Steps
 pub mod Kept
 pub mod Counts
+pub mod Handed
+pub mod Outline
+pub mod Visited

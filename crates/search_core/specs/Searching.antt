@@ -5,8 +5,8 @@ use Rattle.crew_terms.specs.Leaf.{Prices}
 use Rattle.crew_terms.specs.Limits.{Limits, Route, root_limits}
 use Rattle.crew_terms.specs.Plan.{Plan}
 use Rattle.crew_terms.specs.declared.Side.{Side}
-use Rattle.keyed_tree.specs.Aged.{leaves_of, leaves_without}
-use Rattle.keyed_tree.specs.Keyed.{Keyed, IsKey}
+use Rattle.search_tree.specs.Aged.{leaves_of, leaves_without}
+use Rattle.search_tree.specs.Keyed.{Keyed, IsKey}
 use Rattle.node_queue.specs.Waits.{found}
 use Rattle.node_queue.specs.declared.Waiting.{Waiting}
 use Rattle.node_solver.specs.Causes.{cause_of}
@@ -17,7 +17,7 @@ use Rattle.search_terms.specs.Search.{SearchState}
 use Rattle.search_terms.specs.SearchTree.{SplitCause}
 use Rattle.search_terms.specs.Ways.{limits_at}
 use Rattle.search_tree.specs.Numbered.{tree_of, way_of}
-pub use Rattle.tree_outlines.specs.Outline.{price_at}
+pub use Rattle.search_core.specs.Outline.{price_at}
 
 -- the instance and the budget; the best plan, how many steps are left, and the tree with its open leaves under keys, in which
 -- prices and causes are numbers

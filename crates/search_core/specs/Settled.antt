@@ -2,8 +2,8 @@
 use Rattle.std.specs.Prelude.{◌≡◌, ◌++◌, ◌∷◌, [], ℕ, List, Option, None, Some, length}
 use Rattle.crew_terms.specs.Leaf.{Prices}
 use Rattle.crew_terms.specs.declared.Choice.{Choice}
-use Rattle.handed_prices.specs.declared.handing.Handed.{Handed}
-use Rattle.keyed_tree.specs.Keyed.{IsTaken, IsTurned, Keyed}
+use Rattle.search_core.specs.declared.handing.Handed.{Handed}
+use Rattle.search_tree.specs.Keyed.{IsTaken, IsTurned, Keyed}
 use Rattle.search_core.specs.declared.causes.Cause.{Cause}
 use Rattle.search_core.specs.declared.finding.Ending.{Ending}
 use Rattle.search_core.specs.declared.finding.Ending.TheVariants.{Closed, Split}

@@ -7,8 +7,8 @@ use Rattle.crew_terms.specs.Instance.{Instance}
 use Rattle.crew_terms.specs.Leaf.{Prices}
 use Rattle.crew_terms.specs.Limits.{Route, root_limits}
 use Rattle.crew_terms.specs.Plan.{Plan, unassigned_count}
-use Rattle.keyed_tree.specs.Aged.{leaves_of, leaves_without}
-use Rattle.keyed_tree.specs.Keyed.{IsKeyed, Keyed}
+use Rattle.search_tree.specs.Aged.{leaves_of, leaves_without}
+use Rattle.search_tree.specs.Keyed.{IsKeyed, Keyed}
 use Rattle.search_core.specs.Searching.{Searching, IsOpenKey, split_cause, state_of, way_to}
 use Rattle.search_core.specs.Shown.{AreLoosePriced, AreShown, IsShownCause}
 use Rattle.search_core.specs.declared.causes.Cause.{Cause}
@@ -18,8 +18,8 @@ use Rattle.search_terms.specs.Caused.{AreLooseShown}
 use Rattle.search_terms.specs.Search.{IsBound, IsRun, IsSearchRun, IsSearchStep, SearchState, best}
 use Rattle.search_terms.specs.SearchTree.{ClosedLeaf, causes, closed_leaves}
 use Rattle.search_terms.specs.Ways.{replaced}
-use Rattle.tree_outlines.specs.Outline.{handed_out}
-use Rattle.tree_outlines.specs.Visited.{HasPricesOf}
+use Rattle.search_core.specs.Outline.{handed_out}
+use Rattle.search_core.specs.Visited.{HasPricesOf}
 
 -- steps from the start lead to the state of the search, whatever columns its causes are of; its open leaves wait under keys
 pub record IsSearching (s : Searching) : Type 0 where

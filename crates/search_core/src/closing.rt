@@ -6,10 +6,10 @@ ghost use Rattle.search_core.specs.Shown.{AreShown};
 ghost use Rattle.search_core.specs.Steps.{IsOutcome, IsShownOutcome};
 
 use crate::causes::{Outcome, in_order};
+use crate::outlines::outline_with;
 use crate::searches::Search;
 use search_laws::run_keeps;
 use std::alloc::AllocError;
-use tree_outlines::outline_with;
 
 impl<'i> Search<'i> {
     /// Ends the search: its best plan, its bound, its tree with the prices of its leaves, and the causes of its splits, both in
@@ -24,7 +24,7 @@ impl<'i> Search<'i> {
         let alloc = *self.prices.allocator();
         let bound = self.bound();
         let bare = self.best() == 0;
-        let outline = outline_with(alloc, &self.limits, &self.keyed, &self.prices, bare)?;
+        let outline = outline_with(alloc, &self.keyed, &self.prices, bare)?;
         let causes = in_order(alloc, &outline.causes, &self.causes)?;
         Ok(Outcome {
             plan: self.plan,

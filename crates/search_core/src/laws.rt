@@ -9,7 +9,7 @@ ghost use Rattle.search_core.specs.Searching.{Searching, limits_of_key, state_of
 ghost use Rattle.search_core.specs.Steps.{IsClosed, IsKeyStep, IsOutcome, IsSearching};
 ghost use Rattle.search_core.specs.declared.causes.Outcome.{Outcome};
 ghost use Rattle.search_terms.specs.Search.{IsBound, IsSearchRun, IsSearched, SearchState, best};
-ghost use Rattle.tree_outlines.specs.Outline.{IsPricedAs, handed_out};
+ghost use Rattle.search_core.specs.Outline.{IsPricedAs, handed_out};
 
 use search_laws::{decided_nodes_are_closed, steps_improve};
 

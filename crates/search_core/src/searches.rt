@@ -3,8 +3,8 @@ ghost use Rattle.std.specs.Prelude.{◌≡◌, ◌≤◌, ◌<◌, ◌⊎◌, �
 ghost use Rattle.crew_terms.specs.Leaf.{zero_prices};
 ghost use Rattle.crew_terms.specs.Limits.{Route as TeamRoute, root_limits};
 ghost use Rattle.crew_terms.specs.declared.TheConstants.{MOST_NODES};
-ghost use Rattle.keyed_tree.specs.Aged.{leaves_of};
-ghost use Rattle.keyed_tree.specs.Keyed.{IsKeyed};
+ghost use Rattle.search_tree.specs.Aged.{leaves_of};
+ghost use Rattle.search_tree.specs.Keyed.{IsKeyed};
 ghost use Rattle.node_queue.specs.Waits.{keys_of};
 ghost use Rattle.search_core.specs.Kept.{IsKeptSearch};
 ghost use Rattle.search_core.specs.Searching.{IsOpenKey, state_of};
@@ -16,14 +16,13 @@ use crate::causes::Cause;
 use crate::effort::Effort;
 use crew_instance::{Instance, Plan, unassigned};
 use kept_prices::KeptPrices;
-use keyed_steps::least_bounds;
-use keyed_tree::{KeyedTree, numbers_stay};
 use label_pricing::{Pricer, most_proved};
 use node_limits::Limits;
 use plan_builder::greedy;
 use plan_search::{Effort as PlanEffort, better};
 use potentials::Prices;
 use search_laws::run_keeps;
+use search_tree::{KeyedTree, least_bounds, numbers_stay};
 use std::alloc::{AllocError, Global};
 use std::marker::Model;
 

@@ -1,16 +1,16 @@
 // The tree, the prices and the causes of a search after a step.
 ghost use Rattle.std.specs.Prelude.{◌≡◌, ◌++◌, ◌<◌, ◌*◌, ◌^◌, ℕ, ℤ, length, unwrap_or, vec_capacity, OnErr, OnOk};
 ghost use Rattle.crew_terms.specs.declared.TheConstants.{MOST_NODES};
-ghost use Rattle.keyed_tree.specs.Keyed.{IsKey, IsKeyed, IsWaiting};
+ghost use Rattle.search_tree.specs.Keyed.{IsKey, IsKeyed, IsWaiting};
 ghost use Rattle.node_solver.specs.Plans.{now_after};
 ghost use Rattle.search_core.specs.Settled.{IsPut, IsPutClosed, IsPutSplit, number_of, option_items};
 
 use crate::causes::Cause;
 use crate::finding::Ending;
+use crate::handing::Handed;
 use crew_instance::{Plan, unassigned};
-use handed_prices::Handed;
 use kept_prices::KeptPrices;
-use keyed_tree::{Choice, KeyedTree};
+use search_tree::{Choice, KeyedTree};
 use std::alloc::AllocError;
 
 /// Closes the leaf under the key by these prices.

@@ -12,8 +12,7 @@ use crate::effort::Effort;
 use crate::searches::Search;
 use column_arena::Columns;
 use crew_instance::Instance;
-use keyed_steps::least_bounds;
-use keyed_tree::leaves_keep_order;
+use search_tree::{least_bounds, leaves_keep_order};
 use std::alloc::{AllocError, Global};
 
 impl<'i> Search<'i> {

@@ -5,9 +5,9 @@ ghost use Rattle.crew_terms.specs.Limits.{Route as TeamRoute};
 ghost use Rattle.crew_terms.specs.Plan.{Plan as TaskPlan, unassigned_count};
 ghost use Rattle.crew_terms.specs.Rules.{IsInstance};
 ghost use Rattle.crew_terms.specs.declared.Choice.{Choice};
-ghost use Rattle.handed_prices.specs.declared.handing.Handed.{Handed};
-ghost use Rattle.keyed_steps.specs.States.{limits_of};
-ghost use Rattle.keyed_tree.specs.Keyed.{IsKeyed, IsWaiting, Keyed};
+ghost use Rattle.search_core.specs.declared.handing.Handed.{Handed};
+ghost use Rattle.search_tree.specs.States.{limits_of};
+ghost use Rattle.search_tree.specs.Keyed.{IsKeyed, IsWaiting, Keyed};
 ghost use Rattle.node_solver.specs.Plans.{IsBetterPlan, now_after};
 ghost use Rattle.node_solver.specs.declared.step.Why.{Why};
 ghost use Rattle.search_core.specs.Findings.{IsClosing, IsHandedSplit};
@@ -20,9 +20,11 @@ ghost use Rattle.search_terms.specs.Search.{Extends};
 ghost use Rattle.search_tree.specs.Numbered.{node_of};
 ghost use Rattle.search_tree.specs.declared.nodes.Content.TheVariants as content;
 
-use keyed_steps::{run_leaves, steps_at_closed, steps_at_split};
-use keyed_tree::{leaves_keep_order, numbers_stay, same_numbers_same_tree};
 use search_laws::{loose_splits_stay_shown, run_keeps};
+use search_tree::{
+    leaves_keep_order, numbers_stay, run_leaves, same_numbers_same_tree, steps_at_closed,
+    steps_at_split,
+};
 
 /// Where the prices that were found close the leaf under a key, that is a step, and what always holds goes on to hold.
 pub(crate) fn closings_are_steps()

@@ -11,9 +11,9 @@ use crate::settling::{count_after, keep_plan, put_ending};
 use crate::stepping::{closings_are_steps, splits_are_steps};
 use column_arena::Columns;
 use crew_instance::unassigned;
-use keyed_steps::run_leaves;
 use search_laws::run_keeps;
 use search_terms::PIVOTS;
+use search_tree::run_leaves;
 use std::alloc::AllocError;
 
 impl<'i> Search<'i> {

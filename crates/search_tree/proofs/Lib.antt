@@ -3,3 +3,8 @@ pub mod Leading
 pub mod Changing
 pub mod Numbering
 pub mod Opening
+pub mod Found
+pub mod Aged
+pub mod Numbered
+pub mod Keeping
+pub mod Sound

@@ -1,3 +1,9 @@
 pub mod Leaves
 pub mod Trees
 pub mod Parts
+pub mod ReadBack
+pub mod SolvedTrees
+pub mod Pools
+pub mod Told
+pub mod OneMore
+pub mod SameCauses

@@ -1,1 +1,4 @@
 pub mod Proved
+pub mod ReadBack
+pub mod Solved
+pub mod Told

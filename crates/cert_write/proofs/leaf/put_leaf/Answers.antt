@@ -1,19 +1,23 @@
-use Rattle.crew_io.specs.Chains.{puts_then, puts_same, puts_front}
-use Rattle.cert_write.proofs.Leaves.{extras_text, numbers_front_1, numbers_front_2}
+use Rattle.std.proofs.Common.{sym, subst}
+use Rattle.crew_terms.specs.Leaf.{Prices}
+use Rattle.potentials.specs.Prices.{ArePricesOf}
+use Rattle.cert_write.specs.Dossiers.{IsPricedLeaf}
 use Rattle.cert_write.proofs.leaf.put_leaf.Goals as goal
 
-pub returns-in_err-put_price_line-clause-puts : goal.returns-in_err-put_price_line-clause-puts
-returns-in_err-put_price_line-clause-puts g c leaf is =
-    puts_front g.K.Sink _ _ _ _ _ c.from_residual.result c.from_residual.ensures.0 c.in_err-put_price_line.ensures
-    (numbers_front_1 c.args.limits.now.limits c.args.prices.now leaf is)
+pub put-requires-clause-room : goal.put-requires-clause-room
+put-requires-clause-room g c = record { tasks = c.requires.room.prices.tasks; teams = c.requires.room.prices.teams }
 
-pub returns-in_err-put_extras-clause-puts : goal.returns-in_err-put_extras-clause-puts
-returns-in_err-put_extras-clause-puts g c leaf is =
-    puts_front g.K.Sink _ _ _ _ _ c.from_residual-in_err-put_extras.result c.from_residual-in_err-put_extras.ensures.0
-    (puts_then g.K.Sink _ _ _ _ _ _ _ c.in_ok-put_price_line.ensures c.in_err-put_extras.ensures)
-    (numbers_front_2 c.args.limits.now.limits c.args.prices.now leaf is)
+pub put_numbers-requires-clause-prices : goal.put_numbers-requires-clause-prices
+put_numbers-requires-clause-prices g c = subst (λ (p : Prices). ArePricesOf c.args.limits.now.limits p) (sym c.put.ensures) c.requires.prices
 
 pub returns-clause-puts : goal.returns-clause-puts
 returns-clause-puts g c leaf is =
-    puts_same g.K.Sink _ _ _ _ _ (extras_text c.args.limits.now.limits c.args.prices.now leaf is)
-    (puts_then g.K.Sink _ _ _ _ _ _ _ (puts_then g.K.Sink _ _ _ _ _ _ _ c.in_ok-put_price_line.ensures c.in_ok-put_extras.ensures) (c.put_tables.ensures.puts leaf.tables is.tables))
+    c.put_numbers.ensures.puts leaf (subst (λ (p : Prices). IsPricedLeaf c.args.limits.now.limits p leaf) (sym c.put.ensures) is)
+
+pub returns-clause-room : goal.returns-clause-room
+returns-clause-room g c =
+    let put = subst (λ (p : Prices). ArePricesOf c.args.limits.now.limits p) (sym c.put.ensures) c.requires.prices in record {
+      pricer = c.put_numbers.ensures.room;
+      prices = record { tasks = put.tasks; teams = put.teams };
+      table = c.put_numbers.ensures.table;
+    }

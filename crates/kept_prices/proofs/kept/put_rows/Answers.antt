@@ -1,9 +1,9 @@
-use Rattle.std.proofs.Common.{◌≡◌, ◌∙◌, ◌≤◌, ◌<◌, [], ℕ, ℤ, List, ap, sym, subst, length, get_or, pos, arith}
+use Rattle.std.proofs.Common.{◌≡◌, ◌∙◌, [], ℤ, List, ap, sym, subst, length, get_or, pos, arith}
 use Rattle.std.proofs.lemmas.List.{length-map}
 use Rattle.std.specs.Global.{Vec}
 use Rattle.crew_terms.specs.Leaf.{IsPrice}
 use Rattle.kept_prices.specs.Rows.{IsRowFor, row_at, rows_in, whole_row}
-use Rattle.kept_prices.proofs.RowLemmas.{row_few, row_is, same_by, same_prices}
+use Rattle.kept_prices.proofs.RowLemmas.{row_is, same_by, same_prices}
 use Rattle.kept_prices.proofs.kept.put_rows.Goals as goal
 
 pub put_row-requires-clause-row : goal.put_row-requires-clause-row
@@ -15,9 +15,7 @@ put_row-requires-clause-row c =
 
 pub put_row-requires-clause-few : goal.put_row-requires-clause-few
 put_row-requires-clause-few c =
-    let e = c.deref.ensures.value ∙ row_is c.args.teams.now c.index-teams-k.result c.loop-k.k (omega arith) c.index-teams-k.is in
-    let l = ap length e in
-    let m = row_few (length c.args.prices.now.pi) (row_at c.args.teams.now c.loop-k.k) (c.requires.rows.count c.loop-k.k) in
+    let e = ap length c.loop-k.invariant.tasks in
     let n = c.requires.few_tasks in
     omega arith
 

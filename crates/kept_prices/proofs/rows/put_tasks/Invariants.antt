@@ -1,4 +1,4 @@
-use Rattle.std.proofs.Common.{◌≡◌, ◌<◌, ℕ, ℤ, List, length, take}
+use Rattle.std.proofs.Common.{◌≡◌, ℤ, List, length, take}
 use Rattle.kept_prices.proofs.rows.put_tasks.Given as goal
 
 abbrev pub invariant-loop-j : goal.invariant-loop-j

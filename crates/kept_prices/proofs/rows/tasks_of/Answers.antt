@@ -1,4 +1,4 @@
-use Rattle.std.proofs.Common.{◌≡◌, ◌∙◌, ℕ, ap, length, map}
+use Rattle.std.proofs.Common.{◌≡◌, ◌∙◌, ap, length, map}
 use Rattle.std.specs.List.{range_with_len}
 use Rattle.std.proofs.lemmas.Result.{IfOk-weaker}
 use Rattle.crew_terms.specs.Instance.{Instance}

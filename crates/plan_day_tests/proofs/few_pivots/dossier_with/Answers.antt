@@ -7,8 +7,8 @@ use Rattle.crew_terms.specs.Instance.{Instance}
 use Rattle.crew_terms.specs.Limits.{root_limits}
 use Rattle.search_core.specs.Searching.{state_of}
 use Rattle.search_core.specs.declared.causes.Cause.{Cause as SplitReason}
-use Rattle.solved_laws.specs.Told.{AreTold}
-use Rattle.tree_outlines.specs.Outline.{handed_out}
+use Rattle.written_laws.specs.Told.{AreTold}
+use Rattle.search_core.specs.Outline.{handed_out}
 use Rattle.plan_day_tests.proofs.few_pivots.dossier_with.Goals as goal
 
 -- the tree of the search, with prices of its nodes and a cause for each split

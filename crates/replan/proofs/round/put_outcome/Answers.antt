@@ -6,7 +6,7 @@ use Rattle.cert_write.specs.Given.{AreWritable}
 use Rattle.dossier_terms.specs.Dossier.{Dossier}
 use Rattle.replan.specs.Counts.{counts_of}
 use Rattle.replan.specs.Given.{parts_of}
-use Rattle.solved_laws.specs.Told.{AreTold}
+use Rattle.written_laws.specs.Told.{AreTold}
 use Rattle.replan.specs.Planning.{IsRoundPut, fault_of_put}
 use Rattle.replan.proofs.Dossiers.{IsRoundOf, err_is, of_outcome, put_failed, put_whole, tells_failed, tells_whole}
 use Rattle.replan.proofs.round.put_outcome.Goals as goal

@@ -6,7 +6,7 @@ use Rattle.crew_terms.specs.Instance.{Instance}
 use Rattle.crew_terms.specs.Leaf.{IsOnRequired}
 use Rattle.crew_terms.specs.Limits.{Limits, tasks_in}
 use Rattle.crew_terms.specs.Plan.{unassigned_count}
-use Rattle.keyed_steps.specs.States.{DecidesProved}
+use Rattle.search_tree.specs.States.{DecidesProved}
 use Rattle.label_pricing.specs.Pricing.{HasRoom}
 use Rattle.node_limits.specs.Trail.{Trail}
 use Rattle.node_walk.specs.Walks.{walked}

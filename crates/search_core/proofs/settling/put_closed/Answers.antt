@@ -1,6 +1,6 @@
 use Rattle.std.proofs.Common.{◌≡◌, ℕ, length, arith, subst}
 use Rattle.std.proofs.lemmas.Grind.{common_steps}
-use Rattle.keyed_tree.specs.Keyed.{IsTaken}
+use Rattle.search_tree.specs.Keyed.{IsTaken}
 use Rattle.search_core.proofs.settling.put_closed.Goals as goal
 
 pub returns-clause-put : goal.returns-clause-put

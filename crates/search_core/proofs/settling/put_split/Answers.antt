@@ -1,7 +1,7 @@
 use Rattle.std.proofs.Common.{◌≡◌, ◌∙◌, ◌++◌, ℕ, List, length, arith, ap, subst, rules}
 use Rattle.std.proofs.lemmas.Grind.{common_steps}
 use Rattle.crew_terms.specs.Leaf.{Prices}
-use Rattle.keyed_tree.specs.Keyed.{IsTurned}
+use Rattle.search_tree.specs.Keyed.{IsTurned}
 use Rattle.search_core.specs.Settled.{number_of, option_items}
 use Rattle.search_core.proofs.settling.put_split.Goals as goal
 

@@ -5,7 +5,7 @@ use Rattle.std.proofs.lemmas.List.{append-nil}
 use Rattle.crew_terms.specs.Instance.{Instance}
 use Rattle.crew_terms.specs.Leaf.{zero_prices}
 use Rattle.crew_terms.specs.Limits.{Route, root_limits}
-use Rattle.keyed_tree.specs.Aged.{leaves_of, leaves_without}
+use Rattle.search_tree.specs.Aged.{leaves_of, leaves_without}
 use Rattle.search_core.specs.Searching.{state_of, way_to}
 use Rattle.search_core.specs.Steps.{IsDone, IsOutcome, IsShownOutcome, IsSolved}
 use Rattle.search_core.specs.declared.causes.Outcome.{Outcome}

@@ -1,6 +1,6 @@
 use Rattle.std.proofs.Common.{◌≡◌, List}
 use Rattle.crew_terms.specs.Limits.{Route}
-use Rattle.keyed_tree.specs.Aged.{leaves_of}
+use Rattle.search_tree.specs.Aged.{leaves_of}
 use Rattle.search_core.specs.Searching.{state_of}
 use Rattle.search_core.specs.Shown.{AreLoosePriced, AreShown}
 use Rattle.search_core.specs.Solved.{IsGrown}

@@ -5,9 +5,9 @@ use Rattle.crew_terms.specs.Leaf.{Prices}
 use Rattle.crew_terms.specs.Limits.{Limits, Route, root_limits}
 use Rattle.crew_terms.specs.Plan.{unassigned_count}
 use Rattle.crew_terms.specs.declared.Side.{Side}
-use Rattle.keyed_steps.specs.States.{limits_of, state_in}
-use Rattle.keyed_tree.specs.Aged.{leaves_without}
-use Rattle.keyed_tree.specs.Numbers.{HaveNumbers}
+use Rattle.search_tree.specs.States.{limits_of, state_in}
+use Rattle.search_tree.specs.Aged.{leaves_without}
+use Rattle.search_tree.specs.Numbers.{HaveNumbers}
 use Rattle.search_core.specs.Searching.{Searching, cause_at, price_at, state_of, way_to}
 use Rattle.search_core.specs.Steps.{after_step}
 use Rattle.search_terms.specs.Proven.{PricesProve}

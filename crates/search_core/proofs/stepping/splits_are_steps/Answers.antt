@@ -8,11 +8,11 @@ use Rattle.crew_terms.specs.Plan.{unassigned_count}
 use Rattle.crew_terms.specs.Tree.{child}
 use Rattle.crew_terms.specs.declared.Side.{Side}
 use Rattle.crew_terms.specs.declared.Side.TheVariants.{First, Second}
-use Rattle.handed_prices.specs.Handed.{prices_or}
-use Rattle.keyed_steps.specs.States.{DecidesProved, limits_of, state_in}
-use Rattle.keyed_tree.specs.Aged.{leaves_of, leaves_without}
-use Rattle.keyed_tree.specs.Keyed.{Before, IsFirst, IsSecond}
-use Rattle.keyed_tree.specs.Numbers.{HasNumber, HaveNumbers}
+use Rattle.search_core.specs.Handed.{prices_or}
+use Rattle.search_tree.specs.States.{DecidesProved, limits_of, state_in}
+use Rattle.search_tree.specs.Aged.{leaves_of, leaves_without}
+use Rattle.search_tree.specs.Keyed.{Before, IsFirst, IsSecond}
+use Rattle.search_tree.specs.Numbers.{HasNumber, HaveNumbers}
 use Rattle.node_solver.specs.Plans.{now_after}
 use Rattle.search_core.specs.Counts.{few_unassigned}
 use Rattle.search_core.specs.Searching.{Searching, cause_at, price_at, split_cause, state_of, way_to}

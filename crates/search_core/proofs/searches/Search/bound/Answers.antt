@@ -3,7 +3,7 @@ use Rattle.std.specs.Int.{w128}
 use Rattle.std.specs.Prelude.{FitsSigned}
 use Rattle.std.proofs.lemmas.Int.{ints, to_z-of_z}
 use Rattle.crew_terms.specs.Leaf.{Proves}
-use Rattle.keyed_steps.specs.States.{IsLeastCount}
+use Rattle.search_tree.specs.States.{IsLeastCount}
 use Rattle.search_core.specs.Counts.{few_unassigned}
 use Rattle.search_core.specs.Kept.{searching}
 use Rattle.search_core.specs.Searching.{Searching, cause_at, price_at, state_of}

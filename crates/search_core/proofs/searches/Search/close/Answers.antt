@@ -3,9 +3,9 @@ use Rattle.std.specs.Prelude.{All, ◌==◌}
 use Rattle.branch_tree.specs.Entries.{EachSplitOf}
 use Rattle.branch_tree.specs.Trees.{preorder}
 use Rattle.crew_terms.specs.Leaf.{Prices}
-use Rattle.crew_terms.specs.Limits.{Limits, root_limits}
+use Rattle.crew_terms.specs.Limits.{root_limits}
 use Rattle.crew_terms.specs.Plan.{unassigned_count}
-use Rattle.keyed_tree.specs.Numbers.{HaveNumbers}
+use Rattle.search_tree.specs.Numbers.{HaveNumbers}
 use Rattle.potentials.specs.Prices.{ArePricesOf}
 use Rattle.search_core.specs.Kept.{searching}
 use Rattle.search_core.specs.Ordered.{cause_with}
@@ -16,8 +16,8 @@ use Rattle.search_core.specs.declared.causes.Cause.{Cause}
 use Rattle.search_core.specs.declared.causes.Outcome.{Outcome}
 use Rattle.search_terms.specs.Search.{IsBound, best}
 use Rattle.search_tree.specs.Numbered.{tree_of}
-use Rattle.tree_outlines.specs.Outline.{handed_out, outline_with}
-use Rattle.tree_outlines.specs.Visited.{HasPricesOf}
+use Rattle.search_core.specs.Outline.{handed_out, outline_with}
+use Rattle.search_core.specs.Visited.{HasPricesOf}
 use Rattle.search_core.proofs.HandingOut.{causes_held, same_splits}
 use Rattle.search_core.proofs.Showing.{shown_outline}
 use Rattle.search_core.proofs.searches.Search.close.Goals as goal
@@ -29,13 +29,6 @@ outline_with-requires-clause-numbers c =
       length a.causes.items,
       subst (λ (ps : List Prices). HaveNumbers (length ps) (length a.causes.items) a.keyed.nodes) (sym same) c.self.invariant.search.fitting.numbers,
     )
-
-pub outline_with-requires-clause-shapes : goal.outline_with-requires-clause-shapes
-outline_with-requires-clause-shapes c =
-    let a = c.self.inside in
-    let same : c.deref.result.now ≡ a.prices.items = search rules in
-    subst (λ (ps : List Prices). All (ArePricesOf a.limits.limits) ps) (sym same)
-    (subst (λ (n : Limits). All (ArePricesOf n) a.prices.items) (sym c.self.invariant.root) c.self.invariant.search.fitting.shapes)
 
 pub outline_with-requires-clause-few : goal.outline_with-requires-clause-few
 outline_with-requires-clause-few c = λ p d.
@@ -73,7 +66,8 @@ returns-clause-outcome c = λ columns.
       tree = c.in_ok-outline.ensures.tree f
           ∙ ap (λ (ps : List Prices). preorder (outline_with (c.best-bare.result == 0) (tree_of (price_at ps) f a.keyed.nodes))) same
           ∙ ap (λ (n : ℕ). preorder (outline_with (n == 0) (tree_of (price_at a.prices.items) f a.keyed.nodes))) count;
-      prices = subst (λ (n : Limits). All (HasPricesOf n) c.in_ok-outline.outline.tree) c.self.invariant.root c.in_ok-outline.ensures.prices;
+      prices = c.in_ok-outline.ensures.prices (root_limits a.limits.limits.instance)
+          (subst (λ (ps : List Prices). All (ArePricesOf (root_limits a.limits.limits.instance)) ps) (sym same) c.self.invariant.search.fitting.shapes);
       causes = ap (λ (cs : List Cause). map (split_cause columns) cs) (c.in_ok-causes.ensures
           ∙ ap (λ (cs : List Cause). map (cause_with cs) c.deref-2.result.now) causes
           ∙ ap (λ (ks : List ℕ). map (cause_with a.causes.items) ks) numbers)

@@ -3,8 +3,8 @@ use Rattle.std.specs.Prelude.{IfNone, IfSome}
 use Rattle.std.proofs.lemmas.Grind.{common_steps}
 use Rattle.crew_terms.specs.Instance.{Instance}
 use Rattle.crew_terms.specs.declared.Side.{Side}
-use Rattle.keyed_tree.specs.Aged.{leaves_of, leaves_without}
-use Rattle.keyed_tree.specs.Keyed.{IsKey, IsKeyed, IsWaiting, Keyed}
+use Rattle.search_tree.specs.Aged.{leaves_of, leaves_without}
+use Rattle.search_tree.specs.Keyed.{IsKey, IsKeyed, IsWaiting, Keyed}
 use Rattle.node_queue.specs.Waits.{IsLeast}
 use Rattle.search_core.specs.Kept.{searching}
 use Rattle.search_core.specs.Searching.{IsDueKey, Searching, cause_at, price_at, state_of}

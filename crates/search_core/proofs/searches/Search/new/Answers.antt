@@ -5,9 +5,9 @@ use Rattle.std.proofs.lemmas.Int.{to_z-of_z}
 use Rattle.crew_terms.specs.Instance.{Instance}
 use Rattle.crew_terms.specs.Leaf.{Prices, zero_prices}
 use Rattle.crew_terms.specs.Limits.{Limits, root_limits}
-use Rattle.keyed_steps.specs.States.{DecidesProved}
-use Rattle.keyed_tree.specs.Aged.{leaves_of}
-use Rattle.keyed_tree.specs.Keyed.{Keyed, keyed_root}
+use Rattle.search_tree.specs.States.{DecidesProved}
+use Rattle.search_tree.specs.Aged.{leaves_of}
+use Rattle.search_tree.specs.Keyed.{Keyed, keyed_root}
 use Rattle.label_pricing.specs.Pricing.{HasRoom}
 use Rattle.node_limits.specs.Trail.{Trail}
 use Rattle.potentials.specs.Prices.{ArePricesOf}

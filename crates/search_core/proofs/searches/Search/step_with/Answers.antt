@@ -7,9 +7,9 @@ use Rattle.crew_terms.specs.Leaf.{IsOnRequired, Prices}
 use Rattle.crew_terms.specs.Limits.{Limits, Route, root_limits, tasks_in}
 use Rattle.crew_terms.specs.Plan.{unassigned_count}
 use Rattle.crew_terms.specs.declared.Choice.{Choice}
-use Rattle.handed_prices.specs.declared.handing.Handed.{Handed}
-use Rattle.keyed_steps.specs.States.{DecidesProved, HasLeaf, limits_of}
-use Rattle.keyed_tree.specs.Keyed.{IsWaiting, Keyed}
+use Rattle.search_core.specs.declared.handing.Handed.{Handed}
+use Rattle.search_tree.specs.States.{DecidesProved, HasLeaf, limits_of}
+use Rattle.search_tree.specs.Keyed.{IsWaiting, Keyed}
 use Rattle.node_solver.specs.Plans.{now_after}
 use Rattle.node_solver.specs.declared.step.Why.{Why}
 use Rattle.potentials.specs.Prices.{ArePricesOf}

@@ -1,4 +1,0 @@
-pub mod Found
-pub mod Aged
-pub mod Numbered
-pub mod Keeping

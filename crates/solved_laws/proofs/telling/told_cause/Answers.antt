@@ -1,7 +1,0 @@
-use Rattle.std.proofs.Common.{sym, subst}
-use Rattle.node_solver.specs.declared.step.Why.{Why}
-use Rattle.solved_laws.specs.Told.{IsInRange}
-use Rattle.solved_laws.proofs.telling.told_cause.Goals as goal
-
-pub returns-in-Overflow-clause-range : goal.returns-in-Overflow-clause-range
-returns-in-Overflow-clause-range c = subst (λ (w : Why). IsInRange w) (sym c.in-Overflow.is) (c.told_overflow.ensures.first, c.told_overflow.ensures.second)
