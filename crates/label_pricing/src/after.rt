@@ -2,18 +2,16 @@
 ghost use Rattle.std.specs.Prelude.{◌≡◌, ◌≤◌, ◌<◌, ◌+◌, ℕ, ℤ, length};
 ghost use Rattle.crew_terms.specs.Rules.{IsInstance};
 ghost use Rattle.crew_terms.specs.Limits.{IsPermittedVisit, Limits as NodeLimits, tasks_in, teams_in};
-ghost use Rattle.crew_terms.specs.Leaf.{earned};
 ghost use Rattle.label_pricing.specs.Best.{IsAfter, IsBest, IsFirst};
 ghost use Rattle.label_pricing.specs.Cells.{AreCells, IsGrid};
 ghost use Rattle.label_pricing.specs.Turns.{IsEnd, IsStart, IsTurn};
-ghost use Rattle.potentials.specs.Prices.{ArePricesOf};
 
 use crate::grid::cell;
 use crate::labels::{Cell, Label, without};
 use crate::turns::Turn;
 use crew_instance::Instance;
 use node_limits::Limits;
-use potentials::Prices;
+use visit_rewards::Rewards;
 
 /// The most that a team can earn after task `j` at minute `t`.
 pub(crate) fn after(
@@ -76,10 +74,10 @@ pub(crate) fn first(grid: &[Cell], places: u32, start: u32) -> Label
 }
 
 /// What a visit to task `j` at minute `t` earns, with what can be earned after it.
-pub(crate) fn label_at(
+pub(crate) fn label_at<R: Rewards>(
     limits: &Limits<'_>,
     k: u32,
-    prices: &Prices,
+    prices: &R,
     grid: &[Cell],
     end: u32,
     turn: Turn,
@@ -87,20 +85,20 @@ pub(crate) fn label_at(
     t: u32,
 ) -> Label
     requires team { k < teams_in limits.now.limits }
-    requires prices { ArePricesOf limits.now.limits prices.now }
+    requires prices { R.AreOf limits.now.limits prices.now }
     requires visit { IsPermittedVisit limits.now.limits k j t }
     requires turn { IsTurn limits.now.limits k j turn }
     requires end { IsEnd limits.now.limits k end }
     requires day { end ≤ 2881 }
     requires grid { IsGrid (length limits.now.limits.instance.places) grid.now }
-    requires cells { AreCells limits.now.limits k (earned prices.now k) (t + 1) end grid.now }
+    requires cells { AreCells limits.now.limits k (R.earned limits.now.limits prices.now k) (t + 1) end grid.now }
     ensures task { result.task ≡ j }
     ensures start { result.start ≡ t }
-    ensures best { IsBest limits.now.limits k (earned prices.now k) j t result.value }
+    ensures best { IsBest limits.now.limits k (R.earned limits.now.limits prices.now k) j t result.value }
 {
     let next = after(limits.instance(), grid, end, turn, j, t);
     Label {
-        value: prices.reward(k, j) + next.value,
+        value: prices.reward(limits, k, j, t) + next.value,
         task: j,
         start: t,
     }

@@ -6,6 +6,7 @@ mod grid;
 mod labels;
 mod laws;
 mod likeness;
+mod minutes;
 mod near;
 mod pricer;
 mod proved;

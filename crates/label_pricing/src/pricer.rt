@@ -19,6 +19,7 @@ use node_limits::Limits;
 use potentials::{Prices, Table, bound};
 use std::alloc::{AllocError, Global};
 use std::marker::Model;
+use visit_rewards::Rewards;
 
 /// Room for the pricing of teams, taken once for an instance, with the route and the worths that were found last.
 ///
@@ -102,6 +103,55 @@ impl Pricer {
         let worth = self.work.price(limits, k, prices);
         self.looks = self.looks.saturating_add(self.work.looks());
         self.work.fill(limits, k, prices, table);
+        worth
+    }
+
+    /// The worth of team `k` in the node by rewards of any kind, in 1/D of a task. A route that earns it is found, and the
+    /// worths that were found last stay. It takes no memory.
+    pub fn price_rewards<R: Rewards>(&mut self, limits: &Limits<'_>, k: u32, prices: &R) -> i64
+        requires team { k < teams_in limits.now.limits }
+        requires prices { R.AreOf limits.now.limits prices.now }
+        requires room { HasRoom limits.now.limits.instance self.old }
+        ensures worth { IsWorth limits.now.limits k (R.earned limits.now.limits prices.now k)
+            result }
+        ensures route { IsRoute limits.now.limits k self.new.route }
+        ensures rewards { rewards (R.earned limits.now.limits prices.now k) self.new.route
+            ≡ result }
+        ensures worths { self.new.worths ≡ self.old.worths }
+        ensures room { self.new.places ≡ self.old.places }
+    {
+        let worth = self.work.price(limits, k, prices);
+        self.looks = self.looks.saturating_add(self.work.looks());
+        worth
+    }
+
+    /// The same, with the potentials of the team: at each visit the most that it can earn from there on. Since rewards may
+    /// change with the minute, each minute is looked at.
+    pub fn price_rewards_with<R: Rewards>(
+        &mut self,
+        limits: &Limits<'_>,
+        k: u32,
+        prices: &R,
+        table: &mut Table,
+    ) -> i64
+        requires team { k < teams_in limits.now.limits }
+        requires prices { R.AreOf limits.now.limits prices.now }
+        requires room { HasRoom limits.now.limits.instance self.old }
+        requires table { IsTableOf limits.now.limits.instance table.old }
+        ensures table { IsTableOf limits.now.limits.instance table.new }
+        ensures holds { HoldsLocally limits.now.limits k
+            (R.earned limits.now.limits prices.now k) (phi table.new) result }
+        ensures worth { IsWorth limits.now.limits k (R.earned limits.now.limits prices.now k)
+            result }
+        ensures route { IsRoute limits.now.limits k self.new.route }
+        ensures rewards { rewards (R.earned limits.now.limits prices.now k) self.new.route
+            ≡ result }
+        ensures worths { self.new.worths ≡ self.old.worths }
+        ensures room { self.new.places ≡ self.old.places }
+    {
+        let worth = self.work.price(limits, k, prices);
+        self.looks = self.looks.saturating_add(self.work.looks());
+        self.work.fill_minutes(limits, k, prices, table);
         worth
     }
 

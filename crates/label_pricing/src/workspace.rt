@@ -11,6 +11,7 @@ use crate::after::first;
 use crate::grid::cells_for;
 use crate::labels::Cell;
 use crate::laws::best_potentials_hold;
+use crate::minutes::fill_minutes;
 use crate::routes::follow;
 use crate::sweep::sweep;
 use crate::tables::fill;
@@ -20,6 +21,7 @@ use crew_terms::Visit;
 use node_limits::Limits;
 use potentials::{Prices, Table};
 use std::alloc::{AllocError, Global};
+use visit_rewards::Rewards;
 
 // The most tasks of an instance, and the most visits of a route.
 const TASKS: usize = 400;
@@ -63,14 +65,14 @@ impl Workspace {
 
     /// The most that team `k` can earn in the node by these prices, in 1/D of a task, and finds a route that earns it. It
     /// takes no memory.
-    pub fn price(&mut self, limits: &Limits<'_>, k: u32, prices: &Prices) -> i64
+    pub fn price<R: Rewards>(&mut self, limits: &Limits<'_>, k: u32, prices: &R) -> i64
         requires team { k < teams_in limits.now.limits }
-        requires prices { ArePricesOf limits.now.limits prices.now }
+        requires prices { R.AreOf limits.now.limits prices.now }
         requires room { HasWorkRoom (length limits.now.limits.instance.places) self.old }
-        ensures worth { IsWorth limits.now.limits k (earned prices.now k) result }
+        ensures worth { IsWorth limits.now.limits k (R.earned limits.now.limits prices.now k) result }
         ensures route { IsRoute limits.now.limits k self.new.route.items }
-        ensures rewards { rewards (earned prices.now k) self.new.route.items ≡ result }
-        ensures priced { HasPriced limits.now.limits k (earned prices.now k) self.new }
+        ensures rewards { rewards (R.earned limits.now.limits prices.now k) self.new.route.items ≡ result }
+        ensures priced { HasPriced limits.now.limits k (R.earned limits.now.limits prices.now k) self.new }
         ensures room { HasWorkRoom (length limits.now.limits.instance.places) self.new }
     {
         find_turns(limits, k, &mut self.turns);
@@ -126,6 +128,41 @@ impl Workspace {
     {
         best_potentials_hold();
         fill(
+            limits,
+            k,
+            prices,
+            &self.turns,
+            &self.cells,
+            self.start,
+            self.end,
+            table,
+        );
+    }
+
+    /// The same where rewards may change with the minute, so that each minute is looked at.
+    pub fn fill_minutes<R: Rewards>(
+        &self,
+        limits: &Limits<'_>,
+        k: u32,
+        prices: &R,
+        table: &mut Table,
+    )
+        requires team { k < teams_in limits.now.limits }
+        requires prices { R.AreOf limits.now.limits prices.now }
+        requires priced { HasPriced limits.now.limits k (R.earned limits.now.limits prices.now k)
+            self.now }
+        requires table { IsTableOf limits.now.limits.instance table.old }
+        ensures table { IsTableOf limits.now.limits.instance table.new }
+        ensures best { (j t : ℕ) → IsPermittedVisit limits.now.limits k j t
+            → IsBest limits.now.limits k (R.earned limits.now.limits prices.now k) j t
+            (phi table.new j t) }
+        ensures holds { (worth : ℤ)
+            → IsWorth limits.now.limits k (R.earned limits.now.limits prices.now k) worth
+            → HoldsLocally limits.now.limits k (R.earned limits.now.limits prices.now k)
+            (phi table.new) worth }
+    {
+        best_potentials_hold();
+        fill_minutes(
             limits,
             k,
             prices,

@@ -1,0 +1,4 @@
+mod Leasts
+mod Kept
+mod Sums
+mod Tests

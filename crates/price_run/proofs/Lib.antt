@@ -1,0 +1,4 @@
+mod Steps
+mod Pushed
+mod Counted
+mod Sums

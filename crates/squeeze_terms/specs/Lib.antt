@@ -1,0 +1,5 @@
+pub mod MinutePrices
+pub mod Possible
+pub mod Bound
+pub mod Run
+pub mod Squeezed
