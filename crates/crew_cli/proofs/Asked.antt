@@ -7,16 +7,17 @@ use Rattle.trial_command.specs.Trials.{AsksForTrial}
 use Rattle.trial_command.specs.declared.words.Trial.{Trial as TrialWords}
 use Rattle.crew_cli.specs.Run.{AskFor, promises_of}
 use Rattle.crew_cli.specs.declared.run.Command.{Command}
-use Rattle.crew_cli.specs.declared.run.Command.TheVariants.{Check, Rosters, Why, Apply, Day, Trial}
+use Rattle.crew_cli.specs.declared.run.Command.TheVariants.{Check, Rosters, Why, Delays, Apply, Day, Trial}
 
 -- the place of a command in their list
 place : Command → ℕ
 place Check = 0
 place Rosters = 1
 place Why = 2
-place Apply = 3
-place Day = 4
-place (Trial t) = 5
+place Delays = 3
+place Apply = 4
+place Day = 5
+place (Trial t) = 6
 
 -- the place of the command whose first word this is
 place_of : List ℕ → ℕ
@@ -24,9 +25,10 @@ place_of word =
     if bytes_eq word (codes "check") then 0
     else if bytes_eq word (codes "rosters") then 1
     else if bytes_eq word (codes "why") then 2
-    else if bytes_eq word (codes "apply") then 3
-    else if bytes_eq word (codes "day") then 4
-    else 5
+    else if bytes_eq word (codes "delays") then 3
+    else if bytes_eq word (codes "apply") then 4
+    else if bytes_eq word (codes "day") then 5
+    else 6
 
 -- a command's first word tells its place
 placed : (c : Command) → place_of (get_or (promises_of c).words 0 []) ≡ place c
@@ -34,6 +36,7 @@ unfolding place place_of
 placed Check = refl
 placed Rosters = refl
 placed Why = refl
+placed Delays = refl
 placed Apply = refl
 placed Day = refl
 placed (Trial t) = refl
@@ -44,6 +47,7 @@ unfolding place
 at_place words Check Check e p q = refl
 at_place words Rosters Rosters e p q = refl
 at_place words Why Why e p q = refl
+at_place words Delays Delays e p q = refl
 at_place words Apply Apply e p q = refl
 at_place words Day Day e p q = refl
 at_place words (Trial t) (Trial u) e p q = ap Trial (one_trial words t u p q)
@@ -55,11 +59,12 @@ one_command words a b p q =
     at_place words a b (sym (placed a) ∙ ap (λ (ws : List (List ℕ)). place_of (get_or ws 0 [])) (sym p.1 ∙ q.1) ∙ placed b) p q
 
 -- words that are none of the forms ask for none
-pub none_asked : (words : List (List ℕ)) → (words ≡ codes "check" ∷ [] → ⊥) → (words ≡ codes "rosters" ∷ [] → ⊥) → (words ≡ codes "why" ∷ [] → ⊥) → (words ≡ codes "apply" ∷ [] → ⊥) → (words ≡ codes "day" ∷ [] → ⊥)
+pub none_asked : (words : List (List ℕ)) → (words ≡ codes "check" ∷ [] → ⊥) → (words ≡ codes "rosters" ∷ [] → ⊥) → (words ≡ codes "why" ∷ [] → ⊥) → (words ≡ codes "delays" ∷ [] → ⊥) → (words ≡ codes "apply" ∷ [] → ⊥) → (words ≡ codes "day" ∷ [] → ⊥)
     → ((t : TrialWords) → AsksForTrial t words → ⊥) → (command : Command) → AskFor command words → ⊥
-none_asked words check rosters why apply day trial Check asks = check asks.1
-none_asked words check rosters why apply day trial Rosters asks = rosters asks.1
-none_asked words check rosters why apply day trial Why asks = why asks.1
-none_asked words check rosters why apply day trial Apply asks = apply asks.1
-none_asked words check rosters why apply day trial Day asks = day asks.1
-none_asked words check rosters why apply day trial (Trial t) asks = trial t asks
+none_asked words check rosters why delays apply day trial Check asks = check asks.1
+none_asked words check rosters why delays apply day trial Rosters asks = rosters asks.1
+none_asked words check rosters why delays apply day trial Why asks = why asks.1
+none_asked words check rosters why delays apply day trial Delays asks = delays asks.1
+none_asked words check rosters why delays apply day trial Apply asks = apply asks.1
+none_asked words check rosters why delays apply day trial Day asks = day asks.1
+none_asked words check rosters why delays apply day trial (Trial t) asks = trial t asks

@@ -14,6 +14,7 @@ use Rattle.dossier_terms.specs.Dossier.{Dossier}
 use Rattle.dossier_commands.specs.Says.{SaysNo, ReadsDossiers}
 use Rattle.dossier_commands.specs.declared.read.Ended.{Ended as DossiersEnded}
 use Rattle.dossier_commands.specs.declared.read.Ended.TheVariants as dossiers
+use Rattle.delay_command.specs.Says.{SaysRefused, TellsDelays}
 use Rattle.day_commands.specs.Rounds.{PlansOf, Stops, IsFineDay, SaysFirstRounds, SaysOutputPart, change_stop}
 use Rattle.day_commands.specs.Outputs.{MayHave, TextsOf}
 use Rattle.day_commands.specs.Fronts.{part_of, first_are_part}
@@ -29,10 +30,10 @@ use Rattle.trial_command.specs.Says.{RunsTrial, SaysLine, SaysLineFront, Nothing
 use Rattle.trial_command.specs.declared.trial.TrialEnded.{TrialEnded}
 use Rattle.trial_command.specs.declared.trial.TrialEnded.TheVariants as trial
 use Rattle.trial_command.specs.declared.words.Trial.{Trial as TrialWords}
-use Rattle.crew_cli.specs.Run.{Answers, AreDossiers, DaySays, DossiersSay, TrialSays, of_trial as trial_promises, over_days, over_dossiers, promises_of}
+use Rattle.crew_cli.specs.Run.{Answers, AreDelays, AreDossiers, DaySays, DelaysSay, DossiersSay, TrialSays, of_delays, of_trial as trial_promises, over_days, over_dossiers, promises_of}
 use Rattle.crew_cli.specs.Status.{dossiers_status, day_status, trial_status, is_done}
 use Rattle.crew_cli.specs.declared.run.Command.{Command}
-use Rattle.crew_cli.specs.declared.run.Command.TheVariants.{Check, Rosters, Why, Apply, Day, Trial}
+use Rattle.crew_cli.specs.declared.run.Command.TheVariants.{Check, Rosters, Why, Delays, Apply, Day, Trial}
 use Rattle.crew_cli.specs.declared.status.Status.{Status}
 use Rattle.crew_cli.specs.declared.status.Status.TheVariants as status
 
@@ -48,6 +49,10 @@ if_some (Some x) P h = h x
 no_is_not_fine : (text : Dossier → List ℕ) (left got later : Option (List ℕ)) (A B C : Type 0) → OfBytes left got later (SaysNo text) → IfSome left (λ input. AreDossiers input → A → B → C)
 no_is_not_fine text None got later A B C says = tt
 no_is_not_fine text (Some input) got later A B C says = λ fine a b. absurd (says.2.not_accepted fine.0 fine.1)
+
+refused_is_no_delays : (left got later : Option (List ℕ)) (A B C : Type 0) → OfBytes left got later SaysRefused → IfSome left (λ input. AreDelays input → A → B → C)
+refused_is_no_delays None got later A B C says = tt
+refused_is_no_delays (Some input) got later A B C says = λ fine a b. absurd (says.2.no_form fine.0 fine.1 fine.2)
 
 refused_is_not_fine : (stops : Stops) (Plans : PlansOf) (left : Option (List ℕ)) (A B C : Type 0) → IfSome left (λ input. IsFineDay stops Plans input → ⊥) → IfSome left (λ input. IsFineDay stops Plans input → A → B → C)
 refused_is_not_fine stops Plans None A B C says = tt
@@ -105,6 +110,59 @@ module _ {S K : Type 0} (source : SourceTells S) (sink : SinkTells K) (src later
     complete = if_some (source.left src) _ (λ input fine nr nw. absurd (nw (r.writes.cause refl)));
   }
   dossiers_answer word text (Err fault) r = record {
+    says = r.memory;
+    part = r.front;
+    ends = refl;
+    ended = λ _ e. absurd (cc);
+    unread = λ e. absurd (cc);
+    reads = tells_read r.reads (λ e. absurd (cc)) (λ e. absurd (cc));
+    writes = tells_write r.writes (λ e. absurd (cc)) (λ e. absurd (cc));
+    complete = if_some (source.left src) _ (λ input fine nr nw. inr refl);
+  }
+
+  -- the command `delays` answers by the status of its end
+  pub delays_answer : {E : Type 0} (ended : Result DossiersEnded E) → TellsDelays source sink src later out new ended → Answers source sink of_delays src later out new (dossiers_status ended)
+  delays_answer (Ok dossiers.Done) r = record {
+    says = r.says;
+    part = r.front;
+    ends = refl;
+    ended = λ _ _. r.ended refl;
+    unread = λ e. absurd (cc);
+    reads = tells_read r.reads (λ e. absurd (cc)) (λ e. absurd (cc));
+    writes = tells_write r.writes (λ e. absurd (cc)) (λ e. absurd (cc));
+    complete = if_some (source.left src) _ (λ input fine nr nw. inl refl);
+  }
+  delays_answer (Ok dossiers.No) r = record {
+    says = r.says;
+    part = r.front;
+    ends = refl;
+    ended = λ _ e. absurd (cc);
+    unread = λ e. absurd (cc);
+    reads = tells_read r.reads (λ e. absurd (cc)) (λ e. absurd (cc));
+    writes = tells_write r.writes (λ e. absurd (cc)) (λ e. absurd (cc));
+    complete = refused_is_no_delays (source.left src) (sink.got out) (sink.got new) _ _ _ r.says;
+  }
+  delays_answer (Ok dossiers.ReadFault) r = record {
+    says = r.says;
+    part = r.front;
+    ends = refl;
+    ended = λ _ e. absurd (cc);
+    unread = λ e. absurd (cc);
+    reads = tells_read r.reads (λ _. refl) (λ _. refl);
+    writes = tells_write r.writes (λ e. absurd (cc)) (λ e. absurd (cc));
+    complete = if_some (source.left src) _ (λ input fine nr nw. absurd (nr (r.reads.cause refl)));
+  }
+  delays_answer (Ok dossiers.WriteFault) r = record {
+    says = r.says;
+    part = r.front;
+    ends = refl;
+    ended = λ _ e. absurd (cc);
+    unread = λ e. absurd (cc);
+    reads = tells_read r.reads (λ e. absurd (cc)) (λ e. absurd (cc));
+    writes = tells_write r.writes (λ _. refl) (λ _. refl);
+    complete = if_some (source.left src) _ (λ input fine nr nw. absurd (nw (r.writes.cause refl)));
+  }
+  delays_answer (Err fault) r = record {
     says = r.memory;
     part = r.front;
     ends = refl;
@@ -255,6 +313,18 @@ dossiers_done text status.WriteFault unseen input written Full says fine read wr
 dossiers_done text status.Memory unseen input written Full says fine read write = inr (inl refl)
 dossiers_done text status.Unproved unseen input written Full says fine read write = absurd says
 
+-- nor are late tasks and a dossier that are fine
+delays_done : (answer : Status) (unseen : Option (List ℕ)) (input written : List ℕ) (Full : Type 0) → DelaysSay answer unseen input written → AreDelays input
+    → answer ≢ status.ReadFault → (answer ≡ status.WriteFault → Full) → IsTrue (is_done answer) ⊎ (answer ≡ status.Memory) ⊎ ((answer ≡ status.WriteFault) × Full)
+delays_done status.Done unseen input written Full says fine read write = inl refl
+delays_done status.No unseen input written Full says fine read write = absurd (says.no_form fine.0 fine.1 fine.2)
+delays_done status.Words unseen input written Full says fine read write = absurd says
+delays_done status.Refused unseen input written Full says fine read write = absurd says
+delays_done status.ReadFault unseen input written Full says fine read write = absurd (read refl)
+delays_done status.WriteFault unseen input written Full says fine read write = inr (inr (refl, write refl))
+delays_done status.Memory unseen input written Full says fine read write = inr (inl refl)
+delays_done status.Unproved unseen input written Full says fine read write = absurd says
+
 -- nor is a day that is fine
 day_done : (output : DayOutput) (answer : Status) (unseen : Option (List ℕ)) (input written : List ℕ) (Full : Type 0) → DaySays output answer unseen input written → IsFineDay change_stop (MayHave output) input
     → answer ≢ status.ReadFault → (answer ≡ status.WriteFault → Full) → IsTrue (is_done answer) ⊎ (answer ≡ status.Memory) ⊎ ((answer ≡ status.WriteFault) × Full)
@@ -285,6 +355,7 @@ pub fine_is_done : (command : Command) (answer : Status) (unseen : Option (List 
 fine_is_done Check answer unseen input written Full says fine read write = dossiers_done _ answer unseen input written Full says fine read write
 fine_is_done Rosters answer unseen input written Full says fine read write = dossiers_done _ answer unseen input written Full says fine read write
 fine_is_done Why answer unseen input written Full says fine read write = dossiers_done _ answer unseen input written Full says fine read write
+fine_is_done Delays answer unseen input written Full says fine read write = delays_done answer unseen input written Full says fine read write
 fine_is_done Apply answer unseen input written Full says fine read write = day_done Instances answer unseen input written Full says fine read write
 fine_is_done Day answer unseen input written Full says fine read write = day_done Dossiers answer unseen input written Full says fine read write
 fine_is_done (Trial t) answer unseen input written Full says fine read write = trial_done t answer unseen input written Full says write

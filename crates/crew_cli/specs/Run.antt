@@ -11,6 +11,9 @@ use Rattle.dossier_terms.specs.Texts.{yes_line}
 use Rattle.dossier_terms.specs.Accepted.{IsAccepted}
 use Rattle.dossier_commands.specs.Outputs.{roster_of, why_of}
 use Rattle.dossier_commands.specs.Says.{SaysYes, SaysNo, SaysFront, SaysReadFault, SaysTexts}
+use Rattle.late_lines.specs.declared.first_line.LateLine.{LateLine}
+use Rattle.delay_command.specs.Delays.{IsDelays}
+use Rattle.delay_command.specs.Says.{SaysCutOff, SaysDelays, SaysRefused, SaysNothing, SaysFront as SaysDelaysFront}
 use Rattle.day_commands.specs.Rounds.{IsFineDay, SaysRounds, IsRefusedOutput, SaysOutputPart, SaysFirstRounds, SaysNothingRead, change_stop}
 use Rattle.day_commands.specs.Outputs.{MayHave, TextsOf, ProvedOf, UnprovedOf, are_dossiers}
 use Rattle.day_commands.specs.declared.ended.DayOutput.{DayOutput}
@@ -21,7 +24,7 @@ use Rattle.trial_command.specs.Says.{SaysLine, SaysLineFront}
 use Rattle.trial_command.specs.declared.words.Trial.{Trial as TrialWords}
 use Rattle.crew_cli.specs.Status.{is_done}
 use Rattle.crew_cli.specs.declared.run.Command.{Command}
-use Rattle.crew_cli.specs.declared.run.Command.TheVariants.{Check, Rosters, Why, Apply, Day, Trial}
+use Rattle.crew_cli.specs.declared.run.Command.TheVariants.{Check, Rosters, Why, Delays, Apply, Day, Trial}
 use Rattle.crew_cli.specs.declared.status.Status.{Status}
 use Rattle.crew_cli.specs.declared.status.Status.TheVariants.{Done, No, Words, Refused, ReadFault, WriteFault, Memory, Unproved}
 
@@ -33,6 +36,15 @@ DossiersSay text ReadFault unseen input written = SaysReadFault text unseen inpu
 DossiersSay text WriteFault unseen input written = SaysFront text input written
 DossiersSay text Memory unseen input written = SaysTexts text input written
 DossiersSay text _ unseen input written = ⊥
+
+-- what a status says of the command `delays`; no other status comes
+abbrev pub DelaysSay : Status → Option (List ℕ) → List ℕ → List ℕ → Type 0
+DelaysSay Done unseen input written = SaysDelays input written
+DelaysSay No unseen input written = SaysRefused input written
+DelaysSay ReadFault unseen input written = SaysCutOff unseen input written
+DelaysSay WriteFault unseen input written = SaysDelaysFront input written
+DelaysSay Memory unseen input written = SaysNothing input written
+DelaysSay _ unseen input written = ⊥
 
 -- what a status says of a command over days, which writes this of each round; no other status comes
 abbrev pub DaySays : DayOutput → Status → Option (List ℕ) → List ℕ → List ℕ → Type 0
@@ -78,6 +90,10 @@ trial_ends_with _ = false
 abbrev pub AreDossiers : List ℕ → Type 0
 AreDossiers input = (dossiers : List Dossier) × IsAccepted input dossiers
 
+-- the bytes tell late tasks and a dossier whose plan does them
+abbrev pub AreDelays : List ℕ → Type 0
+AreDelays input = (lines : List LateLine) × (d : Dossier) × IsDelays input lines d
+
 -- any bytes
 abbrev pub AnyInput : List ℕ → Type 0
 AnyInput input = Unit {0}
@@ -102,6 +118,17 @@ over_dossiers word text = record {
   ends_with = dossiers_end_with;
   reads = true;
   fine = AreDossiers;
+}
+
+-- the command `delays`: it takes late tasks, and a dossier whose plan does them
+abbrev pub of_delays : Promises
+of_delays = record {
+  words = codes "delays" ∷ [];
+  in_range = Unit {0};
+  says = DelaysSay;
+  ends_with = dossiers_end_with;
+  reads = true;
+  fine = AreDelays;
 }
 
 -- a command over days, which writes this of each round: it takes a day of which it refuses no record, whichever legal plans its
@@ -132,6 +159,7 @@ abbrev pub promises_of : Command → Promises
 promises_of Check = over_dossiers (codes "check") yes_line
 promises_of Rosters = over_dossiers (codes "rosters") roster_of
 promises_of Why = over_dossiers (codes "why") why_of
+promises_of Delays = of_delays
 promises_of Apply = over_days (codes "apply") Instances
 promises_of Day = over_days (codes "day") Dossiers
 promises_of (Trial trial) = of_trial trial

@@ -10,6 +10,7 @@ pub use crate::status::Status;
 use crew_io::sink::Sink;
 use crew_io::source::Source;
 use day_commands::{DayOutput, write_rounds};
+use delay_command::write_delays;
 use dossier_commands::{Output, read_dossiers};
 use std::alloc::{AllocError, Global};
 use trial_command::{Trial, TrialEnded, write_trial};
@@ -23,6 +24,8 @@ pub enum Command {
     Rosters,
     /// `why`: read dossiers, and write of each good one what is in the way of its open tasks.
     Why,
+    /// `delays`: read tasks that end late and one dossier, and write what waits for what.
+    Delays,
     /// `apply`: read a day, and write the instance of each round.
     Apply,
     /// `day`: read a day, and write a dossier of each round.
@@ -53,6 +56,9 @@ impl Command {
         }
         if asks_for(words, "why") {
             return Some(Command::Why);
+        }
+        if asks_for(words, "delays") {
+            return Some(Command::Delays);
         }
         if asks_for(words, "apply") {
             return Some(Command::Apply);
@@ -134,6 +140,7 @@ fn answer<S: Source, K: Sink>(alloc: Global, command: Command, src: &mut S, out:
         Command::Check => read_all(alloc, Output::YesLines, src, out),
         Command::Rosters => read_all(alloc, Output::Rosters, src, out),
         Command::Why => read_all(alloc, Output::Why, src, out),
+        Command::Delays => of_dossiers(write_delays(alloc, src, out)),
         Command::Apply => plan_day(alloc, DayOutput::Instances, src, out),
         Command::Day => plan_day(alloc, DayOutput::Dossiers, src, out),
         Command::Trial(trial) => of_trial(write_trial(alloc, trial, out)),
@@ -143,7 +150,8 @@ fn answer<S: Source, K: Sink>(alloc: Global, command: Command, src: &mut S, out:
 /// Does what the words ask for. With `check` it reads one dossier after another, and writes a line `yes` with its
 /// counts for each good one; at the first line that is refused it writes a line `no` with its number and the reason,
 /// and ends. With `rosters` it does the same, and writes the roster of each good dossier in place of its line; with `why` what
-/// is in the way of its open tasks. With
+/// is in the way of its open tasks. With `delays` it reads which tasks end late, and one dossier, and writes what waits for
+/// what in its plan, or the line `no` of the first line that is refused. With
 /// `apply` it reads a day, and writes the instance of each round, up to the first record that is refused, and a line
 /// `refused` for that one. With `day` it does the same, and plans each round: it writes a dossier of it, which `check` says
 /// yes to. With `trial` it reads nothing: it plans a generated day, and writes one line with the numbers of its dossier. Other

@@ -4,6 +4,7 @@ ghost use Rattle.std.specs.Prelude.{◌≤◌};
 use crate::answers::YES;
 use crate::asserts::{holds_at, same, same_at};
 use crate::days::{DAY, crlf_text};
+use crate::delays::{JOINT, late_input};
 use crew_cli::run::{Status, run};
 use crew_cli::steady::{run_in_memory, run_steady};
 use crew_fixtures::dossiers::{ONE_TASK, TOGETHER, WITH_POOL};
@@ -205,6 +206,19 @@ fn rosters_in_pieces(rt: HostRuntime) -> Result<(), Fail> {
     assert_tells(&rt, alloc, "rosters", &both, 16, reads)?;
     let reads = reads_to_the_end(both.len(), 1);
     assert_tells(&rt, alloc, "rosters", &both, 1, reads)
+}
+
+#[test]
+fn delays_in_pieces(rt: HostRuntime) -> Result<(), Fail> {
+    let alloc = rt.alloc();
+    let input = late_input(alloc, &[b"late B 455"], JOINT)?;
+    let reads = reads_to_the_end(input.len(), 16);
+    assert_tells(&rt, alloc, "delays", &input, 16, reads)?;
+    let reads = reads_to_the_end(input.len(), 1);
+    assert_tells(&rt, alloc, "delays", &input, 1, reads)?;
+    // No read comes after the refusal.
+    let refused = late_input(alloc, &[b"late B 5761"], JOINT)?;
+    assert_tells(&rt, alloc, "delays", &refused, 1, 12)
 }
 
 /// The words of `crew check`.

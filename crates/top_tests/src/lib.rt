@@ -10,6 +10,8 @@ mod checks;
 #[cfg(test)]
 mod days;
 #[cfg(test)]
+mod delays;
+#[cfg(test)]
 mod faults;
 #[cfg(test)]
 mod forms;

@@ -1,9 +1,9 @@
 use Rattle.std.proofs.Common.{sym, subst}
 use Rattle.std.specs.Prelude.{codes}
-use Rattle.crew_cli.specs.Run.{Answers, of_trial, promises_of}
+use Rattle.crew_cli.specs.Run.{Answers, of_delays, of_trial, promises_of}
 use Rattle.crew_cli.specs.declared.run.Command.{Command}
 use Rattle.crew_cli.specs.declared.status.Status.{Status}
-use Rattle.crew_cli.proofs.Top.{trial_answers}
+use Rattle.crew_cli.proofs.Top.{delays_answer, trial_answers}
 use Rattle.crew_cli.proofs.run.answer.Goals as goal
 
 pub returns-in-Check : goal.returns-in-Check
@@ -20,6 +20,13 @@ pub returns-in-Why : goal.returns-in-Why
 returns-in-Why g c =
     subst (λ (a : Command). Answers g.S.Source g.K.Sink (promises_of a) c.args.src.now c.read_all-in-Why.new.src c.args.out.now c.read_all-in-Why.new.out c.read_all-in-Why.result)
     (sym c.in-Why.is) (c.read_all-in-Why.ensures (codes "why"))
+
+pub returns-in-Delays : goal.returns-in-Delays
+returns-in-Delays g c =
+    subst (λ (a : Command). Answers g.S.Source g.K.Sink (promises_of a) c.args.src.now c.write_delays.new.src c.args.out.now c.write_delays.new.out c.of_dossiers.result)
+    (sym c.in-Delays.is)
+    (subst (λ (s : Status). Answers g.S.Source g.K.Sink of_delays c.args.src.now c.write_delays.new.src c.args.out.now c.write_delays.new.out s)
+    (sym c.of_dossiers.ensures) (delays_answer g.S.Source g.K.Sink c.args.src.now c.write_delays.new.src c.args.out.now c.write_delays.new.out c.write_delays.result c.write_delays.ensures))
 
 pub returns-in-Apply : goal.returns-in-Apply
 returns-in-Apply g c =
