@@ -1,0 +1,8 @@
+// What the desk asks for.
+
+/// What is written of good dossiers.
+#[derive(Clone, Copy, Debug, PartialEq, Eq)]
+pub enum DeskOutput {
+    /// What changed from each plan to the next.
+    Changes,
+}
