@@ -1,0 +1,4 @@
+pub mod Pools
+pub mod Fits
+pub mod Visits
+pub mod Follows

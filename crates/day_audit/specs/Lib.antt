@@ -1,0 +1,3 @@
+pub mod Belongs
+pub mod Audited
+pub mod Kept
