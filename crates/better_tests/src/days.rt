@@ -21,7 +21,7 @@ fn entries_of(alloc: Global, number: u64, teams: u32, tasks: u32) -> Result<Vec<
 }
 
 /// The instance of a generated day.
-fn day(alloc: Global, number: u64, teams: u32, tasks: u32) -> Result<Instance, Fail>
+pub(crate) fn day(alloc: Global, number: u64, teams: u32, tasks: u32) -> Result<Instance, Fail>
     requires teams { teams ≤ MOST_TEAMS }
     requires tasks { tasks ≤ MOST_TASKS }
 {

@@ -1,7 +1,9 @@
-// Tests of the search for better plans.
+// Tests of the searches for better plans.
 #![tactic(auto)]
 
 #[cfg(test)]
 mod days;
+#[cfg(test)]
+mod ruined;
 #[cfg(test)]
 mod small;

@@ -31,7 +31,7 @@ fn leaves_three_of_twelve(rt: HostRuntime) -> Result<(), Fail> {
 }
 
 /// Two teams, and the task A from 07:00 to 07:30 for one of them and B at 07:30 alone for both, half an hour each.
-fn two_tasks(alloc: Global) -> Result<Builder, Fail> {
+pub(crate) fn two_tasks(alloc: Global) -> Result<Builder, Fail> {
     let joint = Task {
         earliest: 450,
         teams: 2,
@@ -42,7 +42,7 @@ fn two_tasks(alloc: Global) -> Result<Builder, Fail> {
 }
 
 /// The plan in which the first team begins A so late that B doesn't fit.
-fn late_plan(alloc: Global, day: &Instance) -> Result<Plan, Fail>
+pub(crate) fn late_plan(alloc: Global, day: &Instance) -> Result<Plan, Fail>
     ensures { IfOk result (λ p. IsLegal day.now p) }
 {
     let late = Use {
@@ -55,7 +55,7 @@ fn late_plan(alloc: Global, day: &Instance) -> Result<Plan, Fail>
 }
 
 /// When the first of two tasks is begun.
-fn first_start(plan: &Plan) -> Option<u32> {
+pub(crate) fn first_start(plan: &Plan) -> Option<u32> {
     if plan.len() != 2 {
         return None;
     }

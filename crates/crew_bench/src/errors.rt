@@ -8,7 +8,7 @@ use thiserror::Error;
 /// Why a measurement comes to nothing.
 #[derive(Debug, Error, Drop)]
 pub enum BenchError {
-    #[error("the words are: plan, pricing, widest, ascent, master, solve, root, again, columns, using or legal, a day's number, teams, tasks, a count")]
+    #[error("the words are: plan, ruin, pricing, widest, ascent, master, solve, root, again, columns, using or legal, a day's number, teams, tasks, a count; for ruin a seed and how few are enough")]
     Words,
     #[error("there is no memory")]
     Memory,

@@ -26,6 +26,11 @@ pub enum Figures {
         unassigned: u32,
         iterations: u32,
     },
+    /// What a plan leaves unassigned, and what it leaves after it was ruined and recreated.
+    Ruin {
+        first: u32,
+        second: u32,
+    },
     /// The unassigned tasks aimed at, a bound in 1/D of a task, what it proves unassigned, and the rounds that were made.
     Prices {
         goal: u32,
@@ -95,6 +100,7 @@ impl fmt::Display for Figures {
                 unassigned,
                 iterations,
             } => write!(f, "unassigned {unassigned} iterations {iterations}"),
+            Figures::Ruin { first, second } => write!(f, "first {first} second {second}"),
             Figures::Prices {
                 goal,
                 bound,

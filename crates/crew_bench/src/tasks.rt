@@ -19,6 +19,7 @@ use label_pricing::Pricer;
 use master_run::{Halt, Run};
 use node_limits::Limits;
 use plan_builder::greedy;
+use plan_ruin::{Effort as RuinEffort, rebuild};
 use plan_search::{Effort as SearchEffort, better};
 use potentials::Prices;
 use price_ascent::{Ascended, Effort, FoundRoute, ascend};
@@ -39,7 +40,9 @@ pub(crate) fn planned(
     alloc: Global,
     instance: &Instance,
     iterations: u32,
-) -> Result<Plan, AllocError> {
+) -> Result<Plan, AllocError>
+    ensures { IfOk result (λ p. IsLegal instance.now p) }
+{
     let effort = SearchEffort {
         iterations,
         enough: 0,
@@ -55,6 +58,20 @@ fn plan(alloc: Global, instance: &Instance, iterations: u32) -> Result<Figures, 
     Ok(Figures::Plan {
         unassigned,
         iterations,
+    })
+}
+
+/// What a plan leaves unassigned that is bettered by the first search, and then ruined and recreated.
+fn ruined(alloc: Global, instance: &Instance, work: &Work) -> Result<Figures, AllocError> {
+    let plan = planned(alloc, instance, FIRST_SEARCH)?;
+    let effort = RuinEffort {
+        looks: u64::from(work.count).saturating_mul(1_000_000),
+        seed: work.seed,
+    };
+    let found = rebuild(alloc, instance, &plan, work.enough, effort)?;
+    Ok(Figures::Ruin {
+        first: unassigned(&plan),
+        second: unassigned(&found),
     })
 }
 
@@ -151,6 +168,7 @@ pub fn done(alloc: Global, work: &Work) -> Result<Figures, BenchError> {
     let mut limits = Limits::root(alloc, &instance)?;
     let figures = match work.kind {
         Kind::Plan => plan(alloc, &instance, work.count)?,
+        Kind::Ruin => ruined(alloc, &instance, work)?,
         Kind::Pricing | Kind::Widest => pricing(alloc, &limits, work.count)?,
         Kind::Ascent => ascent(alloc, &limits, work.count)?,
         Kind::Master => run(alloc, &limits, work.count)?,

@@ -10,6 +10,8 @@ use std::string::String;
 pub enum Kind {
     /// A greedy plan, bettered.
     Plan,
+    /// A bettered plan, ruined and recreated.
+    Ruin,
     /// The worths of all teams.
     Pricing,
     /// The same over the widest day in place of a generated one.
@@ -32,7 +34,8 @@ pub enum Kind {
     Legal,
 }
 
-/// What is done, over the generated day with this number and so many teams and tasks, and how often or how long.
+/// What is done, over the generated day with this number and so many teams and tasks, and how often or how long; of a plan that
+/// is ruined and recreated the seed, and how few unassigned tasks are enough.
 #[derive(Clone, Copy, Debug)]
 pub struct Work {
     pub kind: Kind,
@@ -40,6 +43,8 @@ pub struct Work {
     pub teams: u32,
     pub tasks: u32,
     pub count: u32,
+    pub seed: u64,
+    pub enough: u32,
     ghost few_teams: { teams ≤ MOST_TEAMS },
     ghost few_tasks: { tasks ≤ MOST_TASKS },
 }
@@ -48,6 +53,7 @@ pub struct Work {
 fn kind_of(word: &str) -> Option<Kind> {
     match word {
         "plan" => Some(Kind::Plan),
+        "ruin" => Some(Kind::Ruin),
         "pricing" => Some(Kind::Pricing),
         "widest" => Some(Kind::Widest),
         "ascent" => Some(Kind::Ascent),
@@ -62,12 +68,24 @@ fn kind_of(word: &str) -> Option<Kind> {
     }
 }
 
+/// The number that is the word at a place, or 0 where there is none.
+fn number_at(words: &[String], at: usize) -> Option<u64> {
+    match words.get(at) {
+        Some(word) => word.as_str().parse::<u64>().ok(),
+        None => Some(0),
+    }
+}
+
 impl Work {
-    /// The work that the words ask for: its kind, the day's number, teams, tasks, and how often or how long.
+    /// The work that the words ask for: its kind, the day's number, teams, tasks, how often or how long, and a seed and how few
+    /// unassigned tasks are enough, both 0 where they are left out.
     pub fn of(words: &[String]) -> Option<Work> {
-        let [kind, day, teams, tasks, count] = words else {
+        let [kind, day, teams, tasks, count, rest @ ..] = words else {
             return None;
         };
+        if rest.len() > 2 {
+            return None;
+        }
         let kind = kind_of(kind.as_str())?;
         let day = day.as_str().parse::<u64>().ok()?;
         let teams = teams.as_str().parse::<u32>().ok()?;
@@ -82,6 +100,8 @@ impl Work {
             teams,
             tasks,
             count,
+            seed: number_at(rest, 0)?,
+            enough: u32::try_from(number_at(rest, 1)?).ok()?,
         })
     }
 }
