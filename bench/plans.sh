@@ -1,8 +1,8 @@
 #!/usr/bin/env bash
 # Prints for generated days what a greedy plan leaves unassigned, and what 20,000 iterations of the plan search leave, with
-# the seconds of the search. With the word again: what the two searches at a root leave, the second of which takes its weights
-# from the prices of the ascent between, what these prices prove, and the seconds of the three. With other words: only these
-# sizes, as 8x40.
+# the seconds of the search. With the word again: what the first two searches at a root leave, the second of which ruins and
+# recreates the plan that the routes of the ascent between suggest, what its prices prove, and the seconds of the three. With
+# other words: only these sizes, as 8x40.
 set -eu
 here=$(cd "$(dirname "${BASH_SOURCE[0]}")" && pwd)
 . "$here/parts.sh"

@@ -1,8 +1,8 @@
 #!/usr/bin/env bash
 # Prints for generated days what a plan leaves unassigned that is bettered by 20,000 iterations of the plan search, and what it
 # leaves after it was ruined and recreated, with the seconds of both. LOOKS are the millions of places in orders that are looked
-# at, at most, and SEEDS how many seeds are tried. A day is a word as 12x70:6:9, by teams, tasks, its number, and how few
-# unassigned tasks are enough; without words the days are those of docs/METHODS.md.
+# at, at most, where each trial counts as 200, and SEEDS how many seeds are tried. A day is a word as 12x70:6:9, by teams,
+# tasks, its number, and how few unassigned tasks are enough; without words the days are those of docs/METHODS.md.
 set -eu
 here=$(cd "$(dirname "${BASH_SOURCE[0]}")" && pwd)
 . "$here/parts.sh"

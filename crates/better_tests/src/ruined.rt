@@ -28,7 +28,7 @@ fn rebuilt(alloc: Global, day: &Instance, looks: u64, enough: u32) -> Result<Pla
 fn finds_the_least_of_small_days(rt: HostRuntime) -> Result<(), Fail> {
     for (number, least) in [(0, 2), (1, 3), (2, 8)] {
         let day = day(rt.alloc(), number, 4, 15)?;
-        let plan = rebuilt(rt.alloc(), &day, 10_000, least)?;
+        let plan = rebuilt(rt.alloc(), &day, 200_000, least)?;
         assert!(rt; unassigned(&plan) == least, "day {number}");
     }
     Ok(())
@@ -39,7 +39,7 @@ fn makes_room_for_a_joint_task(rt: HostRuntime) -> Result<(), Fail> {
     let day = two_tasks(rt.alloc())?.finish()?;
     let plan = late_plan(rt.alloc(), &day)?;
     assert!(rt; unassigned(&plan) == 1 && first_start(&plan) == Some(450));
-    let found = rebuild(rt.alloc(), &day, &plan, 0, effort(1_000))?;
+    let found = rebuild(rt.alloc(), &day, &plan, 0, effort(100_000))?;
     assert!(rt; unassigned(&found) == 0 && first_start(&found) == Some(420));
     assert!(rt; found.len() == 2);
     assert!(rt; found.teams(1) == [0, 1].as_slice());
@@ -50,7 +50,7 @@ fn makes_room_for_a_joint_task(rt: HostRuntime) -> Result<(), Fail> {
 fn leaves_a_plan_that_is_good_enough(rt: HostRuntime) -> Result<(), Fail> {
     let day = two_tasks(rt.alloc())?.finish()?;
     let plan = late_plan(rt.alloc(), &day)?;
-    for (looks, enough) in [(0, 0), (1_000, 1), (1_000, 2)] {
+    for (looks, enough) in [(0, 0), (100_000, 1), (100_000, 2)] {
         let found = rebuild(rt.alloc(), &day, &plan, enough, effort(looks))?;
         assert!(rt; unassigned(&found) == 1 && first_start(&found) == Some(450));
     }
@@ -63,7 +63,7 @@ fn frozen_jobs_stay(rt: HostRuntime) -> Result<(), Fail> {
     assert!(rt; builder.tasks() == 2);
     builder.freeze(0, 450, &[1])?;
     let day = builder.finish()?;
-    let found = rebuilt(rt.alloc(), &day, 1_000, 0)?;
+    let found = rebuilt(rt.alloc(), &day, 100_000, 0)?;
     assert!(rt; unassigned(&found) == 1 && first_start(&found) == Some(450));
     Ok(())
 }
@@ -84,8 +84,8 @@ fn are_equal(one: &Plan, other: &Plan) -> bool {
 #[test]
 fn equal_calls_give_equal_plans(rt: HostRuntime) -> Result<(), Fail> {
     let day = day(rt.alloc(), 3, 8, 40)?;
-    let one = rebuilt(rt.alloc(), &day, 100_000, 0)?;
-    let other = rebuilt(rt.alloc(), &day, 100_000, 0)?;
+    let one = rebuilt(rt.alloc(), &day, 400_000, 0)?;
+    let other = rebuilt(rt.alloc(), &day, 400_000, 0)?;
     assert!(rt; unassigned(&one) == 3 && are_equal(&one, &other));
     Ok(())
 }
@@ -108,8 +108,8 @@ fn kept(one: &Plan, other: &Plan) -> u32 {
 fn goes_near_to_an_old_plan(rt: HostRuntime) -> Result<(), Fail> {
     let day = day(rt.alloc(), 3, 8, 40)?;
     let old = greedy(rt.alloc(), &day)?;
-    let plan = rebuilt(rt.alloc(), &day, 100_000, 3)?;
-    let near = rebuild_near(rt.alloc(), &day, &plan, &old, effort(100_000))?;
+    let plan = rebuilt(rt.alloc(), &day, 400_000, 3)?;
+    let near = rebuild_near(rt.alloc(), &day, &plan, &old, effort(400_000))?;
     assert!(rt; unassigned(&plan) == 3 && unassigned(&near) == 3);
     assert!(rt; kept(&plan, &old) < kept(&near, &old));
     Ok(())
@@ -118,8 +118,8 @@ fn goes_near_to_an_old_plan(rt: HostRuntime) -> Result<(), Fail> {
 #[test]
 fn an_old_plan_stays_whole(rt: HostRuntime) -> Result<(), Fail> {
     let day = day(rt.alloc(), 3, 8, 40)?;
-    let plan = rebuilt(rt.alloc(), &day, 100_000, 3)?;
-    let near = rebuild_near(rt.alloc(), &day, &plan, &plan, effort(10_000))?;
+    let plan = rebuilt(rt.alloc(), &day, 400_000, 3)?;
+    let near = rebuild_near(rt.alloc(), &day, &plan, &plan, effort(200_000))?;
     assert!(rt; are_equal(&near, &plan));
     Ok(())
 }

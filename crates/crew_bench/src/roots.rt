@@ -9,7 +9,7 @@ use column_arena::VecColumns;
 use crew_instance::{Plan, unassigned};
 use node_limits::Limits;
 use plan_builder::from_uses;
-use plan_search::{Effort as PlanEffort, better, weights_of};
+use plan_ruin::rebuild;
 use potentials::Prices;
 use price_ascent::{Ascended, ascend, average_uses};
 use search_core::{DAY_EFFORT, Instance, Search, Why};
@@ -57,20 +57,13 @@ fn pivots_of(alloc: Global, instance: &Instance, most: u32) -> Result<u32, Alloc
     Ok(high)
 }
 
-/// A plan as the routes of the ascent suggest it, bettered as long as the root's step does.
-fn suggested(alloc: Global, limits: &Limits<'_>, found: &Ascended) -> Result<Plan, AllocError>
-    requires { ArePricesOf limits.now.limits found.now.prices }
-{
+/// A plan as the routes of the ascent suggest it, ruined and recreated as long as the root's step does before another ascent.
+fn suggested(alloc: Global, limits: &Limits<'_>, found: &Ascended) -> Result<Plan, AllocError> {
     let instance = limits.instance();
     let uses = average_uses(alloc, &found.routes, found.rounds)?;
-    let weights = weights_of(alloc, instance, &found.prices)?;
-    let effort = PlanEffort {
-        iterations: DAY_EFFORT.more_iterations,
-        enough: found.proved,
-        weights: Some(&weights),
-    };
     let plan = from_uses(alloc, instance, &uses)?;
-    better(alloc, instance, &plan, effort)
+    let effort = DAY_EFFORT.rebuild.over(instance.tasks());
+    rebuild(alloc, instance, &plan, found.proved, effort)
 }
 
 /// What the step's first search for a plan leaves unassigned.
@@ -93,8 +86,8 @@ fn first_ascent(alloc: Global, limits: &Limits<'_>, goal: u32) -> Result<Ascende
     )
 }
 
-/// What the step's first search for a plan leaves unassigned, and what its second one leaves, which goes on from the routes and
-/// the prices of the first ascent.
+/// What the step's first search for a plan leaves unassigned, and what its second one leaves, which goes on from the routes of
+/// the first ascent.
 pub fn planned_again(alloc: Global, limits: &Limits<'_>) -> Result<Figures, AllocError> {
     let first = first_goal(alloc, limits)?;
     let found = first_ascent(alloc, limits, first)?;

@@ -7,6 +7,7 @@ ghost use Rattle.node_solver.specs.Plans.{IsBestOf};
 use branch_choice::Use;
 use crew_instance::{Instance, Plan, unassigned};
 use plan_builder::from_uses;
+use plan_ruin::{Effort as RuinEffort, rebuild};
 use plan_search::{Effort, better};
 use std::alloc::{AllocError, Global};
 
@@ -71,6 +72,24 @@ impl BestPlan {
     {
         let plan = from_uses(alloc, instance, uses)?;
         self.offer(better(alloc, instance, &plan, effort)?);
+        Ok(())
+    }
+
+    /// Keeps the plan that the uses suggest, once it is ruined and recreated, where it is better.
+    pub(crate) fn rebuild_uses(
+        &mut self,
+        alloc: Global,
+        instance: &Instance,
+        uses: &[Use],
+        enough: u32,
+        effort: RuinEffort,
+    ) -> Result<(), AllocError>
+        ensures best { (best : ℕ) → IsBestOf instance.now best self.old
+            → IsBestOf instance.now best self.new }
+        ensures fewer { self.new.unassigned ≤ self.old.unassigned }
+    {
+        let plan = from_uses(alloc, instance, uses)?;
+        self.offer(rebuild(alloc, instance, &plan, enough, effort)?);
         Ok(())
     }
 }

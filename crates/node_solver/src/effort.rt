@@ -1,15 +1,22 @@
 // How much work a node may cost.
 use column_scout::Effort as ScoutEffort;
+use plan_ruin::Effort as RuinEffort;
 use price_ascent::Effort as AscentEffort;
 
-/// How much work a node may cost: that work of an ascent of its prices; where that doesn't close the node, so many iterations
-/// of a search for a better plan, and that work of another ascent; then that work of a scout of columns, and so many pivots of
-/// the master's run.
+/// How much work a node may cost, in the order in which it is done. It ends as soon as prices close the node.
 #[derive(Clone, Copy, Debug)]
 pub struct Effort {
+    /// An ascent of the node's prices.
     pub ascent: AscentEffort,
-    pub iterations: u32,
+    /// A search for a better plan, which ends where it leaves what the ascent proves. Without looks there is neither this
+    /// search nor another ascent.
+    pub rebuild: RuinEffort,
+    /// Another ascent of the prices.
     pub again: AscentEffort,
+    /// A scout of columns.
     pub scout: ScoutEffort,
+    /// Another search for a better plan, which ends where it leaves what the scout proves. Without looks there is none.
+    pub rebuild_again: RuinEffort,
+    /// So many pivots of the master's run at most.
     pub pivots: u32,
 }

@@ -11,6 +11,7 @@ mod rising;
 mod rounds;
 mod seeds;
 mod solver;
+mod spans;
 mod step;
 mod uses;
 
@@ -20,6 +21,7 @@ pub use crew_instance::Plan;
 pub use crew_num::Overflow;
 pub use effort::Effort;
 pub use frac_master::Share;
+pub use plan_ruin::Effort as RuinEffort;
 pub use potentials::Prices;
 pub use price_ascent::Effort as AscentEffort;
 pub use solver::process;

@@ -14,6 +14,7 @@ ghost use Rattle.node_solver.specs.Steps.{Ends, KeepsProved, prices_of};
 
 use crate::best_plan::{BestPlan, SHORT};
 use crate::rounds::{Answer, rounds};
+use crate::spans::spans_of;
 use crate::step::{NodeEnd, Parts, Shares, Why};
 use crate::uses::uses_of;
 use branch_choice::choose;
@@ -65,7 +66,8 @@ fn end_loose<C: Columns>(
     if answer.proved >= best.unassigned {
         return Ok(NodeEnd::Closed(answer.prices));
     }
-    let picked = split_uses(alloc, limits, &uses, solution.den)?;
+    let spans = spans_of(alloc, limits, columns, &solution.shares)?;
+    let picked = split_uses(alloc, limits, &answer.prices, &spans, solution.den)?;
     let choice = choose(limits, &picked).unwrap();
     let why = Why::Loose {
         den: solution.den,

@@ -9,38 +9,30 @@ ghost use Rattle.search_terms.specs.Proven.{IsProvedCount, ProveAsMuch};
 use crate::best_plan::BestPlan;
 use crate::effort::Effort;
 use node_limits::Limits;
-use plan_search::{Effort as PlanEffort, weights_of};
+use plan_ruin::Effort as RuinEffort;
 use potentials::Prices;
 use price_ascent::{Ascended, ascend, average_uses};
 use std::alloc::{AllocError, Global};
 
-// Searches for a better plan, from the one that the routes of an ascent suggest, where what its prices say is hard to serve goes
-// out first.
+// Searches for a better plan, from the one that the routes of an ascent suggest, until it leaves what its prices prove.
 fn search_plan(
     alloc: Global,
     limits: &Limits<'_>,
     found: &Ascended,
-    iterations: u32,
+    effort: RuinEffort,
     best: &mut BestPlan,
 ) -> Result<(), AllocError>
-    requires { ArePricesOf limits.now.limits found.now.prices }
     ensures best { (b : ℕ) → IsBestOf limits.now.limits.instance b best.old
         → IsBestOf limits.now.limits.instance b best.new }
     ensures fewer { best.new.unassigned ≤ best.old.unassigned }
 {
     let instance = limits.instance();
     let uses = average_uses(alloc, &found.routes, found.rounds)?;
-    let weights = weights_of(alloc, instance, &found.prices)?;
-    let effort = PlanEffort {
-        iterations,
-        enough: found.proved,
-        weights: Some(&weights),
-    };
-    best.try_uses(alloc, instance, &uses, effort)
+    best.rebuild_uses(alloc, instance, &uses, found.proved, effort)
 }
 
-/// An ascent of the node's prices. Where these prove too little and the effort has iterations for it, a better plan is
-/// searched for, and another ascent follows.
+/// An ascent of the node's prices. Where these prove too little and the effort has looks for it, a better plan is searched
+/// for, and another ascent follows.
 pub(crate) fn rise(
     alloc: Global,
     limits: &Limits<'_>,
@@ -60,9 +52,9 @@ pub(crate) fn rise(
     ensures fewer { best.new.unassigned ≤ best.old.unassigned }
 {
     let first = ascend(alloc, limits, start, best.unassigned, effort.ascent)?;
-    if first.proved >= best.unassigned || effort.iterations == 0 {
+    if first.proved >= best.unassigned || effort.rebuild.looks == 0 {
         return Ok(first);
     }
-    search_plan(alloc, limits, &first, effort.iterations, best)?;
+    search_plan(alloc, limits, &first, effort.rebuild, best)?;
     ascend(alloc, limits, first.prices, best.unassigned, effort.again)
 }

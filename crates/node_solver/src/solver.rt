@@ -1,6 +1,5 @@
 // One step of the search.
 ghost use Rattle.std.specs.Prelude.{◌≡◌, ◌≤◌, ℕ, List, All, IfOk, IfSome};
-ghost use Rattle.branch_choice.specs.Uses.{IsPermittedUse};
 ghost use Rattle.crew_terms.specs.Decided.{IsDecided};
 ghost use Rattle.crew_terms.specs.Leaf.{IsOnRequired, Prices as NodePrices};
 ghost use Rattle.crew_terms.specs.Limits.{Route, tasks_in};
@@ -13,15 +12,16 @@ ghost use Rattle.search_terms.specs.Search.{Extends};
 ghost use Rattle.node_solver.specs.Loose.{HasHeld, IsShown};
 ghost use Rattle.node_solver.specs.Plans.{IsBestOf, IsBetterPlan, now_after};
 ghost use Rattle.node_solver.specs.Steps.{Ends, KeepsProved, prices_of};
+ghost use Rattle.split_uses.specs.Permitted.{IsPermittedSpan};
 
 use crate::best_plan::{BestPlan, SHORT};
 use crate::decided::{ClosedNode, close_node};
 use crate::effort::Effort;
 use crate::master::end_by_master;
 use crate::rising::rise;
-use crate::seeds::{Known, add_scouted};
+use crate::seeds::{Known, scout_and_rebuild};
 use crate::step::{NodeEnd, Step, Why};
-use branch_choice::{Use, choose};
+use branch_choice::choose;
 use column_arena::Columns;
 use crew_instance::{Plan, unassigned};
 use master_run::Halt;
@@ -29,11 +29,8 @@ use node_limits::Limits;
 use potentials::Prices;
 use price_ascent::average_uses;
 use search_laws::less_is_proved;
-use split_uses::split_uses;
+use split_uses::{Averages, average_spans, split_uses};
 use std::alloc::{AllocError, Global};
-
-// So many parts make one whole of the weights that visits have by an ascent's last rounds.
-const AVERAGE_WHOLE: i128 = 32 << 15;
 
 /// Splits the node because its master's run goes no further, unless the prices prove what the best plan leaves.
 fn end_halted(
@@ -41,13 +38,13 @@ fn end_halted(
     limits: &Limits<'_>,
     known: Known,
     now: u32,
-    uses: &[Use],
+    averages: &Averages,
     halt: Halt,
 ) -> Result<NodeEnd, AllocError>
     requires open { IsDecided limits.now.limits → ⊥ }
     requires count { IsProvedCount limits.now.limits known.prices known.proved }
     requires shape { ArePricesOf limits.now.limits known.prices }
-    requires uses { All (IsPermittedUse limits.now.limits) uses.now }
+    requires averages { All (IsPermittedSpan limits.now.limits) averages.now.spans.items }
     ensures ends { (pivots : ℕ) (columns : List Route)
         → Halts limits.now.limits pivots columns halt →
         IfOk result (Ends limits.now.limits now pivots columns) }
@@ -67,7 +64,8 @@ fn end_halted(
     if known.proved >= now {
         return Ok(NodeEnd::Closed(known.prices));
     }
-    let picked = split_uses(alloc, limits, uses, AVERAGE_WHOLE)?;
+    let Averages { spans, whole } = averages;
+    let picked = split_uses(alloc, limits, &known.prices, spans, *whole)?;
     let choice = choose(limits, &picked).unwrap();
     Ok(NodeEnd::Split {
         choice,
@@ -110,22 +108,14 @@ fn end_open<C: Columns>(
     if found.proved >= best.unassigned {
         return Ok(NodeEnd::Closed(found.prices));
     }
-    let now = best.unassigned;
-    let known = add_scouted(
-        alloc,
-        limits,
-        found,
-        best.or(given),
-        now,
-        columns,
-        effort.scout,
-    )?;
-    if known.proved >= now {
+    let averages = average_spans(alloc, limits, &found)?;
+    let known = scout_and_rebuild(alloc, limits, found, &uses, given, columns, effort, best)?;
+    if known.proved >= best.unassigned {
         return Ok(NodeEnd::Closed(known.prices));
     }
     match end_by_master(alloc, limits, columns, effort.pivots, best) {
         Ok(end) => Ok(end),
-        Err(halt) => end_halted(alloc, limits, known, best.unassigned, &uses, halt),
+        Err(halt) => end_halted(alloc, limits, known, best.unassigned, &averages, halt),
     }
 }
 

@@ -11,7 +11,9 @@ use crew_instance::{Instance, Plan, unassigned};
 use crew_terms::Choice;
 use label_pricing::Pricer;
 use node_limits::Limits;
-use node_solver::{AscentEffort, Effort, NodeEnd, Prices, ScoutEffort, Step, Why, process};
+use node_solver::{
+    AscentEffort, Effort, NodeEnd, Prices, RuinEffort, ScoutEffort, Step, Why, process,
+};
 use plan_builder::greedy;
 use search_laws::search_nodes;
 use std::alloc::{AllocError, Global};
@@ -40,19 +42,22 @@ const NO_ROUNDS: AscentEffort = AscentEffort {
     looks: u64::MAX,
 };
 
+const NO_SEARCH: RuinEffort = RuinEffort { looks: 0, seed: 0 };
+
 const NO_SCOUT: ScoutEffort = ScoutEffort {
     pivots: 0,
     rounds: 0,
     routes: 0,
 };
 
-/// So many pivots, no round of an ascent, and no scout.
+/// So many pivots, no round of an ascent, no search for a plan, and no scout.
 pub fn pivots_alone(pivots: u32) -> Effort {
     Effort {
         ascent: NO_ROUNDS,
-        iterations: 0,
+        rebuild: NO_SEARCH,
         again: NO_ROUNDS,
         scout: NO_SCOUT,
+        rebuild_again: NO_SEARCH,
         pivots,
     }
 }

@@ -2,7 +2,7 @@
 use column_arena::VecColumns;
 use crew_fixtures::hardly_overlapping;
 use crew_instance::Instance;
-use search_core::{AscentEffort, DAY_EFFORT, Effort, ScoutEffort, Search};
+use search_core::{AscentEffort, DAY_EFFORT, Effort, RebuildEffort, ScoutEffort, Search};
 use std::alloc::{AllocError, Global};
 use std::test::Fail;
 
@@ -14,12 +14,18 @@ const NO_ASCENT: AscentEffort = AscentEffort {
     looks: 1,
 };
 
+const NO_SEARCH: RebuildEffort = RebuildEffort {
+    looks_a_task: 0,
+    seed: 0,
+};
+
 pub const NO_ROUNDS: Effort = Effort {
     iterations: 0,
     root: NO_ASCENT,
     root_of_many: NO_ASCENT,
-    more_iterations: 0,
+    rebuild: NO_SEARCH,
     again: NO_ASCENT,
+    rebuild_again: NO_SEARCH,
     below: NO_ASCENT,
     scout: ScoutEffort {
         pivots: 0,

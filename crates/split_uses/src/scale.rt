@@ -1,21 +1,24 @@
-// How much uses make of a whole.
+// How much spans make of a whole.
 ghost use Rattle.std.specs.Prelude.{◌<◌};
 
-use branch_choice::Use;
+use crate::spans::Span;
 
 // Wholes have about so many bits once they are scaled.
 const BITS: u32 = 20;
 
-/// A scale on which a whole has some twenty bits, whatever its parts.
+/// A whole, on the scale of shares, values and gains.
+pub(crate) const ONE: i128 = 1 << 20;
+
+/// What becomes of parts on the scale on which a whole is `ONE`.
 #[derive(Clone, Copy)]
 pub(crate) struct Scale {
-    pub(crate) whole: i128,
+    whole: i128,
     shift: u32,
     ghost few: { shift < 128 },
 }
 
 impl Scale {
-    /// The scale on which so many parts make a whole.
+    /// The scale for so many parts of a whole.
     pub(crate) fn of(whole: i128) -> Scale {
         let shift = if whole > 0 {
             whole.ilog2().saturating_sub(BITS).min(127)
@@ -23,46 +26,27 @@ impl Scale {
             0
         };
         Scale {
-            whole: whole >> shift,
+            whole: (whole >> shift).max(1),
             shift,
         }
     }
 
-    /// What these parts are on the scale.
-    pub(crate) fn scaled(&self, num: i128) -> i128 {
-        num >> self.shift
+    /// What the span makes of a whole.
+    pub(crate) fn part(&self, span: &Span) -> i128 {
+        times(span.one.num >> self.shift, ONE, self.whole)
     }
 
-    /// How much of the task the team does.
-    pub(crate) fn of_pair(&self, uses: &[Use], team: u32, task: u32) -> i128 {
+    /// What the spans make of a whole together.
+    pub(crate) fn sum(&self, spans: &[Span]) -> i128 {
         let mut sum = 0i128;
-        for one in uses {
-            if one.team == team && one.task == task {
-                sum = sum.saturating_add(self.scaled(one.num));
-            }
+        for span in spans {
+            sum = sum.saturating_add(self.part(span));
         }
         sum
     }
+}
 
-    /// How much of the task all teams do.
-    pub(crate) fn of_task(&self, uses: &[Use], task: u32) -> i128 {
-        let mut sum = 0i128;
-        for one in uses {
-            if one.task == task {
-                sum = sum.saturating_add(self.scaled(one.num));
-            }
-        }
-        sum
-    }
-
-    /// How much of the task all teams begin up to the minute.
-    pub(crate) fn up_to(&self, uses: &[Use], task: u32, start: u32) -> i128 {
-        let mut sum = 0i128;
-        for one in uses {
-            if one.task == task && one.start <= start {
-                sum = sum.saturating_add(self.scaled(one.num));
-            }
-        }
-        sum
-    }
+/// The product of the first two, over the third, which is taken as 1 at least.
+pub(crate) fn times(one: i128, other: i128, by: i128) -> i128 {
+    one.saturating_mul(other) / by.max(1)
 }

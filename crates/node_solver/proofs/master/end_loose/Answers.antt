@@ -13,12 +13,12 @@ use Rattle.search_terms.specs.Earned.{AreWorths as EarnedWorths, BeatsRoutes}
 use Rattle.share_terms.specs.Shares.{IsLoose, choice_value}
 use Rattle.node_solver.specs.Loose.{AreHeld, IsShownLoose}
 use Rattle.node_solver.proofs.MeetingLemmas.{met_unbeaten}
-use Rattle.branch_choice.specs.Uses.{IsPermittedUse}
 use Rattle.column_arena.specs.Legal.{IsLegalColumn}
 use Rattle.crew_terms.specs.Limits.{tasks_in, teams_in}
 use Rattle.frac_master.specs.declared.shares.Share.{Share}
 use Rattle.search_terms.specs.Choice.{IsValidChoice}
 use Rattle.node_solver.specs.Plans.{IsBestOf}
+use Rattle.split_uses.specs.Permitted.{IsPermittedSpan}
 use Rattle.node_solver.proofs.Ending.{proved_required, settled_loose}
 use Rattle.node_solver.proofs.master.end_loose.Goals as goal
 
@@ -31,12 +31,19 @@ pub returns-then-answer-best-clause-best : goal.returns-then-answer-best-clause-
 returns-then-answer-best-clause-best g c = λ b.
     subst (λ i. IsBestOf i b c.args.best.now → IsBestOf i b c.try_uses.new.self) c.instance.ensures.instance (c.try_uses.ensures.best b)
 
-pub split_uses-requires : goal.split_uses-requires
-split_uses-requires g c =
+pub spans_of-requires : goal.spans_of-requires
+spans_of-requires g c =
     let n = c.args.limits.now.limits in
     let cs = g.C.Columns.columns c.args.columns.now in
-    let legal = subst (All (λ (s : Share). IsLegalColumn n cs s.column)) (sym c.deref.ensures.value) (c.in_ok-solution.ensures.legal n cs c.requires.settled.over) in
-    subst (All (IsPermittedUse n)) (sym c.deref-3.ensures.value) (c.in_ok-uses.ensures n legal)
+    subst (All (λ (s : Share). IsLegalColumn n cs s.column)) (sym c.deref-3.ensures.value) (c.in_ok-solution.ensures.legal n cs c.requires.settled.over)
+
+pub split_uses-requires-clause-spans : goal.split_uses-requires-clause-spans
+split_uses-requires-clause-spans g c =
+    subst (All (IsPermittedSpan c.args.limits.now.limits)) (sym c.deref-4.ensures.value) c.in_ok-spans.ensures
+
+pub returns-in_err-spans-clause-best : goal.returns-in_err-spans-clause-best
+returns-in_err-spans-clause-best g c = λ b.
+    subst (λ i. IsBestOf i b c.args.best.now → IsBestOf i b c.try_uses.new.self) c.instance.ensures.instance (c.try_uses.ensures.best b)
 
 pub returns-in_err-picked-clause-best : goal.returns-in_err-picked-clause-best
 returns-in_err-picked-clause-best g c = λ b.

@@ -1,6 +1,6 @@
 use Rattle.std.proofs.Common.{IfSome}
-use Rattle.branch_choice.specs.Uses.{IsPermittedUse}
+use Rattle.split_uses.specs.Permitted.{IsPermittedScored}
 use Rattle.split_uses.proofs.pairs.nearest_half.Given as goal
 
-abbrev pub invariant-loop-one : goal.invariant-loop-one
-invariant-loop-one l = IfSome l.best (IsPermittedUse l.limits.limits)
+abbrev pub invariant-loop-span : goal.invariant-loop-span
+invariant-loop-span l = IfSome l.best (IsPermittedScored l.limits.limits)
