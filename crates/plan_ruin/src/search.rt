@@ -11,6 +11,9 @@ use crate::weights::Weights;
 use crew_instance::{Instance, Plan, unassigned};
 use std::alloc::{AllocError, Global};
 
+// What a trial does besides its looks takes as long as so many of them.
+const LOOKS_OF_TRIAL: u64 = 200;
+
 /// A search under way, and the best plan that it has seen.
 #[derive(Drop)]
 pub(crate) struct Search<'i> {
@@ -28,7 +31,7 @@ pub(crate) struct Search<'i> {
     pub(crate) places: Vec<Place>,
     // When this trial began, by the clock of the orders.
     pub(crate) now: u64,
-    // How many places were looked at.
+    // How many places were looked at, and what trials count as.
     pub(crate) looks: u64,
     // The jobs that are to stay; how many do, how many did that went out in this trial, and how many do in the best plan.
     pub(crate) old: Old<'i>,
@@ -151,13 +154,14 @@ impl<'i> Search<'i> {
         }
     }
 
-    /// Searches until so many places were looked at, or until no more tasks are unassigned than are enough.
+    /// Searches until so many places were looked at, where each trial counts as some of them, or until no more tasks are
+    /// unassigned than are enough.
     pub(crate) fn run(&mut self, looks: u64, enough: Option<u32>) -> Result<(), AllocError> {
         for _ in 0..looks {
             if self.looks >= looks || self.is_enough(enough) {
                 return Ok(());
             }
-            self.looks = self.looks.saturating_add(1);
+            self.looks = self.looks.saturating_add(LOOKS_OF_TRIAL);
             self.try_once()?;
             self.weights.learn(&self.pool, self.least);
         }

@@ -25,7 +25,7 @@ fn first_like(limits: &Limits<'_>, firsts: &[u32], k: u32) -> u32
 }
 
 /// For each team the first that prices alike, which may be itself; AllocError where there is no memory.
-pub(crate) fn find_firsts(alloc: Global, limits: &Limits<'_>) -> Result<Vec<u32>, AllocError>
+pub fn find_firsts(alloc: Global, limits: &Limits<'_>) -> Result<Vec<u32>, AllocError>
     ensures { IfOk result (λ firsts. AreFirsts limits.now.limits firsts.items) }
 {
     let mut firsts: Vec<u32> = Vec::new(alloc);

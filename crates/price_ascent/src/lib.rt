@@ -12,4 +12,5 @@ mod trail;
 
 pub use ascent::{Ascended, Effort, ascend};
 pub use averages::average_uses;
+pub use classes::find_firsts;
 pub use trail::{FoundRoute, ROUNDS_KEPT};

@@ -1,24 +1,64 @@
 // How much work a search may do.
-ghost use Rattle.std.specs.Prelude.{◌≡◌, ◌≤◌, ◌<◌};
+ghost use Rattle.std.specs.Prelude.{◌≡◌, ◌≤◌, ◌<◌, ◌*◌, ◌^◌};
 ghost use Rattle.search_core.specs.declared.effort.TheConstants.{MANY_TASKS};
 
-use node_solver::{AscentEffort, Effort as NodeEffort, ScoutEffort};
+use node_solver::{AscentEffort, Effort as NodeEffort, RuinEffort, ScoutEffort};
 
 /// More tasks than these are many.
 pub const MANY_TASKS: usize = 150;
 
-/// How much work a search may do beside its master runs: so many iterations for a better plan before its first step; that work
-/// of the ascent at the root, where the tasks are few or many, and, where it doesn't close the root, so many more iterations for
-/// a better plan and that work of another ascent; that work of the ascent at each other node; and that work of the scout of
-/// columns at a node.
+// No search for a better plan.
+const NO_SEARCH: RuinEffort = RuinEffort { looks: 0, seed: 0 };
+
+/// How much a search for a better plan at the root does: so many looks for each task, none where that is 0. With another seed
+/// it draws otherwise.
+#[derive(Clone, Copy, Debug)]
+pub struct RebuildEffort {
+    pub looks_a_task: u32,
+    pub seed: u64,
+}
+
+impl RebuildEffort {
+    /// The effort over so many tasks.
+    pub fn over(&self, tasks: usize) -> RuinEffort
+        ensures looks { self.now.looks_a_task * tasks < 2 ^ 64
+            → result.looks ≡ self.now.looks_a_task * tasks }
+        ensures seed { result.seed ≡ self.now.seed }
+    {
+        RuinEffort {
+            looks: u64::from(self.looks_a_task).saturating_mul(tasks as u64),
+            seed: self.seed,
+        }
+    }
+
+    // The effort at the node of this number, 0 for the root, over so many tasks.
+    fn at(&self, node: u32, tasks: usize) -> RuinEffort {
+        if node > 0 {
+            NO_SEARCH
+        } else {
+            self.over(tasks)
+        }
+    }
+}
+
+/// How much work a search may do beside its master runs.
 #[derive(Clone, Copy, Debug)]
 pub struct Effort {
+    /// So many iterations for a better plan before the first step.
     pub iterations: u32,
+    /// The ascent at the root of few tasks.
     pub root: AscentEffort,
+    /// The ascent at the root of many tasks.
     pub root_of_many: AscentEffort,
-    pub more_iterations: u32,
+    /// The search for a better plan where that ascent doesn't close the root.
+    pub rebuild: RebuildEffort,
+    /// The ascent behind that search.
     pub again: AscentEffort,
+    /// The longer search for a better plan where the scout doesn't close the root either.
+    pub rebuild_again: RebuildEffort,
+    /// The ascent at each other node.
     pub below: AscentEffort,
+    /// The scout of columns at each node.
     pub scout: ScoutEffort,
 }
 
@@ -43,12 +83,12 @@ impl Effort {
     pub(crate) fn at(&self, node: u32, tasks: usize, pivots: u32) -> NodeEffort
         ensures { result.pivots ≡ pivots }
     {
-        let is_root = node == 0;
         NodeEffort {
             ascent: self.ascent_at(node, tasks),
-            iterations: if is_root { self.more_iterations } else { 0 },
+            rebuild: self.rebuild.at(node, tasks),
             again: self.again,
             scout: self.scout,
+            rebuild_again: self.rebuild_again.at(node, tasks),
             pivots,
         }
     }
@@ -69,12 +109,19 @@ pub const DAY_EFFORT: Effort = Effort {
         block: 10,
         looks: 10_000_000_000,
     },
-    more_iterations: 400_000,
+    rebuild: RebuildEffort {
+        looks_a_task: 500_000,
+        seed: 1,
+    },
     again: AscentEffort {
         rounds: 500,
         step: 128,
         block: 10,
         looks: 10_000_000_000,
+    },
+    rebuild_again: RebuildEffort {
+        looks_a_task: 3_000_000,
+        seed: 2,
     },
     below: AscentEffort {
         rounds: 150,

@@ -16,7 +16,7 @@ mod steps;
 
 pub use causes::{Cause, Outcome};
 pub use crew_instance::{Instance, Plan};
-pub use effort::{DAY_EFFORT, Effort, MANY_TASKS};
+pub use effort::{DAY_EFFORT, Effort, MANY_TASKS, RebuildEffort};
 pub use laws::{key_steps_improve, outcomes_are_searched};
 pub use node_solver::{AscentEffort, ScoutEffort, Why};
 pub use searches::Search;
