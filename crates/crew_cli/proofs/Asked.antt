@@ -7,7 +7,7 @@ use Rattle.trial_command.specs.Trials.{AsksForTrial}
 use Rattle.trial_command.specs.declared.words.Trial.{Trial as TrialWords}
 use Rattle.crew_cli.specs.Run.{AskFor, promises_of}
 use Rattle.crew_cli.specs.declared.run.Command.{Command}
-use Rattle.crew_cli.specs.declared.run.Command.TheVariants.{Check, Rosters, Why, Delays, Apply, Day, Trial}
+use Rattle.crew_cli.specs.declared.run.Command.TheVariants.{Check, Rosters, Why, Delays, Apply, Day, Audit, Trial}
 
 -- the place of a command in their list
 place : Command → ℕ
@@ -17,7 +17,8 @@ place Why = 2
 place Delays = 3
 place Apply = 4
 place Day = 5
-place (Trial t) = 6
+place Audit = 6
+place (Trial t) = 7
 
 -- the place of the command whose first word this is
 place_of : List ℕ → ℕ
@@ -28,7 +29,8 @@ place_of word =
     else if bytes_eq word (codes "delays") then 3
     else if bytes_eq word (codes "apply") then 4
     else if bytes_eq word (codes "day") then 5
-    else 6
+    else if bytes_eq word (codes "audit") then 6
+    else 7
 
 -- a command's first word tells its place
 placed : (c : Command) → place_of (get_or (promises_of c).words 0 []) ≡ place c
@@ -39,6 +41,7 @@ placed Why = refl
 placed Delays = refl
 placed Apply = refl
 placed Day = refl
+placed Audit = refl
 placed (Trial t) = refl
 
 -- commands at one place whose words are the same are one
@@ -50,6 +53,7 @@ at_place words Why Why e p q = refl
 at_place words Delays Delays e p q = refl
 at_place words Apply Apply e p q = refl
 at_place words Day Day e p q = refl
+at_place words Audit Audit e p q = refl
 at_place words (Trial t) (Trial u) e p q = ap Trial (one_trial words t u p q)
 at_place words a b e p q = absurd (omega (arith, e))
 
@@ -59,12 +63,13 @@ one_command words a b p q =
     at_place words a b (sym (placed a) ∙ ap (λ (ws : List (List ℕ)). place_of (get_or ws 0 [])) (sym p.1 ∙ q.1) ∙ placed b) p q
 
 -- words that are none of the forms ask for none
-pub none_asked : (words : List (List ℕ)) → (words ≡ codes "check" ∷ [] → ⊥) → (words ≡ codes "rosters" ∷ [] → ⊥) → (words ≡ codes "why" ∷ [] → ⊥) → (words ≡ codes "delays" ∷ [] → ⊥) → (words ≡ codes "apply" ∷ [] → ⊥) → (words ≡ codes "day" ∷ [] → ⊥)
+pub none_asked : (words : List (List ℕ)) → (words ≡ codes "check" ∷ [] → ⊥) → (words ≡ codes "rosters" ∷ [] → ⊥) → (words ≡ codes "why" ∷ [] → ⊥) → (words ≡ codes "delays" ∷ [] → ⊥) → (words ≡ codes "apply" ∷ [] → ⊥) → (words ≡ codes "day" ∷ [] → ⊥) → (words ≡ codes "audit" ∷ [] → ⊥)
     → ((t : TrialWords) → AsksForTrial t words → ⊥) → (command : Command) → AskFor command words → ⊥
-none_asked words check rosters why delays apply day trial Check asks = check asks.1
-none_asked words check rosters why delays apply day trial Rosters asks = rosters asks.1
-none_asked words check rosters why delays apply day trial Why asks = why asks.1
-none_asked words check rosters why delays apply day trial Delays asks = delays asks.1
-none_asked words check rosters why delays apply day trial Apply asks = apply asks.1
-none_asked words check rosters why delays apply day trial Day asks = day asks.1
-none_asked words check rosters why delays apply day trial (Trial t) asks = trial t asks
+none_asked words check rosters why delays apply day audit trial Check asks = check asks.1
+none_asked words check rosters why delays apply day audit trial Rosters asks = rosters asks.1
+none_asked words check rosters why delays apply day audit trial Why asks = why asks.1
+none_asked words check rosters why delays apply day audit trial Delays asks = delays asks.1
+none_asked words check rosters why delays apply day audit trial Apply asks = apply asks.1
+none_asked words check rosters why delays apply day audit trial Day asks = day asks.1
+none_asked words check rosters why delays apply day audit trial Audit asks = audit asks.1
+none_asked words check rosters why delays apply day audit trial (Trial t) asks = trial t asks

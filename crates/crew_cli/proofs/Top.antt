@@ -26,14 +26,19 @@ use Rattle.day_commands.specs.declared.ended.Ended.TheVariants as day
 use Rattle.day_commands.specs.Dossiers.{IsProved, IsUnproved}
 use Rattle.day_commands.specs.Taken.{Wrote}
 use Rattle.day_commands.specs.Fine.{refused_not_fine}
+use Rattle.audit_command.specs.Events.{IsFineAudit}
+use Rattle.audit_command.specs.Fine.{event_is_front, fine_is_done as fine_audit_is_done}
+use Rattle.audit_command.specs.Says.{ReadsAudit, SaysEvent, SaysFront as SaysEventFront, SaysNothing, Nothing as NoEventWritten}
+use Rattle.audit_command.specs.declared.ended.Ended.{Ended as AuditEnded}
+use Rattle.audit_command.specs.declared.ended.Ended.TheVariants as audit
 use Rattle.trial_command.specs.Says.{RunsTrial, SaysLine, SaysLineFront, Nothing, OfLine}
 use Rattle.trial_command.specs.declared.trial.TrialEnded.{TrialEnded}
 use Rattle.trial_command.specs.declared.trial.TrialEnded.TheVariants as trial
 use Rattle.trial_command.specs.declared.words.Trial.{Trial as TrialWords}
-use Rattle.crew_cli.specs.Run.{Answers, AreDelays, AreDossiers, DaySays, DelaysSay, DossiersSay, TrialSays, of_delays, of_trial as trial_promises, over_days, over_dossiers, promises_of}
-use Rattle.crew_cli.specs.Status.{dossiers_status, day_status, trial_status, is_done}
+use Rattle.crew_cli.specs.Run.{Answers, AreDelays, AreDossiers, AuditSays, DaySays, DelaysSay, DossiersSay, TrialSays, an_audit, of_delays, of_trial as trial_promises, over_days, over_dossiers, promises_of}
+use Rattle.crew_cli.specs.Status.{audit_status, dossiers_status, day_status, trial_status, is_done}
 use Rattle.crew_cli.specs.declared.run.Command.{Command}
-use Rattle.crew_cli.specs.declared.run.Command.TheVariants.{Check, Rosters, Why, Delays, Apply, Day, Trial}
+use Rattle.crew_cli.specs.declared.run.Command.TheVariants.{Check, Rosters, Why, Delays, Apply, Day, Audit, Trial}
 use Rattle.crew_cli.specs.declared.status.Status.{Status}
 use Rattle.crew_cli.specs.declared.status.Status.TheVariants as status
 
@@ -57,6 +62,12 @@ refused_is_no_delays (Some input) got later A B C says = λ fine a b. absurd (sa
 refused_is_not_fine : (stops : Stops) (Plans : PlansOf) (left : Option (List ℕ)) (A B C : Type 0) → IfSome left (λ input. IsFineDay stops Plans input → ⊥) → IfSome left (λ input. IsFineDay stops Plans input → A → B → C)
 refused_is_not_fine stops Plans None A B C says = tt
 refused_is_not_fine stops Plans (Some input) A B C says = λ fine a b. absurd (says fine)
+
+-- an input of another event is not fine
+other_is_not_fine : (ended : AuditEnded) → (ended ≡ audit.Done → ⊥) → (left got later : Option (List ℕ)) (A B C : Type 0) → OfBytes left got later (SaysEvent ended)
+    → IfSome left (λ input. IsFineAudit input → A → B → C)
+other_is_not_fine ended other None got later A B C says = tt
+other_is_not_fine ended other (Some input) got later A B C says = λ fine a b. absurd (other (fine_audit_is_done ended input says.0 says.2 fine))
 
 module _ {S K : Type 0} (source : SourceTells S) (sink : SinkTells K) (src later : S) (out new : K) where
   -- the same fault by another name
@@ -252,6 +263,74 @@ module _ {S K : Type 0} (source : SourceTells S) (sink : SinkTells K) (src later
   wrote_nothing : sink.got new ≡ sink.got out → Wrote (sink.got out) (sink.got new) (λ written. written ≡ [])
   wrote_nothing same = ([], subst (λ x. Appended (sink.got out) x []) (sym same) (appended_none (sink.got out)), refl)
 
+-- an audit answers by the status of its end
+module _ {S K : Type 0} (source : SourceTells S) (sink : SinkTells K) (src later : S) (out new : K) where
+  audit_front : (ended : AuditEnded) → OfBytes (source.left src) (sink.got out) (sink.got new) (SaysEvent ended)
+      → OfBytes (source.left src) (sink.got out) (sink.got new) SaysEventFront
+  audit_front ended = of_bytes_weaker (source.left src) (sink.got out) (sink.got new) (SaysEvent ended) SaysEventFront (event_is_front ended)
+
+  pub audit_answers : {E : Type 0} (ended : Result AuditEnded E) → ReadsAudit source sink src later out new ended → Answers source sink an_audit src later out new (audit_status ended)
+  audit_answers (Ok audit.Done) r = record {
+    says = r.says;
+    part = audit_front audit.Done r.says;
+    ends = refl;
+    ended = λ _ _. r.ended refl;
+    unread = λ e. absurd (cc);
+    reads = tells_read source sink src later out new r.reads (λ e. absurd (cc)) (λ e. absurd (cc));
+    writes = tells_write source sink src later out new r.writes (λ e. absurd (cc)) (λ e. absurd (cc));
+    complete = if_some (source.left src) _ (λ input fine nr nw. inl refl);
+  }
+  audit_answers (Ok audit.No) r = record {
+    says = r.says;
+    part = audit_front audit.No r.says;
+    ends = refl;
+    ended = λ _ e. absurd (cc);
+    unread = λ e. absurd (cc);
+    reads = tells_read source sink src later out new r.reads (λ e. absurd (cc)) (λ e. absurd (cc));
+    writes = tells_write source sink src later out new r.writes (λ e. absurd (cc)) (λ e. absurd (cc));
+    complete = other_is_not_fine audit.No (λ e. absurd (cc)) (source.left src) (sink.got out) (sink.got new) _ _ _ r.says;
+  }
+  audit_answers (Ok audit.Refused) r = record {
+    says = r.says;
+    part = audit_front audit.Refused r.says;
+    ends = refl;
+    ended = λ _ e. absurd (cc);
+    unread = λ e. absurd (cc);
+    reads = tells_read source sink src later out new r.reads (λ e. absurd (cc)) (λ e. absurd (cc));
+    writes = tells_write source sink src later out new r.writes (λ e. absurd (cc)) (λ e. absurd (cc));
+    complete = other_is_not_fine audit.Refused (λ e. absurd (cc)) (source.left src) (sink.got out) (sink.got new) _ _ _ r.says;
+  }
+  audit_answers (Ok audit.ReadFault) r = record {
+    says = r.says;
+    part = of_bytes_weaker (source.left src) (sink.got out) (sink.got new) (SaysNothing (source.left later)) SaysEventFront (λ input written says. NoEventWritten says.none) r.says;
+    ends = refl;
+    ended = λ _ e. absurd (cc);
+    unread = λ e. absurd (cc);
+    reads = tells_read source sink src later out new r.reads (λ _. refl) (λ _. refl);
+    writes = tells_write source sink src later out new r.writes (λ e. absurd (cc)) (λ e. absurd (cc));
+    complete = if_some (source.left src) _ (λ input fine nr nw. absurd (nr (r.reads.cause refl)));
+  }
+  audit_answers (Ok audit.WriteFault) r = record {
+    says = r.says;
+    part = r.says;
+    ends = refl;
+    ended = λ _ e. absurd (cc);
+    unread = λ e. absurd (cc);
+    reads = tells_read source sink src later out new r.reads (λ e. absurd (cc)) (λ e. absurd (cc));
+    writes = tells_write source sink src later out new r.writes (λ _. refl) (λ _. refl);
+    complete = if_some (source.left src) _ (λ input fine nr nw. absurd (nw (r.writes.cause refl)));
+  }
+  audit_answers (Err fault) r = record {
+    says = of_trial source sink src later out new (λ input written. written ≡ []) (λ input written none. none) (wrote_nothing source sink src later out new r.memory);
+    part = of_trial source sink src later out new (λ input. SaysEventFront input) (λ input written none. NoEventWritten none) (wrote_nothing source sink src later out new r.memory);
+    ends = refl;
+    ended = λ _ e. absurd (cc);
+    unread = λ e. absurd (cc);
+    reads = tells_read source sink src later out new r.reads (λ e. absurd (cc)) (λ e. absurd (cc));
+    writes = tells_write source sink src later out new r.writes (λ e. absurd (cc)) (λ e. absurd (cc));
+    complete = if_some (source.left src) _ (λ input fine nr nw. inr refl);
+  }
+
 -- no read is told as a fault, where none was made
 none_read : {S : Type 0} (source : SourceTells S) (src : S) {Fault : Type 0} → (Fault → ⊥) → TellsReads source src src Fault
 none_read source src none = reads_then source src src src (λ fault. fault) (reads_none source src) (reads_none source src) none (λ fault. absurd fault)
@@ -337,6 +416,18 @@ day_done output status.WriteFault unseen input written Full says fine read write
 day_done output status.Memory unseen input written Full says fine read write = inr (inl refl)
 day_done output status.Unproved unseen input written Full says fine read write = inl refl
 
+-- nor is a day with dossiers that belong to it
+audit_done : (answer : Status) (unseen : Option (List ℕ)) (input written : List ℕ) (Full : Type 0) → AuditSays answer unseen input written → IsFineAudit input
+    → answer ≢ status.ReadFault → (answer ≡ status.WriteFault → Full) → IsTrue (is_done answer) ⊎ (answer ≡ status.Memory) ⊎ ((answer ≡ status.WriteFault) × Full)
+audit_done status.Done unseen input written Full says fine read write = inl refl
+audit_done status.No unseen input written Full says fine read write = absurd (let e = fine_audit_is_done audit.No input written says fine in cc)
+audit_done status.Words unseen input written Full says fine read write = absurd says
+audit_done status.Refused unseen input written Full says fine read write = absurd (let e = fine_audit_is_done audit.Refused input written says fine in cc)
+audit_done status.ReadFault unseen input written Full says fine read write = absurd (read refl)
+audit_done status.WriteFault unseen input written Full says fine read write = inr (inr (refl, write refl))
+audit_done status.Memory unseen input written Full says fine read write = inr (inl refl)
+audit_done status.Unproved unseen input written Full says fine read write = absurd says
+
 -- nor does a trial fail but for a write fault or want of memory
 trial_done : (t : TrialWords) (answer : Status) (unseen : Option (List ℕ)) (input written : List ℕ) (Full : Type 0) → TrialSays t answer unseen input written
     → (answer ≡ status.WriteFault → Full) → IsTrue (is_done answer) ⊎ (answer ≡ status.Memory) ⊎ ((answer ≡ status.WriteFault) × Full)
@@ -358,4 +449,5 @@ fine_is_done Why answer unseen input written Full says fine read write = dossier
 fine_is_done Delays answer unseen input written Full says fine read write = delays_done answer unseen input written Full says fine read write
 fine_is_done Apply answer unseen input written Full says fine read write = day_done Instances answer unseen input written Full says fine read write
 fine_is_done Day answer unseen input written Full says fine read write = day_done Dossiers answer unseen input written Full says fine read write
+fine_is_done Audit answer unseen input written Full says fine read write = audit_done answer unseen input written Full says fine read write
 fine_is_done (Trial t) answer unseen input written Full says fine read write = trial_done t answer unseen input written Full says write

@@ -19,12 +19,15 @@ use Rattle.day_commands.specs.Outputs.{MayHave, TextsOf, ProvedOf, UnprovedOf, a
 use Rattle.day_commands.specs.declared.ended.DayOutput.{DayOutput}
 use Rattle.day_commands.specs.declared.ended.DayOutput.TheVariants.{Instances, Dossiers}
 use Rattle.day_commands.specs.Dossiers.{IsProved, IsUnproved}
+use Rattle.audit_command.specs.Events.{IsFineAudit}
+use Rattle.audit_command.specs.Says.{SaysEvent, SaysFront as SaysEventFront, SaysNothing as SaysNoEvent}
+use Rattle.audit_command.specs.declared.ended.Ended.TheVariants as audit
 use Rattle.trial_command.specs.Trials.{IsTrial, trial_words}
 use Rattle.trial_command.specs.Says.{SaysLine, SaysLineFront}
 use Rattle.trial_command.specs.declared.words.Trial.{Trial as TrialWords}
 use Rattle.crew_cli.specs.Status.{is_done}
 use Rattle.crew_cli.specs.declared.run.Command.{Command}
-use Rattle.crew_cli.specs.declared.run.Command.TheVariants.{Check, Rosters, Why, Delays, Apply, Day, Trial}
+use Rattle.crew_cli.specs.declared.run.Command.TheVariants.{Check, Rosters, Why, Delays, Apply, Day, Audit, Trial}
 use Rattle.crew_cli.specs.declared.status.Status.{Status}
 use Rattle.crew_cli.specs.declared.status.Status.TheVariants.{Done, No, Words, Refused, ReadFault, WriteFault, Memory, Unproved}
 
@@ -56,6 +59,16 @@ DaySays output WriteFault unseen input written = SaysOutputPart change_stop (Tex
 DaySays output Memory unseen input written = SaysFirstRounds change_stop (TextsOf output) input written
 DaySays output _ unseen input written = ⊥
 
+-- what a status says of an audit; no other status comes
+abbrev pub AuditSays : Status → Option (List ℕ) → List ℕ → List ℕ → Type 0
+AuditSays Done unseen input written = SaysEvent audit.Done input written
+AuditSays No unseen input written = SaysEvent audit.No input written
+AuditSays Refused unseen input written = SaysEvent audit.Refused input written
+AuditSays ReadFault unseen input written = SaysNoEvent unseen input written
+AuditSays WriteFault unseen input written = SaysEventFront input written
+AuditSays Memory unseen input written = written ≡ []
+AuditSays _ unseen input written = ⊥
+
 -- what a status says of a trial; no other status comes
 abbrev pub TrialSays : TrialWords → Status → Option (List ℕ) → List ℕ → List ℕ → Type 0
 TrialSays trial Done unseen input written = SaysLine trial IsProved written
@@ -77,6 +90,12 @@ day_ends_with output Words = false
 day_ends_with output No = false
 day_ends_with output Unproved = are_dossiers output
 day_ends_with output _ = true
+
+-- the statuses that an audit can end with
+abbrev pub audit_ends_with : Status → Bool
+audit_ends_with Words = false
+audit_ends_with Unproved = false
+audit_ends_with _ = true
 
 -- the statuses that a trial can end with
 abbrev pub trial_ends_with : Status → Bool
@@ -143,6 +162,17 @@ over_days word output = record {
   fine = IsFineDay change_stop (MayHave output);
 }
 
+-- an audit: it takes a day with dossiers that belong to it
+abbrev pub an_audit : Promises
+an_audit = record {
+  words = codes "audit" ∷ [];
+  in_range = Unit {0};
+  says = AuditSays;
+  ends_with = audit_ends_with;
+  reads = true;
+  fine = IsFineAudit;
+}
+
 -- a trial, which reads nothing
 abbrev pub of_trial : TrialWords → Promises
 of_trial trial = record {
@@ -162,6 +192,7 @@ promises_of Why = over_dossiers (codes "why") why_of
 promises_of Delays = of_delays
 promises_of Apply = over_days (codes "apply") Instances
 promises_of Day = over_days (codes "day") Dossiers
+promises_of Audit = an_audit
 promises_of (Trial trial) = of_trial trial
 
 -- the words ask for the command: they are its words, and its numbers are in their ranges

@@ -4,6 +4,8 @@ use Rattle.dossier_commands.specs.declared.read.Ended.{Ended as DossiersEnded}
 use Rattle.dossier_commands.specs.declared.read.Ended.TheVariants as dossiers
 use Rattle.day_commands.specs.declared.ended.Ended.{Ended as DayEnded}
 use Rattle.day_commands.specs.declared.ended.Ended.TheVariants as day
+use Rattle.audit_command.specs.declared.ended.Ended.{Ended as AuditEnded}
+use Rattle.audit_command.specs.declared.ended.Ended.TheVariants as audit
 use Rattle.trial_command.specs.declared.trial.TrialEnded.{TrialEnded}
 use Rattle.trial_command.specs.declared.trial.TrialEnded.TheVariants as trial
 use Rattle.crew_cli.specs.declared.status.Status.{Status}
@@ -42,6 +44,15 @@ day_status (Ok day.Refused) = Refused
 day_status (Ok day.ReadFault) = ReadFault
 day_status (Ok day.WriteFault) = WriteFault
 day_status (Err fault) = Memory
+
+-- the status of an audit that ended so, or for which memory was wanting
+abbrev pub audit_status : {E : Type 0} → Result AuditEnded E → Status
+audit_status (Ok audit.Done) = Done
+audit_status (Ok audit.No) = No
+audit_status (Ok audit.Refused) = Refused
+audit_status (Ok audit.ReadFault) = ReadFault
+audit_status (Ok audit.WriteFault) = WriteFault
+audit_status (Err fault) = Memory
 
 -- the status of a trial that ended so, or for which memory was wanting
 abbrev pub trial_status : {E : Type 0} → Result TrialEnded E → Status

@@ -3,10 +3,11 @@ ghost use Rattle.std.specs.Prelude.{◌≡◌, ◌≢◌, ◌≤◌, ◌↔◌, 
 ghost use Rattle.crew_io.specs.Io.{HasEnded, Rose};
 ghost use Rattle.crew_io.specs.Bytes.{OfBytes};
 ghost use Rattle.dossier_commands.specs.Outputs.{output_of};
-ghost use Rattle.crew_cli.specs.Status.{dossiers_status, day_status, trial_status, is_done};
+ghost use Rattle.crew_cli.specs.Status.{audit_status, dossiers_status, day_status, trial_status, is_done};
 ghost use Rattle.crew_cli.specs.Run.{Answers, AskFor, over_days, over_dossiers, promises_of};
 
 pub use crate::status::Status;
+use audit_command::audit_day;
 use crew_io::sink::Sink;
 use crew_io::source::Source;
 use day_commands::{DayOutput, write_rounds};
@@ -30,6 +31,8 @@ pub enum Command {
     Apply,
     /// `day`: read a day, and write a dossier of each round.
     Day,
+    /// `audit`: read a day and dossiers, and write whether these belong to it.
+    Audit,
     /// `trial`: read nothing; plan a generated day, and write the line of its dossier.
     Trial(Trial),
 }
@@ -66,6 +69,9 @@ impl Command {
         if asks_for(words, "day") {
             return Some(Command::Day);
         }
+        if asks_for(words, "audit") {
+            return Some(Command::Audit);
+        }
         Some(Command::Trial(Trial::of(words)?))
     }
 }
@@ -93,6 +99,20 @@ fn of_day(ended: Result<day_commands::Ended, AllocError>) -> Status
         Ok(day_commands::Ended::Refused) => Status::Refused,
         Ok(day_commands::Ended::ReadFault) => Status::ReadFault,
         Ok(day_commands::Ended::WriteFault) => Status::WriteFault,
+        Err(AllocError) => Status::Memory,
+    }
+}
+
+/// The status of an audit.
+fn of_audit(ended: Result<audit_command::Ended, AllocError>) -> Status
+    ensures { result ≡ audit_status ended }
+{
+    match ended {
+        Ok(audit_command::Ended::Done) => Status::Done,
+        Ok(audit_command::Ended::No) => Status::No,
+        Ok(audit_command::Ended::Refused) => Status::Refused,
+        Ok(audit_command::Ended::ReadFault) => Status::ReadFault,
+        Ok(audit_command::Ended::WriteFault) => Status::WriteFault,
         Err(AllocError) => Status::Memory,
     }
 }
@@ -143,6 +163,7 @@ fn answer<S: Source, K: Sink>(alloc: Global, command: Command, src: &mut S, out:
         Command::Delays => of_dossiers(write_delays(alloc, src, out)),
         Command::Apply => plan_day(alloc, DayOutput::Instances, src, out),
         Command::Day => plan_day(alloc, DayOutput::Dossiers, src, out),
+        Command::Audit => of_audit(audit_day(alloc, src, out)),
         Command::Trial(trial) => of_trial(write_trial(alloc, trial, out)),
     }
 }
@@ -154,8 +175,9 @@ fn answer<S: Source, K: Sink>(alloc: Global, command: Command, src: &mut S, out:
 /// what in its plan, or the line `no` of the first line that is refused. With
 /// `apply` it reads a day, and writes the instance of each round, up to the first record that is refused, and a line
 /// `refused` for that one. With `day` it does the same, and plans each round: it writes a dossier of it, which `check` says
-/// yes to. With `trial` it reads nothing: it plans a generated day, and writes one line with the numbers of its dossier. Other
-/// words have no form: nothing is read or written.
+/// yes to. With `audit` it reads a day, the line `dossiers` and dossiers, and writes one line: that the dossiers belong to the
+/// day, or the first thing that differs. With `trial` it reads nothing: it plans a generated day, and writes one line with the
+/// numbers of its dossier. Other words have no form: nothing is read or written.
 pub fn run<S: Source, K: Sink>(alloc: Global, words: &[String], src: &mut S, out: &mut K) -> Status
     // Each status tells what the input is and what was written, also at a fault.
     ensures says { (command : Command) → AskFor command (map (λ w. string_bytes w) words.now)

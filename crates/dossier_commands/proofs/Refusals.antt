@@ -1,12 +1,12 @@
 -- an input with a line that is refused is accepted as no dossiers
-use Rattle.std.proofs.Common.{◌≡◌, ◌≢◌, ◌<◌, ◌+◌, ◌++◌, ℕ, zero, suc, List, [], ◌∷◌, length, map, take, sym, subst, ap, refl, ◌∙◌, arith, ◌⊎◌, inl, inr, length-append, append_assoc, append-nil}
+use Rattle.std.proofs.Common.{◌≡◌, ◌≢◌, ◌≤◌, ◌<◌, ◌+◌, ◌++◌, ℕ, zero, suc, List, [], ◌∷◌, length, map, take, sym, subst, ap, refl, ◌∙◌, arith, ◌⊎◌, inl, inr, length-append, append_assoc, append-nil}
 use Rattle.std.proofs.lemmas.List.{get_or-append-add, map-append}
 use Rattle.std.proofs.lemmas.List.Concat.{flat_map-append}
 use Rattle.std.proofs.lemmas.List.Elements.{All-append, All-map}
 use Rattle.std.specs.Prelude.{All}
 use Rattle.std.specs.List.{flat_map}
 use Rattle.crew_terms.specs.Words.{Words, IsLine, words_of, line_of, with_feed}
-use Rattle.crew_terms.specs.declared.TheConstants.{LONGEST_LINE}
+use Rattle.crew_terms.specs.declared.TheConstants.{LONGEST_INPUT, LONGEST_LINE}
 use Rattle.crew_io.specs.Lines.{NoFeed}
 use Rattle.dossier_terms.specs.declared.Reason.{Reason}
 use Rattle.dossier_terms.specs.Dossier.{Dossier, IsGood}
@@ -14,7 +14,7 @@ use Rattle.dossier_terms.specs.Lines.{lines_of, text_of}
 use Rattle.dossier_terms.specs.Reading.{Reading, Answer, More, Whole, No, Form}
 use Rattle.dossier_terms.specs.Table.{Says, Reaches, Ended}
 use Rattle.text_laws.specs.Texts.{IsFront, AreLine, HasMore}
-use Rattle.dossier_commands.specs.Input.{Front, no_front, IsAcceptedBehind, IsRefusal, BadLine, NoLine, HasRead, IsStop, Stops, LineTooLong, InputTooLong, IsEnd, text_of_lines, text_before, lines_before, room_after}
+use Rattle.dossier_commands.specs.Input.{Front, GoTo, no_front, IsAcceptedBehind, IsRefusal, BadLine, NoLine, HasRead, IsStop, Stops, LineTooLong, InputTooLong, IsEnd, text_of_lines, text_before, lines_before, room_after}
 
 -- one line more
 pub leads_on : (s : Reading) (lines : List Words) (ws : Words) (t u : Reading) → Reaches s lines t → Says t ws (More u) → Reaches s (lines ++ ws ∷ []) u
@@ -336,6 +336,19 @@ module _
   one_stand done lines rest due reason cause leads (AtStop stop more) (AtLine a x e p f n) = absurd (whole_line (room_after front done lines) rest reason a x stop p f e)
   one_stand done lines rest due reason cause leads (AtStop a c) (AtStop b d) = one_stop (room_after front done lines) rest reason cause a b
 
+  -- a line that is read behind others fits into the room behind these
+  fits_behind : (done others : List Dossier) (lines more : List (List ℕ)) (x : List ℕ) (xs : List (List ℕ)) → All IsGood done → All IsGood others
+      → length (text_before front others more) ≤ LONGEST_INPUT → lines_read others more ≡ lines_read done lines ++ x ∷ xs → length x < room_after front done lines
+  fits_behind done others lines more x xs gd go within e =
+      let f = ap length (text_read others more go ∙ ap (flat_map with_feed) e ∙ flat_map-append with_feed (lines_read done lines) (x ∷ xs)) in
+      let g = length-append (flat_map with_feed (lines_read done lines)) (flat_map with_feed (x ∷ xs)) in
+      let h = length-append (with_feed x) (flat_map with_feed xs) in
+      let i = length-append x (10 ∷ []) in
+      let j = ap length (text_read done lines gd) in
+      let l = length-append front.text (text_before no_front others more) in
+      let m = length-append front.text (text_before no_front done lines) in
+      omega arith
+
   -- of two refusals the one that has read no less stands at the same place
   not_ahead : (input : List ℕ) (done others : List Dossier) (number other : ℕ) (reason cause : Reason) (a : IsPlace front input done number reason) (b : IsPlace front input others other cause)
       (more : List (List ℕ)) → lines_read others b.lines ≡ lines_read done a.lines ++ more → a.rest ≡ flat_map with_feed more ++ b.rest
@@ -346,18 +359,6 @@ module _
       words : flat_map lines_of others ++ map words_of b.lines ≡ (flat_map lines_of done ++ map words_of a.lines) ++ map words_of more
       words = sym (words_read others b.lines b.read.good) ∙ ap (map words_of) e ∙ map-append words_of (lines_read done a.lines) more
           ∙ ap (λ y. y ++ map words_of more) (words_read done a.lines a.read.good)
-
-      room : (x : List ℕ) (xs : List (List ℕ)) → lines_read others b.lines ≡ lines_read done a.lines ++ x ∷ xs → length x < room_after front done a.lines
-      room x xs e =
-          let f = ap length (text_read others b.lines b.read.good ∙ ap (flat_map with_feed) e ∙ flat_map-append with_feed (lines_read done a.lines) (x ∷ xs)) in
-          let g = length-append (flat_map with_feed (lines_read done a.lines)) (flat_map with_feed (x ∷ xs)) in
-          let h = length-append (with_feed x) (flat_map with_feed xs) in
-          let i = length-append x (10 ∷ []) in
-          let j = ap length (text_read done a.lines a.read.good) in
-          let k = b.read.within in
-          let l = length-append front.text (text_before no_front others b.lines) in
-          let m = length-append front.text (text_before no_front done a.lines) in
-          omega arith
 
       same : done ≡ others → a.lines ≡ b.lines → a.rest ≡ b.rest → a.due ≡ b.due → (done ≡ others) × (number ≡ other) × (reason ≡ cause)
       same p q r s =
@@ -372,7 +373,7 @@ module _
           → GoesOn done others (map words_of a.lines) (map words_of b.lines) (map words_of more) → (done ≡ others) × (number ≡ other) × (reason ≡ cause)
       at (x ∷ xs) e text on =
           absurd (not_taken done a.lines a.rest a.due reason x (flat_map with_feed xs ++ b.rest) a.read.leads a.stands (text ∙ append_assoc (with_feed x) (flat_map with_feed xs) b.rest)
-          (all_behind IsLine (lines_read done a.lines) (x ∷ xs) (subst (All IsLine) e (are_lines others b.lines b.read.good b.read.each)) 0 x (omega arith)) (room x xs e)
+          (all_behind IsLine (lines_read done a.lines) (x ∷ xs) (subst (All IsLine) e (are_lines others b.lines b.read.good b.read.each)) 0 x (omega arith)) (fits_behind done others a.lines b.lines x xs a.read.good b.read.good b.read.within e)
           (next_taken done others (map words_of a.lines) (map words_of b.lines) (words_of x) (map words_of xs) a.due b.due a.read.leads b.read.leads on))
       at [] e text (Within p w) =
           let bytes : map line_of (flat_map lines_of done) ++ b.lines ≡ map line_of (flat_map lines_of done) ++ a.lines =
@@ -399,6 +400,87 @@ module _
         | inl m ↦ (let t = not_ahead input others done other number cause reason b a m.more m.lines m.text in (sym t.0, sym t.1, sym t.2))
         | inr m ↦ not_ahead input done others number other reason cause a b m.more m.lines m.text
       ]
+
+  -- of two lists of good dossiers whose lines begin one text, one goes on the other
+  together : (done others : List Dossier) (a b : List Words) → All IsGood done → All IsGood others → flat_map lines_of done ++ a ≡ flat_map lines_of others ++ b
+      → GoTo done others ⊎ GoTo others done
+  together [] others a b gd go e = inl (record { tail = others; is = refl })
+  together (d ∷ done) [] a b gd go e = inr (record { tail = d ∷ done; is = refl })
+  together (d ∷ done) (x ∷ others) a b gd go e =
+      let ds = flat_map lines_of done ++ a in
+      let xs = flat_map lines_of others ++ b in
+      let f : lines_of d ++ ds ≡ lines_of x ++ xs = sym (append_assoc (lines_of d) (flat_map lines_of done) a) ∙ e ∙ append_assoc (lines_of x) (flat_map lines_of others) b in
+      let same : x ≡ d = same_first x d ds xs (go 0 x (omega arith)) (gd 0 d (omega arith)) f in
+      let g : ds ≡ xs = cancel (lines_of x) ds xs (ap (λ y. lines_of y ++ ds) same ∙ f) in
+      elim (together done others a b (λ k y l. gd (suc k) y (omega arith)) (λ k y l. go (suc k) y (omega arith)) g) [
+        | inl m ↦ inl (record { tail = m.tail; is = ap (λ y. y ∷ others) same ∙ ap (λ y. d ∷ y) m.is })
+        | inr m ↦ inr (record { tail = m.tail; is = ap (λ y. y ∷ done) (sym same) ∙ ap (λ y. x ∷ y) m.is })
+      ]
+
+  -- the words of what was read of one text
+  words_together : (done others : List Dossier) (lines more last : List (List ℕ)) → All IsGood done → All IsGood others
+      → lines_read done lines ≡ lines_read others more ++ last
+      → flat_map lines_of done ++ map words_of lines ≡ flat_map lines_of others ++ (map words_of more ++ map words_of last)
+  words_together done others lines more last gd go e =
+      sym (words_read done lines gd) ∙ ap (map words_of) e ∙ map-append words_of (lines_read others more) last
+      ∙ ap (λ y. y ++ map words_of last) (words_read others more go) ∙ append_assoc (flat_map lines_of others) (map words_of more) (map words_of last)
+
+  module _ (either : (xs ys : List (List ℕ)) (a b : List ℕ) → All IsLine xs → All IsLine ys → flat_map with_feed xs ++ a ≡ flat_map with_feed ys ++ b
+      → HasMore xs ys a b ⊎ HasMore ys xs b a) where
+    -- of two readings of one input, one has read all lines of the other
+    either_more : (input : List ℕ) (done others : List Dossier) (lines more : List (List ℕ)) (rest later : List ℕ) (due next : Reading)
+        → HasRead front input done lines rest due → HasRead front input others more later next
+        → HasMore (lines_read done lines) (lines_read others more) rest later ⊎ HasMore (lines_read others more) (lines_read done lines) later rest
+    either_more input done others lines more rest later due next a b =
+        let same : text_before no_front done lines ++ rest ≡ text_before no_front others more ++ later =
+        cancel front.text (text_before no_front done lines ++ rest) (text_before no_front others more ++ later)
+        (sym (behind_front front input done lines rest a.text) ∙ behind_front front input others more later b.text) in
+        either (lines_read done lines) (lines_read others more) rest later (are_lines done lines a.good a.each) (are_lines others more b.good b.each)
+        (ap (λ z. z ++ rest) (sym (text_read done lines a.good)) ∙ same ∙ ap (λ z. z ++ later) (text_read others more b.good))
+
+    pub one_way_on : (input : List ℕ) (done others : List Dossier) (lines more : List (List ℕ)) (rest later : List ℕ) (due next : Reading)
+        → HasRead front input done lines rest due → HasRead front input others more later next → GoTo done others ⊎ GoTo others done
+    one_way_on input done others lines more rest later due next a b = elim (either_more input done others lines more rest later due next a b) [
+      | inl m ↦ together done others (map words_of lines) (map words_of more ++ map words_of m.more) a.good b.good (words_together done others lines more m.more a.good b.good m.lines)
+      | inr m ↦ (let w = words_together others done more lines m.more b.good a.good m.lines in
+          together done others (map words_of lines ++ map words_of m.more) (map words_of more) a.good b.good (sym w))
+    ]
+
+    pub read_on_is_not_refused : (input : List ℕ) (done tail : List Dossier) (d : Dossier) (rest : List ℕ) (number : ℕ) (reason : Reason)
+        → IsRefusal front input done number reason → HasRead front input (done ++ d ∷ tail) [] rest Form → ⊥
+    read_on_is_not_refused input done tail d rest number reason refusal b = elim (either_more input done others a.lines [] a.rest rest a.due Form a.read b) [
+      | inl m ↦ past (flat_map lines_of tail ++ map words_of m.more)
+          (cancel (flat_map lines_of done) (map words_of a.lines) (lines_of d ++ (flat_map lines_of tail ++ map words_of m.more))
+          (words_together done others a.lines [] m.more a.read.good b.good m.lines ∙ ap (λ y. y ++ map words_of m.more) all
+          ∙ append_assoc (flat_map lines_of done) (lines_of d ++ flat_map lines_of tail) (map words_of m.more)
+          ∙ ap (λ y. flat_map lines_of done ++ y) (append_assoc (lines_of d) (flat_map lines_of tail) (map words_of m.more))))
+      | inr m ↦ on m.more m.lines m.text (cancel (flat_map lines_of done) (map words_of a.lines ++ map words_of m.more) (lines_of d ++ flat_map lines_of tail)
+          (sym (words_together others done [] a.lines m.more b.good a.read.good m.lines) ∙ append-nil (flat_map lines_of others) ∙ all))
+    ]
+      where
+        others : List Dossier
+        others = done ++ d ∷ tail
+
+        a : IsPlace front input done number reason
+        a = place_of front input done number reason refusal
+
+        all : flat_map lines_of others ≡ flat_map lines_of done ++ (lines_of d ++ flat_map lines_of tail)
+        all = flat_map-append lines_of done (d ∷ tail)
+
+        is_good : IsGood d
+        is_good = all_behind IsGood done (d ∷ tail) b.good 0 d (omega arith)
+
+        past : (more : List Words) → map words_of a.lines ≡ lines_of d ++ more → ⊥
+        past more e = leads_not_past [] Form (lines_of d) more a.due d refl (is_read d is_good) (subst (λ y. Reaches Form y a.due) e a.read.leads)
+
+        on : (more : List (List ℕ)) → lines_read others [] ≡ lines_read done a.lines ++ more → a.rest ≡ flat_map with_feed more ++ rest
+            → map words_of a.lines ++ map words_of more ≡ lines_of d ++ flat_map lines_of tail → ⊥
+        on [] e text words = past (flat_map lines_of tail) (sym (append-nil (map words_of a.lines)) ∙ words)
+        on (x ∷ xs) e text words =
+            not_taken done a.lines a.rest a.due reason x (flat_map with_feed xs ++ rest) a.read.leads a.stands (text ∙ append_assoc (with_feed x) (flat_map with_feed xs) rest)
+            (all_behind IsLine (lines_read done a.lines) (x ∷ xs) (subst (All IsLine) e (are_lines others [] b.good b.each)) 0 x (omega arith))
+            (fits_behind done others a.lines [] x xs a.read.good b.good b.within e)
+            (taken_in (map words_of a.lines) (words_of x) (map words_of xs) a.due d (flat_map lines_of tail) is_good a.read.leads words)
 
   pub refused_is_not_accepted : (input : List ℕ) (done : List Dossier) (number : ℕ) (reason : Reason) (es : List Dossier)
       → IsRefusal front input done number reason → IsAcceptedBehind front input es → ⊥

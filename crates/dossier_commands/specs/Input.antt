@@ -55,6 +55,11 @@ pub record HasRead (front : Front) (input : List ℕ) (done : List Dossier) (lin
   pub each : All IsLine lines
   pub leads : Reaches Form (map words_of lines) due
 
+-- the dossiers go on to the others, by those of a tail
+pub record GoTo (done others : List Dossier) : Type 0 where
+  pub tail : List Dossier
+  pub is : others ≡ done ++ tail
+
 -- how many bytes may come after these lines
 abbrev pub room_after : Front → List Dossier → List (List ℕ) → ℕ
 room_after front done lines = LONGEST_INPUT - length (text_before front done lines)

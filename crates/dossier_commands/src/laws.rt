@@ -1,13 +1,13 @@
 // Laws of inputs: what is refused is accepted as no dossiers, and what ends a dossier is its text.
-ghost use Rattle.std.specs.Prelude.{◌≡◌, ℕ, List, [], map};
+ghost use Rattle.std.specs.Prelude.{◌≡◌, ◌⊎◌, ◌++◌, ◌∷◌, ℕ, List, [], map};
 ghost use Rattle.crew_terms.specs.Words.{Words, words_of};
 ghost use Rattle.dossier_terms.specs.declared.Reason.{Reason};
 ghost use Rattle.dossier_terms.specs.Dossier.{Dossier};
 ghost use Rattle.dossier_terms.specs.Lines.{lines_of, text_of};
-ghost use Rattle.dossier_terms.specs.Reading.{Form};
+ghost use Rattle.dossier_terms.specs.Reading.{Form, Reading};
 ghost use Rattle.dossier_terms.specs.Table.{Ended, Reaches};
 ghost use Rattle.cert_checker.specs.Checked.{IsTrueYes};
-ghost use Rattle.dossier_commands.specs.Input.{Front, IsAcceptedBehind, IsRefusal, text_of_lines};
+ghost use Rattle.dossier_commands.specs.Input.{Front, GoTo, HasRead, IsAcceptedBehind, IsRefusal, text_of_lines};
 
 use cause_laws::loose_splits_stay_open;
 use dossier_laws::{
@@ -36,6 +36,28 @@ pub fn one_refusal()
         (reason cause : Reason)
         → IsRefusal front input done number reason → IsRefusal front input others other cause
         → (done ≡ others) × (number ≡ other) × (reason ≡ cause) }
+{
+    lines_in_text();
+    read_front();
+    good_lines();
+    words_of_line();
+    text_laws::text_of_lines();
+    one_dossier();
+    good_is_read();
+    says_one_thing();
+}
+
+/// Of two readings of an input behind one front, the dossiers of the one go on to those of the other; and an input of
+/// which one more good dossier can be read is not refused before it.
+pub fn one_way_on()
+    ensures dossiers { (front : Front) (input : List ℕ) (done others : List Dossier)
+        (lines more : List (List ℕ)) (rest later : List ℕ) (due next : Reading)
+        → HasRead front input done lines rest due → HasRead front input others more later next
+        → GoTo done others ⊎ GoTo others done }
+    ensures refusal { (front : Front) (input : List ℕ) (done tail : List Dossier) (d : Dossier)
+        (rest : List ℕ) (number : ℕ) (reason : Reason)
+        → IsRefusal front input done number reason
+        → HasRead front input (done ++ d ∷ tail) [] rest Form → ⊥ }
 {
     lines_in_text();
     read_front();

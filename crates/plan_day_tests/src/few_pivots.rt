@@ -11,7 +11,7 @@ use crew_fixtures::{
 };
 use crew_instance::Instance;
 use crew_io::sink::MemSink;
-use search_core::{AscentEffort, Effort, Outcome, ScoutEffort, Search};
+use search_core::{AscentEffort, Effort, Outcome, RebuildEffort, ScoutEffort, Search};
 use std::alloc::{AllocError, Global};
 use std::process::Abort;
 use std::test::Fail;
@@ -24,13 +24,19 @@ const NO_ASCENT: AscentEffort = AscentEffort {
     looks: 1,
 };
 
+const NO_SEARCH: RebuildEffort = RebuildEffort {
+    looks_a_task: 0,
+    seed: 0,
+};
+
 // Nothing but the master's run closes a node.
 const MASTER_ALONE: Effort = Effort {
     iterations: 0,
     root: NO_ASCENT,
     root_of_many: NO_ASCENT,
-    more_iterations: 0,
+    rebuild: NO_SEARCH,
     again: NO_ASCENT,
+    rebuild_again: NO_SEARCH,
     below: NO_ASCENT,
     scout: ScoutEffort {
         pivots: 0,

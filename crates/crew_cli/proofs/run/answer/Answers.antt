@@ -1,9 +1,9 @@
 use Rattle.std.proofs.Common.{sym, subst}
 use Rattle.std.specs.Prelude.{codes}
-use Rattle.crew_cli.specs.Run.{Answers, of_delays, of_trial, promises_of}
+use Rattle.crew_cli.specs.Run.{Answers, an_audit, of_delays, of_trial, promises_of}
 use Rattle.crew_cli.specs.declared.run.Command.{Command}
 use Rattle.crew_cli.specs.declared.status.Status.{Status}
-use Rattle.crew_cli.proofs.Top.{delays_answer, trial_answers}
+use Rattle.crew_cli.proofs.Top.{audit_answers, delays_answer, trial_answers}
 use Rattle.crew_cli.proofs.run.answer.Goals as goal
 
 pub returns-in-Check : goal.returns-in-Check
@@ -37,6 +37,13 @@ pub returns-in-Day : goal.returns-in-Day
 returns-in-Day g c =
     subst (λ (a : Command). Answers g.S.Source g.K.Sink (promises_of a) c.args.src.now c.plan_day-in-Day.new.src c.args.out.now c.plan_day-in-Day.new.out c.plan_day-in-Day.result)
     (sym c.in-Day.is) (c.plan_day-in-Day.ensures (codes "day"))
+
+pub returns-in-Audit : goal.returns-in-Audit
+returns-in-Audit g c =
+    subst (λ (a : Command). Answers g.S.Source g.K.Sink (promises_of a) c.args.src.now c.audit_day.new.src c.args.out.now c.audit_day.new.out c.of_audit.result)
+    (sym c.in-Audit.is)
+    (subst (λ (s : Status). Answers g.S.Source g.K.Sink an_audit c.args.src.now c.audit_day.new.src c.args.out.now c.audit_day.new.out s)
+    (sym c.of_audit.ensures) (audit_answers g.S.Source g.K.Sink c.args.src.now c.audit_day.new.src c.args.out.now c.audit_day.new.out c.audit_day.result c.audit_day.ensures))
 
 pub returns-in-Trial : goal.returns-in-Trial
 returns-in-Trial g c =
