@@ -13,7 +13,7 @@ use Rattle.desk_commands.specs.declared.output.DeskOutput.{DeskOutput}
 use Rattle.desk_commands.specs.declared.output.DeskOutput.TheVariants as output
 use Rattle.desk_commands.specs.declared.read.Refusal.{Refusal}
 use Rattle.desk_cli.specs.declared.run.Command.{Command}
-use Rattle.desk_cli.specs.declared.run.Command.TheVariants.{Changes}
+use Rattle.desk_cli.specs.declared.run.Command.TheVariants.{Changes, Picture}
 use Rattle.desk_cli.specs.declared.run.Outcome.{Outcome}
 use Rattle.desk_cli.specs.declared.status.Status.{Status}
 use Rattle.desk_cli.specs.declared.status.Status.TheVariants.{Done, No, Words, ReadFault, WriteFault, Memory}
@@ -54,6 +54,7 @@ over_dossiers word output = record {
 -- the commands, with what is promised of each
 abbrev pub promises_of : Command → Promises
 promises_of Changes = over_dossiers (codes "changes") output.Changes
+promises_of Picture = over_dossiers (codes "picture") output.Picture
 
 -- the words ask for the command
 abbrev pub AskFor : Command → List (List ℕ) → Type 0

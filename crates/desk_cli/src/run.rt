@@ -16,6 +16,8 @@ use std::alloc::{AllocError, Global};
 pub enum Command {
     /// `changes`: read dossiers, and write what changed from each good one to the next.
     Changes,
+    /// `picture`: read dossiers, and write a page with a chart of the plan of each good one.
+    Picture,
 }
 
 /// What the top call answers: how it ended, and of dossiers the first line that is refused, where one is. Nothing of that line was
@@ -54,6 +56,9 @@ impl Command {
     {
         if asks_for(words, "changes") {
             return Some(Command::Changes);
+        }
+        if asks_for(words, "picture") {
+            return Some(Command::Picture);
         }
         None
     }
@@ -94,11 +99,12 @@ fn answer<S: Source, K: Sink>(alloc: Global, command: Command, src: &mut S, out:
 {
     match command {
         Command::Changes => read_all(alloc, DeskOutput::Changes, src, out),
+        Command::Picture => read_all(alloc, DeskOutput::Picture, src, out),
     }
 }
 
 /// Does what the words ask for. With `changes` it reads one dossier after another, and writes what changed from each good one to
-/// the next. At the first line that is refused it ends what it
+/// the next, with `picture` a page with a chart of the plan of each good one. At the first line that is refused it ends what it
 /// writes as at the end of the input, and tells the line in its outcome. Other words have no form: nothing is read or written.
 pub fn run<S: Source, K: Sink>(alloc: Global, words: &[String], src: &mut S, out: &mut K) -> Outcome
     // Each outcome tells what the input is and what was written, also at a fault.

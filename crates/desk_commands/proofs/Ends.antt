@@ -1,9 +1,9 @@
 -- how a command of the desk ends, behind a last write
-use Rattle.std.proofs.Common.{◌≡◌, ℕ, List, Option, Result, Ok, Err, ap, refl, subst, sym, ◌∙◌}
+use Rattle.std.proofs.Common.{ℕ, List, Option, Result, Ok, Err, refl, subst, sym}
 use Rattle.crew_io.specs.Io.{HasEnded}
 use Rattle.crew_io.specs.Puts.{Puts, TellsWrites}
 use Rattle.crew_io.specs.Draws.{TellsReads, reads_none, reads_then}
-use Rattle.crew_io.specs.Chains.{puts_tell, writes_none, writes_then}
+use Rattle.crew_io.specs.Chains.{puts_tell, writes_then}
 use Rattle.crew_io.specs.Lines.{Reader}
 use Rattle.crew_io.specs.declared.sink.Sink.{Ghosts as SinkTells}
 use Rattle.crew_io.specs.declared.source.Source.{Ghosts as SourceTells}
@@ -17,7 +17,7 @@ use Rattle.desk_commands.specs.Says.{Finishes, ReadsDesk, ended_by}
 use Rattle.desk_commands.specs.declared.output.DeskOutput.{DeskOutput}
 use Rattle.desk_commands.specs.declared.read.Refusal.{Refusal}
 use Rattle.desk_commands.specs.declared.read.Ended.{Ended}
-use Rattle.desk_commands.specs.declared.read.Ended.TheVariants.{Done, No, ReadFault, WriteFault}
+use Rattle.desk_commands.specs.declared.read.Ended.TheVariants.{Done, No, WriteFault}
 use Rattle.desk_commands.proofs.Said.{HasSaidOf, all_is_part, front_end, says_done, says_no}
 
 module _ {S K : Type 0} (source : SourceTells S) (sink : SinkTells K) (output : DeskOutput) (src0 src later : S) (out0 out new : K) (old : Reader) (at : Checked) (rounds : ℕ) (before : Option RoundByNames)

@@ -4,8 +4,10 @@ use Rattle.std.specs.Option.{option_map_or}
 use Rattle.dossier_terms.specs.Dossier.{Dossier}
 use Rattle.round_changes.specs.Named.{RoundByNames, round_of}
 use Rattle.plan_changes.specs.Changes.{changes_text}
+use Rattle.plan_chart.specs.Charts.{chart_text}
+use Rattle.plan_chart.specs.Pages.{page_end, page_head}
 use Rattle.desk_commands.specs.declared.output.DeskOutput.{DeskOutput}
-use Rattle.desk_commands.specs.declared.output.DeskOutput.TheVariants.{Changes}
+use Rattle.desk_commands.specs.declared.output.DeskOutput.TheVariants.{Changes, Picture}
 
 -- what is kept of a dossier when the next one is read
 abbrev pub kept_of : Dossier → RoundByNames
@@ -23,14 +25,17 @@ changes_since n before now = option_map_or (λ (old : RoundByNames). changes_tex
 -- what comes before the rounds
 abbrev pub head_of : DeskOutput → List ℕ
 head_of Changes = []
+head_of Picture = page_head
 
 -- the part of round n
 abbrev pub round_text : DeskOutput → ℕ → Option RoundByNames → Dossier → List ℕ
 round_text Changes n before d = changes_since n before (kept_of d)
+round_text Picture n before d = chart_text n d.bound before (kept_of d) d.instance d.plan
 
 -- what comes after so many rounds
 abbrev pub end_of : DeskOutput → ℕ → List ℕ
 end_of Changes rounds = []
+end_of Picture rounds = page_end rounds
 
 -- the parts of these dossiers, the first of which is round n
 abbrev pub rounds_from : DeskOutput → ℕ → Option RoundByNames → List Dossier → List ℕ

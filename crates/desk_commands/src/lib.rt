@@ -1,4 +1,5 @@
-// The commands of the desk over dossiers: `changes`, which tells what changed from each good one to the next.
+// The commands of the desk over dossiers: `changes`, which tells what changed from each good one to the next, and `picture`, which
+// draws the plan of each good one.
 #![tactic(auto)]
 
 pub mod output;

@@ -5,4 +5,6 @@
 pub enum DeskOutput {
     /// What changed from each plan to the next.
     Changes,
+    /// A page with a chart of each plan.
+    Picture,
 }

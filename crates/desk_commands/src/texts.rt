@@ -10,6 +10,7 @@ use crate::output::DeskOutput;
 use cert_checker::{Checker, Verdict};
 use crew_io::sink::{Sink, WriteFault};
 use plan_changes::changes;
+use plan_chart::{put_chart, put_page_end, put_page_head};
 use round_changes::{Round, note_round};
 use std::alloc::{AllocError, Global};
 
@@ -28,6 +29,7 @@ pub fn put_first<K: Sink>(out: &mut K, output: DeskOutput) -> Result<(), WriteFa
 {
     match output {
         DeskOutput::Changes => Ok(()),
+        DeskOutput::Picture => put_page_head(out),
     }
 }
 
@@ -37,6 +39,7 @@ pub fn put_last<K: Sink>(out: &mut K, output: DeskOutput, rounds: u64) -> Result
 {
     match output {
         DeskOutput::Changes => Ok(()),
+        DeskOutput::Picture => put_page_end(out, rounds),
     }
 }
 
@@ -75,5 +78,14 @@ pub fn put_round<K: Sink>(
 {
     match output {
         DeskOutput::Changes => put_changes(out, round, before, now),
+        DeskOutput::Picture => put_chart(
+            out,
+            round,
+            verdict.bound,
+            before,
+            now,
+            checker.instance(),
+            checker.plan(),
+        ),
     }
 }

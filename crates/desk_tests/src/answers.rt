@@ -9,7 +9,7 @@ use std::process::Abort;
 use std::test::Fail;
 
 /// More bytes than any output here has.
-const ROOM: usize = 2000;
+const ROOM: usize = 20_000;
 
 /// What the program answers to the words with this input, and what it writes, where these reads and writes fail.
 pub fn answer(

@@ -1,7 +1,7 @@
 // What the program answers, and what it has written, where a read, a write or the flush fails.
 use crate::answers::answer;
-use crew_fixtures::dossiers::{TOGETHER, WITH_POOL};
-use crew_fixtures::{joined, text_of};
+use crew_fixtures::dossiers::{ONE_TASK, TOGETHER, WITH_POOL};
+use crew_fixtures::{joined, text_of, with_line};
 use desk_cli::status::Status;
 use std::alloc::{AllocError, Global};
 use std::test::Fail;
@@ -48,10 +48,20 @@ fn each_write_fails_once(rt: HostRuntime) -> Result<(), Fail> {
 }
 
 #[test]
+fn each_write_of_a_page_fails_once(rt: HostRuntime) -> Result<(), Fail> {
+    // A short shift has few hours to draw.
+    let input = with_line(rt.alloc(), ONE_TASK, 7, b"team T1 0 360 480")?;
+    let writes = told_writes(rt.alloc(), "picture", &input)?;
+    assert!(rt; writes.is_some_and(|n| n > 90));
+    Ok(())
+}
+
+#[test]
 fn each_read_fails_once(rt: HostRuntime) -> Result<(), Fail> {
     let input = two_dossiers(rt.alloc())?;
     for call in 1..3 {
         assert!(rt; tells_read(rt.alloc(), "changes", &input, call)?);
+        assert!(rt; tells_read(rt.alloc(), "picture", &input, call)?);
     }
     Ok(())
 }

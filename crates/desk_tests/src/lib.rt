@@ -7,3 +7,5 @@ mod answers;
 mod changes;
 #[cfg(test)]
 mod faults;
+#[cfg(test)]
+mod picture;

@@ -1,7 +1,11 @@
-use Rattle.std.proofs.Common.{[]}
+use Rattle.std.proofs.Common.{[], ap, sym}
 use Rattle.crew_io.specs.Chains.{puts_done, puts_nothing, puts_same}
-use Rattle.desk_commands.proofs.Outputs.{end_is}
+use Rattle.desk_commands.specs.Rounds.{end_of}
 use Rattle.desk_commands.proofs.texts.put_last.Goals as goal
 
-pub returns : goal.returns
-returns g c = puts_same g.K.Sink _ _ _ _ _ (end_is c.args.output c.args.rounds) (puts_done g.K.Sink [] _ _ tt tt (puts_nothing g.K.Sink c.args.out.now))
+pub returns-in-Changes : goal.returns-in-Changes
+returns-in-Changes g c =
+    puts_same g.K.Sink _ _ _ _ _ (ap (λ o. end_of o c.args.rounds) (sym c.in-Changes.is)) (puts_done g.K.Sink [] _ _ tt tt (puts_nothing g.K.Sink c.args.out.now))
+
+pub returns-in-Picture : goal.returns-in-Picture
+returns-in-Picture g c = puts_same g.K.Sink _ _ _ _ _ (ap (λ o. end_of o c.args.rounds) (sym c.in-Picture.is)) c.put_page_end.ensures

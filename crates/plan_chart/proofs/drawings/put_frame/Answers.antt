@@ -1,0 +1,8 @@
+use Rattle.std.proofs.Common.{refl}
+use Rattle.each_out.specs.Laws.{puts_as}
+use Rattle.plan_chart.specs.Drawings.{frame_of}
+use Rattle.plan_chart.proofs.drawings.put_frame.Goals as goal
+
+pub returns : goal.returns
+unfolding frame_of
+returns g c = puts_as g.K.Sink _ _ _ _ _ c.put_pieces.ensures (rw (c.saturating_sub-minutes.ensures) refl)

@@ -1,0 +1,8 @@
+use Rattle.std.proofs.Common.{refl}
+use Rattle.each_out.specs.Laws.{puts_as}
+use Rattle.plan_chart.specs.Headings.{best_text}
+use Rattle.plan_chart.proofs.headings.put_best.Goals as goal
+
+pub returns : goal.returns
+unfolding best_text
+returns g c = puts_as g.K.Sink _ _ _ _ _ c.put_pieces.ensures refl

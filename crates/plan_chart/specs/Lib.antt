@@ -1,0 +1,14 @@
+pub mod Hours
+pub mod Rows
+pub mod Counts
+pub mod Ways
+pub mod Laws
+pub mod RowTexts
+pub mod Looks
+pub mod Titles
+pub mod Bars
+pub mod Jobs
+pub mod Headings
+pub mod Drawings
+pub mod Charts
+pub mod Pages
