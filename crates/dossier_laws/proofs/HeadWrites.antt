@@ -5,13 +5,14 @@ use Rattle.std.specs.Fmt.{decimal}
 use Rattle.std.proofs.lemmas.List.{length-map}
 use Rattle.crew_terms.specs.Name.{IsName}
 use Rattle.crew_terms.specs.Instance.{Instance}
-use Rattle.crew_terms.specs.Rules.{IsTeam, IsTask}
+use Rattle.crew_terms.specs.Rules.{IsInstance, IsTeam, IsTask}
 use Rattle.crew_terms.specs.Plan.{empty_plan}
-use Rattle.crew_terms.specs.declared.TheConstants.{LAST_MINUTE}
+use Rattle.crew_terms.specs.declared.TheConstants.{LAST_MINUTE, MOST_NODES}
 use Rattle.dossier_laws.proofs.Empty.{empty_more}
 use Rattle.crew_terms.specs.declared.Team.{Team}
 use Rattle.crew_terms.specs.declared.Task.{Task}
 use Rattle.dossier_terms.specs.declared.DossierForm.{DossierForm}
+use Rattle.dossier_terms.specs.declared.DossierForm.TheVariants.{Two}
 use Rattle.dossier_terms.specs.declared.Size.{Size}
 use Rattle.dossier_terms.specs.Dossier.{skills_of}
 use Rattle.dossier_terms.specs.Lines.{place_line, travel_line, team_line, task_line, instance_lines, frozen_lines, head_lines, size_of}
@@ -104,11 +105,16 @@ instance_reached form i budget h = (
         Holds (_, refl, omega arith) (Holds good.name (Spelled (record x { skills = 0 }, skills_of x.skills) line refl
         (Holds fresh (Holds (record { order = window.order; width = window.width; day = window.day; some_minutes = window.some_minutes; minutes = window.minutes }, skills_rise x.skills) (On same)))))
 
+-- with its frozen jobs they lead to the pool
+sizes_reached : (form : DossierForm) (i : Instance) (budget : ℕ) → IsHead form i budget → Reaches (Sizes form) (instance_lines i budget ++ frozen_lines form i.frozen) (Pools form i budget)
+sizes_reached form i budget h =
+    reaches-append (Sizes form) (instance_lines i budget) (tasks_done form (size_of i budget) (record i { frozen = empty_plan (length i.tasks) })) (frozen_lines form i.frozen) (Pools form i budget)
+    (instance_reached form i budget h)
+    (frozen_reached form (size_of i budget) i h.instance h.frozen)
+
 pub head_reached : (form : DossierForm) (i : Instance) (budget : ℕ) → IsHead form i budget → Reaches Form (head_lines form i budget) (Pools form i budget)
-head_reached form i budget h = (
-  Sizes form,
-  Spelled form tt refl (On refl),
-  reaches-append (Sizes form) (instance_lines i budget) (tasks_done form (size_of i budget) (record i { frozen = empty_plan (length i.tasks) })) (frozen_lines form i.frozen) (Pools form i budget)
-      (instance_reached form i budget h)
-      (frozen_reached form (size_of i budget) i h.instance h.frozen),
-)
+head_reached form i budget h = (Sizes form, Spelled form tt refl (On refl), sizes_reached form i budget h)
+
+-- in form 2
+pub head_behind_form : (i : Instance) (budget : ℕ) → IsInstance i → budget ≤ MOST_NODES → Reaches (Sizes Two) (instance_lines i budget ++ frozen_lines Two i.frozen) (Pools Two i budget)
+head_behind_form i budget is few = sizes_reached Two i budget (record { instance = is; frozen = tt; budget = few })

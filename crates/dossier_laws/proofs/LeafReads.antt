@@ -31,14 +31,14 @@ pub rows_none : (line : ℕ → List ℤ → Words) (keys : List ℕ) → rows_l
 rows_none line [] = refl
 rows_none line (k ∷ ks) = refl
 
-rows_more : (In : ℤ → Type 0) (wants : ℕ → ℕ) (line : ℕ → List ℤ → Words) (read : List ℕ) (rows : List (List ℤ)) (j : ℕ) (left : List ℕ) (vs : List ℤ) → AreRows In wants read rows
+pub rows_more : (In : ℤ → Type 0) (wants : ℕ → ℕ) (line : ℕ → List ℤ → Words) (read : List ℕ) (rows : List (List ℤ)) (j : ℕ) (left : List ℕ) (vs : List ℤ) → AreRows In wants read rows
     → rows_lines line (read ++ j ∷ left) (rows ++ vs ∷ []) ≡ rows_lines line (read ++ j ∷ left) rows ++ line j vs ∷ []
 rows_more In wants line [] [] j left vs h = ap (λ w. line j vs ∷ w) (rows_none line left)
 rows_more In wants line [] (r ∷ rows) j left vs h = absurd h
 rows_more In wants line (k ∷ read) [] j left vs h = absurd h
 rows_more In wants line (k ∷ read) (r ∷ rows) j left vs h = ap (λ w. line k r ∷ w) (rows_more In wants line read rows j left vs h.2)
 
-rows_push : (In : ℤ → Type 0) (wants : ℕ → ℕ) (read : List ℕ) (rows : List (List ℤ)) (j : ℕ) (vs : List ℤ) → AreRows In wants read rows → length vs ≡ wants j → AllByRecursion In vs
+pub rows_push : (In : ℤ → Type 0) (wants : ℕ → ℕ) (read : List ℕ) (rows : List (List ℤ)) (j : ℕ) (vs : List ℤ) → AreRows In wants read rows → length vs ≡ wants j → AllByRecursion In vs
     → AreRows In wants (read ++ j ∷ []) (rows ++ vs ∷ [])
 rows_push In wants [] [] j vs h n each = (n, each, tt)
 rows_push In wants [] (r ∷ rows) j vs h n each = absurd h
@@ -70,6 +70,11 @@ table_more form n k (x ∷ ts) t =
     ap (λ w. worth_line x.worth ∷ (rows ++ w))
     (table_more form n (suc k) ts t ∙ ap (λ m. table_lines form n (suc k) ts ++ table_so_far form n m t) (let e : suc k + length ts ≡ k + suc (length ts) = omega arith in e))
     ∙ ap (λ w. worth_line x.worth ∷ w) (sym (append_assoc rows (table_lines form n (suc k) ts) (table_so_far form n (k + suc (length ts)) t)))
+
+-- the lines of one table are those so far of the next team
+pub tables_more : (form : DossierForm) (n : Limits) (k : ℕ) (ts : List Potentials) (t : Potentials)
+    → table_lines form n k (ts ++ t ∷ []) ≡ table_lines form n k ts ++ table_lines form n (k + length ts) (t ∷ [])
+tables_more form n k ts t = table_more form n k ts t ∙ ap (λ w. table_lines form n k ts ++ w) (sym (append-nil (table_so_far form n (k + length ts) t)))
 
 tables_push : (n : Limits) (p : TaskPrices) (k m : ℕ) (ts : List Potentials) (t : Potentials) → TablesHold n p k ts → k + length ts ≡ m → IsTable n m t → HoldsLocally n m (earned p m) (phi_in n m t) t.worth
     → TablesHold n p k (ts ++ t ∷ [])

@@ -1,5 +1,6 @@
 pub mod Rules
 pub mod Runs
+pub mod RowRuns
 pub mod Lists
 pub mod Below
 pub mod Skills

@@ -1,10 +1,15 @@
 -- lines that end a dossier are its lines, and it is good
-use Rattle.std.proofs.Common.{◌≡◌, List, [], ◌∷◌, ◌++◌, ap, sym, ◌∙◌, append_assoc, inl, inr}
+use Rattle.std.proofs.Common.{◌≡◌, ℕ, List, [], ◌∷◌, ◌++◌, ap, sym, ◌∙◌, append_assoc, append-nil, drop, get_or, subst, inl, inr}
+use Rattle.crew_terms.specs.Instance.{Instance}
 use Rattle.dossier_terms.specs.Dossier.{Dossier, IsGood}
 use Rattle.crew_terms.specs.Words.{Words}
-use Rattle.dossier_terms.specs.Lines.{lines_of}
+use Rattle.dossier_terms.specs.declared.DossierForm.{DossierForm}
+use Rattle.dossier_terms.specs.declared.DossierForm.TheVariants.{Two}
+use Rattle.dossier_terms.specs.Lines.{lines_of, form_line, instance_lines, frozen_lines}
 use Rattle.dossier_terms.specs.Reading.{Reading, Answer, More, Whole, Form, Sizes, Places, Travels, Teams, Tasks, Frozens, Keeps, Pools, Routes, Plans, Jobs, Trees, Nodes, Whys, Parts, Spares, Prices, Extras, Worths, Phis, Ends}
-use Rattle.dossier_terms.specs.Table.{Says, Ended}
+use Rattle.dossier_terms.specs.Apart.{form_one}
+use Rattle.dossier_terms.specs.Table.{Says, Ended, Reaches}
+use Rattle.dossier_laws.specs.Law.{IsHeadOf}
 use Rattle.dossier_laws.proofs.SoFar.{IsReading, spelled, Follows}
 use Rattle.dossier_laws.proofs.HeadReads.{form_follows, size_follows, place_follows, travel_follows, team_follows, task_follows}
 use Rattle.dossier_laws.proofs.Frozen.{frozen_follows, keep_follows}
@@ -50,3 +55,20 @@ ended_from s (ws ∷ lines) d r (inr h) =
 
 pub ended_good : (lines : List Words) (d : Dossier) → Ended Form lines d → (lines ≡ lines_of d) × IsGood d
 ended_good lines d h = ended_from Form lines d tt h
+
+-- ---- heads
+
+-- the lines that lead from one state to another follow its lines, and what has been read holds
+reached_from : (s : Reading) (lines : List Words) (t : Reading) → IsReading s → Reaches s lines t → (spelled s ++ lines ≡ spelled t) × IsReading t
+reached_from s [] t r h = (append-nil (spelled s) ∙ ap spelled h, subst IsReading h r)
+reached_from s (ws ∷ lines) t r h =
+    let a = says_follows s ws (More h.0) r h.1 in
+    let b = reached_from h.0 lines t a.1 h.2 in
+    (sym (append_assoc (spelled s) (ws ∷ []) lines) ∙ ap (λ ls. ls ++ lines) (sym a.0) ∙ b.0, b.1)
+
+pub head_is_good : (lines : List Words) (form : DossierForm) (i : Instance) (budget : ℕ) → Reaches (Sizes Two) lines (Pools form i budget) → (form ≡ Two) × IsHeadOf lines i budget
+head_is_good lines form i budget h =
+    let a = reached_from (Sizes Two) lines (Pools form i budget) tt h in
+    let line : form_line Two ≡ form_line form = ap (λ ls. get_or ls 0 []) a.0 in
+    let is : form ≡ Two = sym (form_one Two form line) in
+    (is, record { spelled = ap (drop 1) a.0 ∙ ap (λ f. instance_lines i budget ++ frozen_lines f i.frozen) is; instance = a.1.instance; budget = a.1.budget })

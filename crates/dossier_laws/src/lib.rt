@@ -2,22 +2,31 @@
 // and every good dossier's bound holds. Each law is the contract of a function with nothing to do.
 #![tactic(auto)]
 
-ghost use Rattle.std.specs.Prelude.{◌≡◌, ◌≤◌, ◌<◌, ◌^◌, ◌++◌, List, [], ◌∷◌, ℕ, ◌+◌, pos, length, slice_index, slice_index_or};
+ghost use Rattle.std.specs.Prelude.{◌≡◌, ◌≤◌, ◌<◌, ◌^◌, ◌++◌, List, [], ◌∷◌, ℕ, ℤ, ◌+◌, pos, length, map, slice_index, slice_index_or};
+ghost use Rattle.std.specs.Fmt.{signed_decimal};
 ghost use Rattle.std.specs.Int.{bit_at};
+ghost use Rattle.std.specs.List.{AllByRecursion};
 ghost use Rattle.crew_terms.specs.Words.{Words};
 ghost use Rattle.crew_terms.specs.Plan.{Plan, unassigned_count};
 ghost use Rattle.crew_terms.specs.Legal.{IsLegal};
 ghost use Rattle.crew_terms.specs.Limits.{Limits, teams_in};
-ghost use Rattle.crew_terms.specs.Leaf.{AreInRange, IsOnRequired, rho_of};
+ghost use Rattle.crew_terms.specs.Instance.{Instance};
+ghost use Rattle.crew_terms.specs.Leaf.{AreInRange, IsOnRequired, IsPrice, rho_of};
+ghost use Rattle.crew_terms.specs.Rules.{IsInstance};
+ghost use Rattle.crew_terms.specs.declared.TheConstants.{LAST_MINUTE, MOST_NODES};
 ghost use Rattle.dossier_terms.specs.declared.Reason.{Reason};
-ghost use Rattle.dossier_terms.specs.Dossier.{Dossier, IsGood, skills_of, mask_of, Written, Leaf, IsWritten, prices_of, phi_of, no_potentials};
+ghost use Rattle.dossier_terms.specs.Dossier.{Dossier, IsGood, AreRows, IsSigned, IsWorthNumber, skills_of, mask_of, Written, Leaf, IsWritten, Potentials, prices_of, phi_of, no_potentials};
 ghost use Rattle.crew_terms.specs.Minutes.{open_tasks, required_teams, priced, first_minute, IsListOf};
 ghost use Rattle.crew_terms.specs.Branches.{splits, closed, left_open, depth};
-ghost use Rattle.dossier_terms.specs.Lines.{lines_of};
-ghost use Rattle.dossier_terms.specs.Reading.{Reading, Answer, More, Whole, No, Form};
+ghost use Rattle.dossier_terms.specs.declared.DossierForm.{DossierForm};
+ghost use Rattle.dossier_terms.specs.declared.DossierForm.TheVariants.{Two};
+ghost use Rattle.dossier_terms.specs.Lines.{lines_of, instance_lines, frozen_lines, worth_line, steps_line, rows_lines, table_lines};
+ghost use Rattle.dossier_terms.specs.Ranges.{AreNumbers, IsStepsLine};
+ghost use Rattle.dossier_terms.specs.Reading.{Reading, Answer, More, Whole, No, Form, Sizes, Pools};
+ghost use Rattle.dossier_terms.specs.Runs.{Run, AreRuns, runs_of, values_of};
 ghost use Rattle.dossier_terms.specs.Table.{Says, Reaches, Ended};
 ghost use Rattle.dossier_laws.specs.Sheet.{sheet, sheet_lines};
-ghost use Rattle.dossier_laws.specs.Law.{IsWhole, IsRead};
+ghost use Rattle.dossier_laws.specs.Law.{AreRunsOfRow, IsHeadOf, IsWhole, IsRead};
 ghost use Rattle.dossier_laws.specs.Listed.{IsSkillList};
 
 use crew_laws::{one_verdict, root_has_legal_plans, root_is_limits, tree_proves};
@@ -85,6 +94,52 @@ pub fn reading_goes_on()
 pub fn reading_ends()
     ensures { (s : Reading) (lines : List Words) (m : Reading) (ws : Words) (d : Dossier) →
         Reaches s lines m → Says m ws (Whole d) → Ended s (lines ++ ws ∷ []) d }
+{}
+
+/// Behind the first line of form 2 the lines of an instance and of its frozen jobs lead to the line `pool`.
+pub fn head_is_read()
+    ensures { (i : Instance) (budget : ℕ) → IsInstance i → budget ≤ MOST_NODES
+        → Reaches (Sizes Two) (instance_lines i budget ++ frozen_lines Two i.frozen)
+        (Pools Two i budget) }
+{}
+
+/// Lines that lead from there to the line `pool` are those of the instance and of its frozen jobs.
+pub fn read_head_is_good()
+    ensures { (lines : List Words) (form : DossierForm) (i : Instance) (budget : ℕ) →
+        Reaches (Sizes Two) lines (Pools form i budget) → (form ≡ Two) × IsHeadOf lines i budget }
+{}
+
+/// Prices, a worth and the runs of a row of potentials have one spelling each, and no two of them have the same.
+pub fn numbers_are_told_apart()
+    ensures prices { (count : ℕ) (x y : List ℤ) → AreNumbers IsPrice count x
+        → AreNumbers IsPrice count y → map signed_decimal x ≡ map signed_decimal y → x ≡ y }
+    ensures worths { (x y : ℤ) → IsWorthNumber x → IsWorthNumber y
+        → worth_line x ≡ worth_line y → x ≡ y }
+    ensures runs { (j : ℕ) (x y : List Run) → IsStepsLine x → IsStepsLine y
+        → steps_line j x ≡ steps_line j y → x ≡ y }
+{}
+
+/// Runs that may stand in a line are those of the row that they stand for, and a row of at least one number has such runs.
+pub fn rows_are_told_by_runs()
+    ensures read { (first past : ℕ) (runs : List Run) → AreRuns first past runs → IsStepsLine runs
+        → first < past → AreRunsOfRow first past runs (values_of past runs) }
+    ensures written { (first : ℕ) (row : List ℤ) → AllByRecursion IsSigned row → 0 < length row
+        → first + length row ≤ LAST_MINUTE + 1
+        → AreRunsOfRow first (first + length row) (runs_of first row) row }
+{}
+
+/// One more row of potentials adds its line to those of the rows before it, and one more team its lines to those of the teams
+/// before it.
+pub fn lines_grow_row_by_row()
+    ensures rows { (wants : ℕ → ℕ) (line : ℕ → List ℤ → Words) (read left : List ℕ)
+        (rows : List (List ℤ)) (j : ℕ) (row : List ℤ) → AreRows IsSigned wants read rows
+        → length row ≡ wants j → AllByRecursion IsSigned row
+        → AreRows IsSigned wants (read ++ j ∷ []) (rows ++ row ∷ [])
+        × (rows_lines line (read ++ j ∷ left) (rows ++ row ∷ [])
+        ≡ rows_lines line (read ++ j ∷ left) rows ++ line j row ∷ []) }
+    ensures tables { (form : DossierForm) (n : Limits) (k : ℕ) (tables : List Potentials)
+        (table : Potentials) → table_lines form n k (tables ++ table ∷ [])
+        ≡ table_lines form n k tables ++ table_lines form n (k + length tables) (table ∷ []) }
 {}
 
 /// Every legal plan of a good dossier's instance leaves at least its bound unassigned.

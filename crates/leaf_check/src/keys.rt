@@ -27,7 +27,7 @@ pub fn counted_minutes(limits: &Limits<'_>, k: u32, j: u32) -> (u32, u32)
 }
 
 /// Whether there is a minute at which team `k` may begin task `j`.
-fn is_open(limits: &Limits<'_>, k: u32, j: u32) -> bool
+pub fn is_open(limits: &Limits<'_>, k: u32, j: u32) -> bool
     requires team { k < teams_in limits.now.limits }
     requires task { j < tasks_in limits.now.limits }
     ensures { result ≡ has_minutes limits.now.limits k j }

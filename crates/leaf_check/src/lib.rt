@@ -1,10 +1,10 @@
 // The lines of a leaf with prices: each is judged by the row of the table that is due.
 #![tactic(auto)]
 
-mod keys;
+pub mod keys;
 mod prices;
 mod reader;
 mod rows;
-mod runs;
+pub mod runs;
 
 pub use reader::{Goal, LeafReader, LeafStep};

@@ -5,13 +5,13 @@ ghost use Rattle.dossier_terms.specs.Runs.{Run, AreRuns, values_of};
 ghost use Rattle.line_in.specs.Fields.{run_numbers};
 ghost use Rattle.potentials.specs.Table.{phi};
 ghost use Rattle.leaf_check.specs.Rows.{KeepsTable};
-ghost use Rattle.leaf_check.specs.Runs.{AreRunNumbers, CanSetRuns, GoesOn, OfRuns, begin_of_run};
+ghost use Rattle.leaf_check.specs.Runs.{AreRunNumbers, CanSetRuns, GoesOn, OfRuns, begin_of_run, number_of_run};
 
 use line_in::LineNumbers;
 use potentials::Table;
 
 /// The minute at which the run with this number begins; `past` where there is none.
-fn run_begin(pairs: &LineNumbers<'_>, n: usize, past: u32) -> u32
+pub fn run_begin(pairs: &LineNumbers<'_>, n: usize, past: u32) -> u32
     requires { AreRunNumbers pairs.now }
     ensures { OfRuns pairs.now (λ runs. result ≡ begin_of_run past runs n) }
 {
@@ -20,6 +20,17 @@ fn run_begin(pairs: &LineNumbers<'_>, n: usize, past: u32) -> u32
     } else {
         past
     }
+}
+
+/// The number of the run with this number.
+pub fn run_number(pairs: &LineNumbers<'_>, n: usize) -> i64
+    requires runs { AreRunNumbers pairs.now }
+    requires known { 2 * n + 1 < length pairs.now }
+    ensures { OfRuns pairs.now (λ runs. result ≡ number_of_run runs n) }
+{
+    // What holds of the line: it has no more numbers than a usize counts.
+    let _count = pairs.len();
+    pairs.get(2 * n + 1)
 }
 
 /// Whether the run behind the one with this number begins later than it and before `past`, with another number.

@@ -1,2 +1,3 @@
+pub mod Priced
 pub mod SoFar
 pub mod Ended

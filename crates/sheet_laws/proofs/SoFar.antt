@@ -16,17 +16,14 @@ use Rattle.dossier_terms.specs.Reading.{Answer}
 use Rattle.dossier_terms.specs.Reading as dossiers
 use Rattle.squeeze_terms.specs.MinutePrices.{MinutePrices, AreMinutePrices, minute_price, price_at, price_count, prices_of}
 use Rattle.squeeze_terms.specs.Bound.{minute_bound}
+use Rattle.sheet_laws.specs.Priced.{ArePriced}
+use Rattle.sheet_laws.proofs.Priced.{all_priced, none_priced, one_priced}
 use Rattle.sheet_terms.specs.Rules.{Must, Holds, Fails, MustEach, HoldsOfAll, FailsAt, MustSpell, Spelled, Unspelled}
 use Rattle.sheet_terms.specs.Sheet.{Sheet, worths_in}
 use Rattle.sheet_terms.specs.Reading.{SheetReading, SheetAnswer, First, Head, Bounds, Prices, Worths, Steps, Ends, More, Whole, No, head_answer, head_due}
 use Rattle.sheet_terms.specs.Table.{SaysOfSheet, after_price, after_steps, after_team}
 
 -- ---- the invariants
-
--- the tasks so far have their prices
-pub record ArePriced (i : Instance) (p : MinutePrices) : Type 0 where
-  pub counts : (j : ℕ) → j < length p → length (prices_of p j) ≡ price_count (task_of i j)
-  pub range : (j x : ℕ) → IsPrice (price_at p j x)
 
 -- the rules of team k hold by these prices
 abbrev pub TeamHolds : Instance → MinutePrices → ℕ → Potentials → Type 0
@@ -128,46 +125,20 @@ price_then : (s : Sheet) (left : ℕ) (said : SheetAnswer) → AreTasks s left �
 price_then s zero said h rules =
     let c = h.count in
     team_then s (length s.instance.teams) said (record {
-      prices = record { tasks = omega arith; counts = λ j l. h.prices.counts j (omega arith); range = h.prices.range };
+      prices = all_priced s.instance s.prices h.prices (omega arith);
       teams = λ k l. absurd (let e = ap length h.none in omega arith);
       count = ap (λ ts. length ts + length s.instance.teams) h.none ∙ (let e : 0 + length s.instance.teams ≡ length s.instance.teams = omega arith in e);
     }) rules
 price_then s (suc left) said h e = tells (More (Prices s left)) said e h
 
 -- one more task
-is_price : (vs : List ℤ) → AllByRecursion IsPrice vs → (x : ℕ) → IsPrice (get_or vs x (pos 0))
-is_price [] h x = subst IsPrice (sym (get_or_past [] x (pos 0) (omega arith))) (record { least = omega (arith, ints); most = omega (arith, ints) })
-is_price (v ∷ vs) h zero = h.0
-is_price (v ∷ vs) h (suc x) = is_price vs h.1 x
-
 one_task : (s : Sheet) (left : ℕ) (vs : List ℤ) → AreTasks s (suc left) → AreNumbers IsPrice (price_count (task_of s.instance (length s.prices))) vs
     → AreTasks (record s { prices = s.prices ++ vs ∷ [] }) left
 one_task s left vs h fits = record {
-  prices = record { counts = counts; range = range };
+  prices = one_priced s.instance s.prices vs h.prices fits;
   none = h.none;
   count = let e = length-append s.prices (vs ∷ []) in let c = h.count in omega arith;
 }
-  where
-    counts : (j : ℕ) → j < length (s.prices ++ vs ∷ []) → length (prices_of (s.prices ++ vs ∷ []) j) ≡ price_count (task_of s.instance j)
-    counts j l = by (cases_lt j (length s.prices))
-      where
-        by : (j < length s.prices) ⊎ (length s.prices ≤ j) → length (prices_of (s.prices ++ vs ∷ []) j) ≡ price_count (task_of s.instance j)
-        by (inl m) = ap length (get_or_append_left s.prices (vs ∷ []) [] j m) ∙ h.prices.counts j m
-        by (inr m) =
-            let n = length-append s.prices (vs ∷ []) in
-            let e : j ≡ length s.prices = omega arith in
-            ap length (get_or_push s.prices vs [] j (sym e)) ∙ fits.count ∙ ap (λ i. price_count (task_of s.instance i)) (sym e)
-
-    range : (j x : ℕ) → IsPrice (price_at (s.prices ++ vs ∷ []) j x)
-    range j x = by (cases_lt j (length s.prices)) (cases_eq j (length s.prices))
-      where
-        by : (j < length s.prices) ⊎ (length s.prices ≤ j) → (j ≡ length s.prices) ⊎ (j ≡ length s.prices → ⊥) → IsPrice (price_at (s.prices ++ vs ∷ []) j x)
-        by (inl m) e = subst (λ row. IsPrice (get_or row x (pos 0))) (sym (get_or_append_left s.prices (vs ∷ []) [] j m)) (h.prices.range j x)
-        by (inr m) (inl e) = subst (λ row. IsPrice (get_or row x (pos 0))) (sym (get_or_push s.prices vs [] j (sym e))) (is_price vs fits.each x)
-        by (inr m) (inr ne) =
-            let d : j ≢ length s.prices = ne in
-            let n = length-append s.prices (vs ∷ []) in
-            subst (λ row. IsPrice (get_or row x (pos 0))) (sym (get_or_past (s.prices ++ vs ∷ []) j [] (omega arith))) (is_price [] tt x)
 
 -- ---- what follows from a line
 
@@ -185,7 +156,7 @@ follows First ws said h rules = must_then said (λ is e. tells (More _) said e t
 follows (Head s) ws said h rules = head_then said rules.0 rules.2
 follows (Bounds i budget) ws said h rules = must_then said (λ shape rest. spells_then said (λ l few others.
     price_then (record { instance = i; budget = budget; bound = l; prices = []; tables = [] }) (length i.tasks) said (record {
-      prices = record { counts = λ j l. absurd (omega arith); range = λ j x. is_price [] tt x };
+      prices = none_priced i;
       none = refl;
       count = omega arith;
     }) others) rest) rules
