@@ -2,12 +2,15 @@
 use Rattle.std.proofs.Common.{◌≡◌, ◌∷◌, [], List, ℕ, get_or, ap, sym, refl, ◌∙◌, arith}
 use Rattle.std.specs.Prelude.{codes, if◌then◌else◌}
 use Rattle.std.specs.Str.{bytes_eq}
+use Rattle.squeeze_command.specs.Asked.{one_squeeze}
+use Rattle.squeeze_command.specs.Words.{AsksForSqueeze}
+use Rattle.squeeze_command.specs.declared.words.Squeeze.{Squeeze as SqueezeWords}
 use Rattle.trial_command.specs.Asked.{one_trial}
 use Rattle.trial_command.specs.Trials.{AsksForTrial}
 use Rattle.trial_command.specs.declared.words.Trial.{Trial as TrialWords}
 use Rattle.crew_cli.specs.Run.{AskFor, promises_of}
 use Rattle.crew_cli.specs.declared.run.Command.{Command}
-use Rattle.crew_cli.specs.declared.run.Command.TheVariants.{Check, Rosters, Why, Delays, Apply, Day, Audit, Trial}
+use Rattle.crew_cli.specs.declared.run.Command.TheVariants.{Check, Rosters, Why, Delays, Squeeze, Apply, Day, Audit, Trial}
 
 -- the place of a command in their list
 place : Command → ℕ
@@ -18,7 +21,8 @@ place Delays = 3
 place Apply = 4
 place Day = 5
 place Audit = 6
-place (Trial t) = 7
+place (Squeeze s) = 7
+place (Trial t) = 8
 
 -- the place of the command whose first word this is
 place_of : List ℕ → ℕ
@@ -30,7 +34,8 @@ place_of word =
     else if bytes_eq word (codes "apply") then 4
     else if bytes_eq word (codes "day") then 5
     else if bytes_eq word (codes "audit") then 6
-    else 7
+    else if bytes_eq word (codes "squeeze") then 7
+    else 8
 
 -- a command's first word tells its place
 placed : (c : Command) → place_of (get_or (promises_of c).words 0 []) ≡ place c
@@ -42,6 +47,7 @@ placed Delays = refl
 placed Apply = refl
 placed Day = refl
 placed Audit = refl
+placed (Squeeze s) = refl
 placed (Trial t) = refl
 
 -- commands at one place whose words are the same are one
@@ -54,6 +60,7 @@ at_place words Delays Delays e p q = refl
 at_place words Apply Apply e p q = refl
 at_place words Day Day e p q = refl
 at_place words Audit Audit e p q = refl
+at_place words (Squeeze s) (Squeeze t) e p q = ap Squeeze (one_squeeze words s t p q)
 at_place words (Trial t) (Trial u) e p q = ap Trial (one_trial words t u p q)
 at_place words a b e p q = absurd (omega (arith, e))
 
@@ -64,12 +71,13 @@ one_command words a b p q =
 
 -- words that are none of the forms ask for none
 pub none_asked : (words : List (List ℕ)) → (words ≡ codes "check" ∷ [] → ⊥) → (words ≡ codes "rosters" ∷ [] → ⊥) → (words ≡ codes "why" ∷ [] → ⊥) → (words ≡ codes "delays" ∷ [] → ⊥) → (words ≡ codes "apply" ∷ [] → ⊥) → (words ≡ codes "day" ∷ [] → ⊥) → (words ≡ codes "audit" ∷ [] → ⊥)
-    → ((t : TrialWords) → AsksForTrial t words → ⊥) → (command : Command) → AskFor command words → ⊥
-none_asked words check rosters why delays apply day audit trial Check asks = check asks.1
-none_asked words check rosters why delays apply day audit trial Rosters asks = rosters asks.1
-none_asked words check rosters why delays apply day audit trial Why asks = why asks.1
-none_asked words check rosters why delays apply day audit trial Delays asks = delays asks.1
-none_asked words check rosters why delays apply day audit trial Apply asks = apply asks.1
-none_asked words check rosters why delays apply day audit trial Day asks = day asks.1
-none_asked words check rosters why delays apply day audit trial Audit asks = audit asks.1
-none_asked words check rosters why delays apply day audit trial (Trial t) asks = trial t asks
+    → ((s : SqueezeWords) → AsksForSqueeze s words → ⊥) → ((t : TrialWords) → AsksForTrial t words → ⊥) → (command : Command) → AskFor command words → ⊥
+none_asked words check rosters why delays apply day audit squeeze trial Check asks = check asks.1
+none_asked words check rosters why delays apply day audit squeeze trial Rosters asks = rosters asks.1
+none_asked words check rosters why delays apply day audit squeeze trial Why asks = why asks.1
+none_asked words check rosters why delays apply day audit squeeze trial Delays asks = delays asks.1
+none_asked words check rosters why delays apply day audit squeeze trial Apply asks = apply asks.1
+none_asked words check rosters why delays apply day audit squeeze trial Day asks = day asks.1
+none_asked words check rosters why delays apply day audit squeeze trial Audit asks = audit asks.1
+none_asked words check rosters why delays apply day audit squeeze trial (Squeeze s) asks = squeeze s asks
+none_asked words check rosters why delays apply day audit squeeze trial (Trial t) asks = trial t asks

@@ -1,5 +1,5 @@
 -- what the statuses of a call say
-use Rattle.std.proofs.Common.{◌≡◌, ◌≢◌, ◌⊎◌, inl, inr, true, false, [], List, ℕ, length, Option, None, Some, Result, Ok, Err, take, ap, subst, sym, refl, ◌∙◌}
+use Rattle.std.proofs.Common.{◌≡◌, ◌≢◌, ◌⊎◌, inl, inr, [], List, ℕ, length, Option, None, Some, Result, Ok, Err, take, ap, subst, sym, refl, ◌∙◌}
 use Rattle.std.proofs.Math.Seq.{take-length}
 use Rattle.std.specs.Prelude.{IfSome, IsTrue}
 use Rattle.crew_io.specs.Io.{Appended}
@@ -26,6 +26,8 @@ use Rattle.day_commands.specs.declared.ended.Ended.TheVariants as day
 use Rattle.day_commands.specs.Dossiers.{IsProved, IsUnproved}
 use Rattle.day_commands.specs.Taken.{Wrote}
 use Rattle.day_commands.specs.Fine.{refused_not_fine}
+use Rattle.squeeze_command.specs.Says.{SqueezesDossiers, SaysNo as SaysNotSqueezed}
+use Rattle.squeeze_command.specs.declared.words.Squeeze.{Squeeze as SqueezeWords}
 use Rattle.audit_command.specs.Events.{IsFineAudit}
 use Rattle.audit_command.specs.Fine.{event_is_front, fine_is_done as fine_audit_is_done}
 use Rattle.audit_command.specs.Says.{ReadsAudit, SaysEvent, SaysFront as SaysEventFront, SaysNothing, Nothing as NoEventWritten}
@@ -35,10 +37,10 @@ use Rattle.trial_command.specs.Says.{RunsTrial, SaysLine, SaysLineFront, Nothing
 use Rattle.trial_command.specs.declared.trial.TrialEnded.{TrialEnded}
 use Rattle.trial_command.specs.declared.trial.TrialEnded.TheVariants as trial
 use Rattle.trial_command.specs.declared.words.Trial.{Trial as TrialWords}
-use Rattle.crew_cli.specs.Run.{Answers, AreDelays, AreDossiers, AuditSays, DaySays, DelaysSay, DossiersSay, TrialSays, an_audit, of_delays, of_trial as trial_promises, over_days, over_dossiers, promises_of}
+use Rattle.crew_cli.specs.Run.{Answers, AreDelays, AreDossiers, AuditSays, DaySays, DelaysSay, DossiersSay, SqueezeSays, TrialSays, an_audit, of_delays, of_squeeze, of_trial as trial_promises, over_days, over_dossiers, promises_of}
 use Rattle.crew_cli.specs.Status.{audit_status, dossiers_status, day_status, trial_status, is_done}
 use Rattle.crew_cli.specs.declared.run.Command.{Command}
-use Rattle.crew_cli.specs.declared.run.Command.TheVariants.{Check, Rosters, Why, Delays, Apply, Day, Audit, Trial}
+use Rattle.crew_cli.specs.declared.run.Command.TheVariants.{Check, Rosters, Why, Delays, Squeeze, Apply, Day, Audit, Trial}
 use Rattle.crew_cli.specs.declared.status.Status.{Status}
 use Rattle.crew_cli.specs.declared.status.Status.TheVariants as status
 
@@ -54,6 +56,10 @@ if_some (Some x) P h = h x
 no_is_not_fine : (text : Dossier → List ℕ) (left got later : Option (List ℕ)) (A B C : Type 0) → OfBytes left got later (SaysNo text) → IfSome left (λ input. AreDossiers input → A → B → C)
 no_is_not_fine text None got later A B C says = tt
 no_is_not_fine text (Some input) got later A B C says = λ fine a b. absurd (says.2.not_accepted fine.0 fine.1)
+
+no_sheets_is_not_fine : (steps : ℕ) (left got later : Option (List ℕ)) (A B C : Type 0) → OfBytes left got later (SaysNotSqueezed steps) → IfSome left (λ input. AreDossiers input → A → B → C)
+no_sheets_is_not_fine steps None got later A B C says = tt
+no_sheets_is_not_fine steps (Some input) got later A B C says = λ fine a b. absurd (says.2.not_accepted fine.0 fine.1)
 
 refused_is_no_delays : (left got later : Option (List ℕ)) (A B C : Type 0) → OfBytes left got later SaysRefused → IfSome left (λ input. AreDelays input → A → B → C)
 refused_is_no_delays None got later A B C says = tt
@@ -121,6 +127,60 @@ module _ {S K : Type 0} (source : SourceTells S) (sink : SinkTells K) (src later
     complete = if_some (source.left src) _ (λ input fine nr nw. absurd (nw (r.writes.cause refl)));
   }
   dossiers_answer word text (Err fault) r = record {
+    says = r.memory;
+    part = r.front;
+    ends = refl;
+    ended = λ _ e. absurd (cc);
+    unread = λ e. absurd (cc);
+    reads = tells_read r.reads (λ e. absurd (cc)) (λ e. absurd (cc));
+    writes = tells_write r.writes (λ e. absurd (cc)) (λ e. absurd (cc));
+    complete = if_some (source.left src) _ (λ input fine nr nw. inr refl);
+  }
+
+  -- the command `squeeze` answers by the status of its end
+  pub squeeze_answer : {E : Type 0} (s : SqueezeWords) (ended : Result DossiersEnded E) → SqueezesDossiers source sink s.steps src later out new ended
+      → Answers source sink (of_squeeze s) src later out new (dossiers_status ended)
+  squeeze_answer s (Ok dossiers.Done) r = record {
+    says = r.says;
+    part = r.front;
+    ends = refl;
+    ended = λ _ _. r.ended refl;
+    unread = λ e. absurd (cc);
+    reads = tells_read r.reads (λ e. absurd (cc)) (λ e. absurd (cc));
+    writes = tells_write r.writes (λ e. absurd (cc)) (λ e. absurd (cc));
+    complete = if_some (source.left src) _ (λ input fine nr nw. inl refl);
+  }
+  squeeze_answer s (Ok dossiers.No) r = record {
+    says = r.says;
+    part = r.front;
+    ends = refl;
+    ended = λ _ e. absurd (cc);
+    unread = λ e. absurd (cc);
+    reads = tells_read r.reads (λ e. absurd (cc)) (λ e. absurd (cc));
+    writes = tells_write r.writes (λ e. absurd (cc)) (λ e. absurd (cc));
+    complete = no_sheets_is_not_fine s.steps (source.left src) (sink.got out) (sink.got new) _ _ _ r.says;
+  }
+  squeeze_answer s (Ok dossiers.ReadFault) r = record {
+    says = r.says;
+    part = r.front;
+    ends = refl;
+    ended = λ _ e. absurd (cc);
+    unread = λ e. absurd (cc);
+    reads = tells_read r.reads (λ _. refl) (λ _. refl);
+    writes = tells_write r.writes (λ e. absurd (cc)) (λ e. absurd (cc));
+    complete = if_some (source.left src) _ (λ input fine nr nw. absurd (nr (r.reads.cause refl)));
+  }
+  squeeze_answer s (Ok dossiers.WriteFault) r = record {
+    says = r.says;
+    part = r.front;
+    ends = refl;
+    ended = λ _ e. absurd (cc);
+    unread = λ e. absurd (cc);
+    reads = tells_read r.reads (λ e. absurd (cc)) (λ e. absurd (cc));
+    writes = tells_write r.writes (λ _. refl) (λ _. refl);
+    complete = if_some (source.left src) _ (λ input fine nr nw. absurd (nw (r.writes.cause refl)));
+  }
+  squeeze_answer s (Err fault) r = record {
     says = r.memory;
     part = r.front;
     ends = refl;
@@ -392,6 +452,17 @@ dossiers_done text status.WriteFault unseen input written Full says fine read wr
 dossiers_done text status.Memory unseen input written Full says fine read write = inr (inl refl)
 dossiers_done text status.Unproved unseen input written Full says fine read write = absurd says
 
+squeeze_done : (steps : ℕ) (answer : Status) (unseen : Option (List ℕ)) (input written : List ℕ) (Full : Type 0) → SqueezeSays steps answer unseen input written → AreDossiers input
+    → answer ≢ status.ReadFault → (answer ≡ status.WriteFault → Full) → IsTrue (is_done answer) ⊎ (answer ≡ status.Memory) ⊎ ((answer ≡ status.WriteFault) × Full)
+squeeze_done steps status.Done unseen input written Full says fine read write = inl refl
+squeeze_done steps status.No unseen input written Full says fine read write = absurd (says.not_accepted fine.0 fine.1)
+squeeze_done steps status.Words unseen input written Full says fine read write = absurd says
+squeeze_done steps status.Refused unseen input written Full says fine read write = absurd says
+squeeze_done steps status.ReadFault unseen input written Full says fine read write = absurd (read refl)
+squeeze_done steps status.WriteFault unseen input written Full says fine read write = inr (inr (refl, write refl))
+squeeze_done steps status.Memory unseen input written Full says fine read write = inr (inl refl)
+squeeze_done steps status.Unproved unseen input written Full says fine read write = absurd says
+
 -- nor are late tasks and a dossier that are fine
 delays_done : (answer : Status) (unseen : Option (List ℕ)) (input written : List ℕ) (Full : Type 0) → DelaysSay answer unseen input written → AreDelays input
     → answer ≢ status.ReadFault → (answer ≡ status.WriteFault → Full) → IsTrue (is_done answer) ⊎ (answer ≡ status.Memory) ⊎ ((answer ≡ status.WriteFault) × Full)
@@ -447,6 +518,7 @@ fine_is_done Check answer unseen input written Full says fine read write = dossi
 fine_is_done Rosters answer unseen input written Full says fine read write = dossiers_done _ answer unseen input written Full says fine read write
 fine_is_done Why answer unseen input written Full says fine read write = dossiers_done _ answer unseen input written Full says fine read write
 fine_is_done Delays answer unseen input written Full says fine read write = delays_done answer unseen input written Full says fine read write
+fine_is_done (Squeeze s) answer unseen input written Full says fine read write = squeeze_done s.steps answer unseen input written Full says fine read write
 fine_is_done Apply answer unseen input written Full says fine read write = day_done Instances answer unseen input written Full says fine read write
 fine_is_done Day answer unseen input written Full says fine read write = day_done Dossiers answer unseen input written Full says fine read write
 fine_is_done Audit answer unseen input written Full says fine read write = audit_done answer unseen input written Full says fine read write

@@ -19,6 +19,9 @@ use Rattle.day_commands.specs.Outputs.{MayHave, TextsOf, ProvedOf, UnprovedOf, a
 use Rattle.day_commands.specs.declared.ended.DayOutput.{DayOutput}
 use Rattle.day_commands.specs.declared.ended.DayOutput.TheVariants.{Instances, Dossiers}
 use Rattle.day_commands.specs.Dossiers.{IsProved, IsUnproved}
+use Rattle.squeeze_command.specs.Says.{SaysYes as SaysSqueezed, SaysNo as SaysNotSqueezed, SaysFront as SaysSheetsFront, SaysReadFault as SaysSqueezeCutOff, SaysSheets}
+use Rattle.squeeze_command.specs.Words.{IsSqueeze, squeeze_words}
+use Rattle.squeeze_command.specs.declared.words.Squeeze.{Squeeze as SqueezeWords}
 use Rattle.audit_command.specs.Events.{IsFineAudit}
 use Rattle.audit_command.specs.Says.{SaysEvent, SaysFront as SaysEventFront, SaysNothing as SaysNoEvent}
 use Rattle.audit_command.specs.declared.ended.Ended.TheVariants as audit
@@ -27,7 +30,7 @@ use Rattle.trial_command.specs.Says.{SaysLine, SaysLineFront}
 use Rattle.trial_command.specs.declared.words.Trial.{Trial as TrialWords}
 use Rattle.crew_cli.specs.Status.{is_done}
 use Rattle.crew_cli.specs.declared.run.Command.{Command}
-use Rattle.crew_cli.specs.declared.run.Command.TheVariants.{Check, Rosters, Why, Delays, Apply, Day, Audit, Trial}
+use Rattle.crew_cli.specs.declared.run.Command.TheVariants.{Check, Rosters, Why, Delays, Squeeze, Apply, Day, Audit, Trial}
 use Rattle.crew_cli.specs.declared.status.Status.{Status}
 use Rattle.crew_cli.specs.declared.status.Status.TheVariants.{Done, No, Words, Refused, ReadFault, WriteFault, Memory, Unproved}
 
@@ -48,6 +51,15 @@ DelaysSay ReadFault unseen input written = SaysCutOff unseen input written
 DelaysSay WriteFault unseen input written = SaysDelaysFront input written
 DelaysSay Memory unseen input written = SaysNothing input written
 DelaysSay _ unseen input written = ⊥
+
+-- what a status says of the command `squeeze`, which writes the sheet of so many steps for each good dossier; no other status comes
+abbrev pub SqueezeSays : ℕ → Status → Option (List ℕ) → List ℕ → List ℕ → Type 0
+SqueezeSays steps Done unseen input written = SaysSqueezed steps input written
+SqueezeSays steps No unseen input written = SaysNotSqueezed steps input written
+SqueezeSays steps ReadFault unseen input written = SaysSqueezeCutOff steps unseen input written
+SqueezeSays steps WriteFault unseen input written = SaysSheetsFront steps input written
+SqueezeSays steps Memory unseen input written = SaysSheets steps input written
+SqueezeSays steps _ unseen input written = ⊥
 
 -- what a status says of a command over days, which writes this of each round; no other status comes
 abbrev pub DaySays : DayOutput → Status → Option (List ℕ) → List ℕ → List ℕ → Type 0
@@ -150,6 +162,17 @@ of_delays = record {
   fine = AreDelays;
 }
 
+-- the command `squeeze`: it takes bytes that are accepted as dossiers
+abbrev pub of_squeeze : SqueezeWords → Promises
+of_squeeze squeeze = record {
+  words = squeeze_words squeeze;
+  in_range = IsSqueeze squeeze;
+  says = SqueezeSays squeeze.steps;
+  ends_with = dossiers_end_with;
+  reads = true;
+  fine = AreDossiers;
+}
+
 -- a command over days, which writes this of each round: it takes a day of which it refuses no record, whichever legal plans its
 -- rounds get
 abbrev pub over_days : List ℕ → DayOutput → Promises
@@ -190,6 +213,7 @@ promises_of Check = over_dossiers (codes "check") yes_line
 promises_of Rosters = over_dossiers (codes "rosters") roster_of
 promises_of Why = over_dossiers (codes "why") why_of
 promises_of Delays = of_delays
+promises_of (Squeeze squeeze) = of_squeeze squeeze
 promises_of Apply = over_days (codes "apply") Instances
 promises_of Day = over_days (codes "day") Dossiers
 promises_of Audit = an_audit

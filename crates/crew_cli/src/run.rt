@@ -13,6 +13,7 @@ use crew_io::source::Source;
 use day_commands::{DayOutput, write_rounds};
 use delay_command::write_delays;
 use dossier_commands::{Output, read_dossiers};
+use squeeze_command::{Squeeze, squeeze_dossiers};
 use std::alloc::{AllocError, Global};
 use trial_command::{Trial, TrialEnded, write_trial};
 
@@ -27,6 +28,8 @@ pub enum Command {
     Why,
     /// `delays`: read tasks that end late and one dossier, and write what waits for what.
     Delays,
+    /// `squeeze`: read dossiers, and write a sheet of minute prices for each good one.
+    Squeeze(Squeeze),
     /// `apply`: read a day, and write the instance of each round.
     Apply,
     /// `day`: read a day, and write a dossier of each round.
@@ -71,6 +74,9 @@ impl Command {
         }
         if asks_for(words, "audit") {
             return Some(Command::Audit);
+        }
+        if let Some(squeeze) = Squeeze::of(words) {
+            return Some(Command::Squeeze(squeeze));
         }
         Some(Command::Trial(Trial::of(words)?))
     }
@@ -161,6 +167,9 @@ fn answer<S: Source, K: Sink>(alloc: Global, command: Command, src: &mut S, out:
         Command::Rosters => read_all(alloc, Output::Rosters, src, out),
         Command::Why => read_all(alloc, Output::Why, src, out),
         Command::Delays => of_dossiers(write_delays(alloc, src, out)),
+        Command::Squeeze(squeeze) => {
+            of_dossiers(squeeze_dossiers(alloc, squeeze.steps, src, out))
+        }
         Command::Apply => plan_day(alloc, DayOutput::Instances, src, out),
         Command::Day => plan_day(alloc, DayOutput::Dossiers, src, out),
         Command::Audit => of_audit(audit_day(alloc, src, out)),
@@ -172,7 +181,8 @@ fn answer<S: Source, K: Sink>(alloc: Global, command: Command, src: &mut S, out:
 /// counts for each good one; at the first line that is refused it writes a line `no` with its number and the reason,
 /// and ends. With `rosters` it does the same, and writes the roster of each good dossier in place of its line; with `why` what
 /// is in the way of its open tasks. With `delays` it reads which tasks end late, and one dossier, and writes what waits for
-/// what in its plan, or the line `no` of the first line that is refused. With
+/// what in its plan, or the line `no` of the first line that is refused. With `squeeze` it reads dossiers as `check` does, and
+/// writes for each good one a sheet: a bound, with a price for each start minute of a joint task that proves it. With
 /// `apply` it reads a day, and writes the instance of each round, up to the first record that is refused, and a line
 /// `refused` for that one. With `day` it does the same, and plans each round: it writes a dossier of it, which `check` says
 /// yes to. With `audit` it reads a day, the line `dossiers` and dossiers, and writes one line: that the dossiers belong to the

@@ -20,6 +20,8 @@ mod lines;
 #[cfg(test)]
 mod rosters;
 #[cfg(test)]
+mod squeezes;
+#[cfg(test)]
 mod trees;
 #[cfg(test)]
 mod whys;

@@ -1,0 +1,3 @@
+mod JobTexts
+mod Runs
+mod TeamTables

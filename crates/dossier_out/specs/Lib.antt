@@ -1,0 +1,4 @@
+pub mod Jobs
+pub mod Steps
+pub mod Tables
+pub mod Texts

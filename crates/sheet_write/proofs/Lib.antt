@@ -1,0 +1,6 @@
+mod Rows
+mod Tables
+mod Good
+mod Texts
+mod TeamsSoFar
+mod Whole

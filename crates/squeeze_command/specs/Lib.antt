@@ -1,0 +1,4 @@
+pub mod Sheets
+pub mod Says
+pub mod Words
+pub mod Asked
