@@ -10,6 +10,7 @@ use Rattle.crew_terms.specs.Legal.{IsFit, IsJob, IsLegal}
 use Rattle.crew_terms.specs.Limits.{GoesOn, IsRoute, root_limits}
 use Rattle.crew_terms.specs.Nodes.{job_known}
 use Rattle.crew_terms.specs.Plan.{Does, Job, Plan, job_of}
+use Rattle.crew_terms.specs.Rules.{IsInstance}
 use Rattle.crew_terms.specs.declared.Task.{Task}
 use Rattle.crew_terms.specs.declared.Team.{Team}
 use Rattle.crew_terms.specs.declared.Visit.{Visit}
@@ -17,7 +18,7 @@ use Rattle.crew_laws.specs.Listed.{of_either}
 use Rattle.crew_laws.specs.Visits.{AreVisitsOf, visit}
 use Rattle.part_terms.specs.Parts.{AreShorterTimes, Restricts, cut_down}
 
-module _ (i j : Instance) (times : AreShorterTimes i j) where
+module _ (i j : Instance) (times : AreShorterTimes i j) (placed : (x : ℕ) → x < length i.tasks → (task_of i x).place < length j.places) where
   -- with the shorter times a team can come from one visit to another
   abbrev Reaches : Visit → Visit → Type 0
   Reaches v w = v.start + (task_of i v.task).minutes + minutes_between j (task_of i v.task).place (task_of i w.task).place ≤ w.start
@@ -38,7 +39,7 @@ module _ (i j : Instance) (times : AreShorterTimes i j) where
       by (inr d) later =
           let on = later d in
           let f = first in
-          let t = times.triangle (place v) (place x) (place w) in
+          let t = times.triangle (place v) (place x) (place w) (placed x.task permitted.known) in
           omega arith
 
   -- a route goes on as one
@@ -65,12 +66,15 @@ module _ (i j : Instance) (times : AreShorterTimes i j) where
       by (inr a) (inl f) behind = let same : x.start ≡ w.start = ap (λ (z : Visit). z.start) f in let before = later v a in absurd (omega arith)
       by (inr a) (inr b) behind = behind a b
 
-module _ (i j : Instance) (tasks : List ℕ) (r : Restricts i j tasks) (p : Plan) (legal : IsLegal i p) where
+module _ (i j : Instance) (tasks : List ℕ) (is : IsInstance i) (r : Restricts i j tasks) (p : Plan) (legal : IsLegal i p) where
   abbrev number : ℕ → ℕ
   number x = get_or tasks x 0
 
   abbrev q : Plan
   q = cut_down p tasks
+
+  placed : (x : ℕ) → x < length i.tasks → (task_of i x).place < length j.places
+  placed x below = subst (λ (ps : List (List ℕ)). (task_of i x).place < length ps) (sym r.places) (is.parts.tasks x no_task below).place
 
   job_at : (p : Plan) (x : ℕ) → x < length tasks → job_of (cut_down p tasks) x ≡ job_of p (number x)
   job_at p x below = get_or-map (job_of p) tasks x 0 None below
@@ -137,4 +141,4 @@ module _ (i j : Instance) (tasks : List ℕ) (r : Restricts i j tasks) (p : Plan
       follows : (k x y t u : ℕ) → (x < length tasks) × Does p k (number x) t → (y < length tasks) × Does p k (number y) u → t < u
           → (visits : List Visit) × AreVisitsOf p k visits × IsRoute (root_limits i) k visits → CanFollow j x t y u
       follows k x y t u (a, c) (b, d) l (visits, are, route) =
-          rw (task_at x a, task_at y b) (reaches_in i j r.times k (visit (number x) t) (visit (number y) u) visits route are.rising ((are.each (number x) t).1 c) ((are.each (number y) u).1 d) l)
+          rw (task_at x a, task_at y b) (reaches_in i j r.times placed k (visit (number x) t) (visit (number y) u) visits route are.rising ((are.each (number x) t).1 c) ((are.each (number y) u).1 d) l)

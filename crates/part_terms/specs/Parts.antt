@@ -8,10 +8,10 @@ use Rattle.crew_terms.specs.Plan.{Plan, job_of}
 abbrev pub cut_down : Plan → List ℕ → Plan
 cut_down p tasks = map (job_of p) tasks
 
--- travel times that are nowhere longer than those of i, and meet the triangle inequality
+-- travel times that are nowhere longer than those of i, and meet the triangle inequality: no way by another place is shorter
 pub record AreShorterTimes (i j : Instance) : Type 0 where
   pub shorter : (a b : ℕ) → minutes_between j a b ≤ minutes_between i a b
-  pub triangle : (a b c : ℕ) → minutes_between j a c ≤ minutes_between j a b + minutes_between j b c
+  pub triangle : (a b c : ℕ) → b < length j.places → minutes_between j a c ≤ minutes_between j a b + minutes_between j b c
 
 -- j has the places and teams of i, of its tasks these, in order and with their frozen jobs, and shorter travel times
 pub record Restricts (i j : Instance) (tasks : List ℕ) : Type 0 where

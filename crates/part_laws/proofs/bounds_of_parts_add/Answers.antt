@@ -5,8 +5,8 @@ use Rattle.crew_terms.specs.Plan.{unassigned_count}
 use Rattle.part_terms.specs.Parts.{Part, cut_down}
 
 pub returns : goal.returns
-returns c = λ i parts bound p are each legal.
+returns c = λ i parts bound p is are each legal.
     let most = c.open_tasks_of_parts_add.ensures i parts p are legal in
     let least = sum_below bound (λ (part : Part). unassigned_count (cut_down p part.tasks)) parts
-    (λ m d l. each m d l (cut_down p _) (c.restricted_plans_are_legal.ensures i _ _ p (are.each m d l) legal)) in
+    (λ m d l. each m d l (cut_down p _) (c.restricted_plans_are_legal.ensures i _ _ p is (are.each m d l) legal)) in
     omega arith

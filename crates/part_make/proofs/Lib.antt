@@ -1,0 +1,5 @@
+mod CutJobs
+mod KeptRows
+mod OneMore
+mod Pieces
+mod Ways

@@ -1,0 +1,5 @@
+mod FoundTasks
+mod KeptJobs
+mod NewTasks
+mod OneList
+mod ShorterTimes
