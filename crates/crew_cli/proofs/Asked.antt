@@ -10,7 +10,7 @@ use Rattle.trial_command.specs.Trials.{AsksForTrial}
 use Rattle.trial_command.specs.declared.words.Trial.{Trial as TrialWords}
 use Rattle.crew_cli.specs.Run.{AskFor, promises_of}
 use Rattle.crew_cli.specs.declared.run.Command.{Command}
-use Rattle.crew_cli.specs.declared.run.Command.TheVariants.{Check, Rosters, Why, Delays, Squeeze, Apply, Day, Audit, Trial}
+use Rattle.crew_cli.specs.declared.run.Command.TheVariants.{Check, Rosters, Why, Delays, Squeeze, SqueezeCheck, Apply, Day, Audit, Trial}
 
 -- the place of a command in their list
 place : Command → ℕ
@@ -22,7 +22,8 @@ place Apply = 4
 place Day = 5
 place Audit = 6
 place (Squeeze s) = 7
-place (Trial t) = 8
+place SqueezeCheck = 8
+place (Trial t) = 9
 
 -- the place of the command whose first word this is
 place_of : List ℕ → ℕ
@@ -35,7 +36,8 @@ place_of word =
     else if bytes_eq word (codes "day") then 5
     else if bytes_eq word (codes "audit") then 6
     else if bytes_eq word (codes "squeeze") then 7
-    else 8
+    else if bytes_eq word (codes "squeeze-check") then 8
+    else 9
 
 -- a command's first word tells its place
 placed : (c : Command) → place_of (get_or (promises_of c).words 0 []) ≡ place c
@@ -48,6 +50,7 @@ placed Apply = refl
 placed Day = refl
 placed Audit = refl
 placed (Squeeze s) = refl
+placed SqueezeCheck = refl
 placed (Trial t) = refl
 
 -- commands at one place whose words are the same are one
@@ -60,6 +63,7 @@ at_place words Delays Delays e p q = refl
 at_place words Apply Apply e p q = refl
 at_place words Day Day e p q = refl
 at_place words Audit Audit e p q = refl
+at_place words SqueezeCheck SqueezeCheck e p q = refl
 at_place words (Squeeze s) (Squeeze t) e p q = ap Squeeze (one_squeeze words s t p q)
 at_place words (Trial t) (Trial u) e p q = ap Trial (one_trial words t u p q)
 at_place words a b e p q = absurd (omega (arith, e))
@@ -71,13 +75,14 @@ one_command words a b p q =
 
 -- words that are none of the forms ask for none
 pub none_asked : (words : List (List ℕ)) → (words ≡ codes "check" ∷ [] → ⊥) → (words ≡ codes "rosters" ∷ [] → ⊥) → (words ≡ codes "why" ∷ [] → ⊥) → (words ≡ codes "delays" ∷ [] → ⊥) → (words ≡ codes "apply" ∷ [] → ⊥) → (words ≡ codes "day" ∷ [] → ⊥) → (words ≡ codes "audit" ∷ [] → ⊥)
-    → ((s : SqueezeWords) → AsksForSqueeze s words → ⊥) → ((t : TrialWords) → AsksForTrial t words → ⊥) → (command : Command) → AskFor command words → ⊥
-none_asked words check rosters why delays apply day audit squeeze trial Check asks = check asks.1
-none_asked words check rosters why delays apply day audit squeeze trial Rosters asks = rosters asks.1
-none_asked words check rosters why delays apply day audit squeeze trial Why asks = why asks.1
-none_asked words check rosters why delays apply day audit squeeze trial Delays asks = delays asks.1
-none_asked words check rosters why delays apply day audit squeeze trial Apply asks = apply asks.1
-none_asked words check rosters why delays apply day audit squeeze trial Day asks = day asks.1
-none_asked words check rosters why delays apply day audit squeeze trial Audit asks = audit asks.1
-none_asked words check rosters why delays apply day audit squeeze trial (Squeeze s) asks = squeeze s asks
-none_asked words check rosters why delays apply day audit squeeze trial (Trial t) asks = trial t asks
+    → (words ≡ codes "squeeze-check" ∷ [] → ⊥) → ((s : SqueezeWords) → AsksForSqueeze s words → ⊥) → ((t : TrialWords) → AsksForTrial t words → ⊥) → (command : Command) → AskFor command words → ⊥
+none_asked words check rosters why delays apply day audit sheets squeeze trial Check asks = check asks.1
+none_asked words check rosters why delays apply day audit sheets squeeze trial Rosters asks = rosters asks.1
+none_asked words check rosters why delays apply day audit sheets squeeze trial Why asks = why asks.1
+none_asked words check rosters why delays apply day audit sheets squeeze trial Delays asks = delays asks.1
+none_asked words check rosters why delays apply day audit sheets squeeze trial Apply asks = apply asks.1
+none_asked words check rosters why delays apply day audit sheets squeeze trial Day asks = day asks.1
+none_asked words check rosters why delays apply day audit sheets squeeze trial Audit asks = audit asks.1
+none_asked words check rosters why delays apply day audit sheets squeeze trial SqueezeCheck asks = sheets asks.1
+none_asked words check rosters why delays apply day audit sheets squeeze trial (Squeeze s) asks = squeeze s asks
+none_asked words check rosters why delays apply day audit sheets squeeze trial (Trial t) asks = trial t asks

@@ -1,2 +1,3 @@
 pub mod Asked
 pub mod Top
+pub mod Squeezed

@@ -28,6 +28,7 @@ use Rattle.day_commands.specs.Taken.{Wrote}
 use Rattle.day_commands.specs.Fine.{refused_not_fine}
 use Rattle.squeeze_command.specs.Says.{SqueezesDossiers, SaysNo as SaysNotSqueezed}
 use Rattle.squeeze_command.specs.declared.words.Squeeze.{Squeeze as SqueezeWords}
+use Rattle.sheet_commands.specs.Says.{ReadsSheets, SaysNo as SaysNoSheets}
 use Rattle.audit_command.specs.Events.{IsFineAudit}
 use Rattle.audit_command.specs.Fine.{event_is_front, fine_is_done as fine_audit_is_done}
 use Rattle.audit_command.specs.Says.{ReadsAudit, SaysEvent, SaysFront as SaysEventFront, SaysNothing, Nothing as NoEventWritten}
@@ -37,10 +38,10 @@ use Rattle.trial_command.specs.Says.{RunsTrial, SaysLine, SaysLineFront, Nothing
 use Rattle.trial_command.specs.declared.trial.TrialEnded.{TrialEnded}
 use Rattle.trial_command.specs.declared.trial.TrialEnded.TheVariants as trial
 use Rattle.trial_command.specs.declared.words.Trial.{Trial as TrialWords}
-use Rattle.crew_cli.specs.Run.{Answers, AreDelays, AreDossiers, AuditSays, DaySays, DelaysSay, DossiersSay, SqueezeSays, TrialSays, an_audit, of_delays, of_squeeze, of_trial as trial_promises, over_days, over_dossiers, promises_of}
+use Rattle.crew_cli.specs.Run.{Answers, AreDelays, AreDossiers, AreSheets, AuditSays, DaySays, DelaysSay, DossiersSay, SqueezeCheckSays, SqueezeSays, TrialSays, an_audit, of_delays, of_sheets, of_squeeze, of_trial as trial_promises, over_days, over_dossiers, promises_of}
 use Rattle.crew_cli.specs.Status.{audit_status, dossiers_status, day_status, trial_status, is_done}
 use Rattle.crew_cli.specs.declared.run.Command.{Command}
-use Rattle.crew_cli.specs.declared.run.Command.TheVariants.{Check, Rosters, Why, Delays, Squeeze, Apply, Day, Audit, Trial}
+use Rattle.crew_cli.specs.declared.run.Command.TheVariants.{Check, Rosters, Why, Delays, Squeeze, SqueezeCheck, Apply, Day, Audit, Trial}
 use Rattle.crew_cli.specs.declared.status.Status.{Status}
 use Rattle.crew_cli.specs.declared.status.Status.TheVariants as status
 
@@ -60,6 +61,10 @@ no_is_not_fine text (Some input) got later A B C says = λ fine a b. absurd (say
 no_sheets_is_not_fine : (steps : ℕ) (left got later : Option (List ℕ)) (A B C : Type 0) → OfBytes left got later (SaysNotSqueezed steps) → IfSome left (λ input. AreDossiers input → A → B → C)
 no_sheets_is_not_fine steps None got later A B C says = tt
 no_sheets_is_not_fine steps (Some input) got later A B C says = λ fine a b. absurd (says.2.not_accepted fine.0 fine.1)
+
+refused_is_no_sheets : (left got later : Option (List ℕ)) (A B C : Type 0) → OfBytes left got later SaysNoSheets → IfSome left (λ input. AreSheets input → A → B → C)
+refused_is_no_sheets None got later A B C says = tt
+refused_is_no_sheets (Some input) got later A B C says = λ fine a b. absurd (says.2.not_accepted fine.0 fine.1)
 
 refused_is_no_delays : (left got later : Option (List ℕ)) (A B C : Type 0) → OfBytes left got later SaysRefused → IfSome left (λ input. AreDelays input → A → B → C)
 refused_is_no_delays None got later A B C says = tt
@@ -181,6 +186,59 @@ module _ {S K : Type 0} (source : SourceTells S) (sink : SinkTells K) (src later
     complete = if_some (source.left src) _ (λ input fine nr nw. absurd (nw (r.writes.cause refl)));
   }
   squeeze_answer s (Err fault) r = record {
+    says = r.memory;
+    part = r.front;
+    ends = refl;
+    ended = λ _ e. absurd (cc);
+    unread = λ e. absurd (cc);
+    reads = tells_read r.reads (λ e. absurd (cc)) (λ e. absurd (cc));
+    writes = tells_write r.writes (λ e. absurd (cc)) (λ e. absurd (cc));
+    complete = if_some (source.left src) _ (λ input fine nr nw. inr refl);
+  }
+
+  -- the command `squeeze-check` answers by the status of its end
+  pub sheets_answer : {E : Type 0} (ended : Result DossiersEnded E) → ReadsSheets source sink src later out new ended → Answers source sink of_sheets src later out new (dossiers_status ended)
+  sheets_answer (Ok dossiers.Done) r = record {
+    says = r.says;
+    part = r.front;
+    ends = refl;
+    ended = λ _ _. r.ended refl;
+    unread = λ e. absurd (cc);
+    reads = tells_read r.reads (λ e. absurd (cc)) (λ e. absurd (cc));
+    writes = tells_write r.writes (λ e. absurd (cc)) (λ e. absurd (cc));
+    complete = if_some (source.left src) _ (λ input fine nr nw. inl refl);
+  }
+  sheets_answer (Ok dossiers.No) r = record {
+    says = r.says;
+    part = r.front;
+    ends = refl;
+    ended = λ _ e. absurd (cc);
+    unread = λ e. absurd (cc);
+    reads = tells_read r.reads (λ e. absurd (cc)) (λ e. absurd (cc));
+    writes = tells_write r.writes (λ e. absurd (cc)) (λ e. absurd (cc));
+    complete = refused_is_no_sheets (source.left src) (sink.got out) (sink.got new) _ _ _ r.says;
+  }
+  sheets_answer (Ok dossiers.ReadFault) r = record {
+    says = r.says;
+    part = r.front;
+    ends = refl;
+    ended = λ _ e. absurd (cc);
+    unread = λ e. absurd (cc);
+    reads = tells_read r.reads (λ _. refl) (λ _. refl);
+    writes = tells_write r.writes (λ e. absurd (cc)) (λ e. absurd (cc));
+    complete = if_some (source.left src) _ (λ input fine nr nw. absurd (nr (r.reads.cause refl)));
+  }
+  sheets_answer (Ok dossiers.WriteFault) r = record {
+    says = r.says;
+    part = r.front;
+    ends = refl;
+    ended = λ _ e. absurd (cc);
+    unread = λ e. absurd (cc);
+    reads = tells_read r.reads (λ e. absurd (cc)) (λ e. absurd (cc));
+    writes = tells_write r.writes (λ _. refl) (λ _. refl);
+    complete = if_some (source.left src) _ (λ input fine nr nw. absurd (nw (r.writes.cause refl)));
+  }
+  sheets_answer (Err fault) r = record {
     says = r.memory;
     part = r.front;
     ends = refl;
@@ -463,6 +521,18 @@ squeeze_done steps status.WriteFault unseen input written Full says fine read wr
 squeeze_done steps status.Memory unseen input written Full says fine read write = inr (inl refl)
 squeeze_done steps status.Unproved unseen input written Full says fine read write = absurd says
 
+-- nor are sheets that are fine
+sheets_done : (answer : Status) (unseen : Option (List ℕ)) (input written : List ℕ) (Full : Type 0) → SqueezeCheckSays answer unseen input written → AreSheets input
+    → answer ≢ status.ReadFault → (answer ≡ status.WriteFault → Full) → IsTrue (is_done answer) ⊎ (answer ≡ status.Memory) ⊎ ((answer ≡ status.WriteFault) × Full)
+sheets_done status.Done unseen input written Full says fine read write = inl refl
+sheets_done status.No unseen input written Full says fine read write = absurd (says.not_accepted fine.0 fine.1)
+sheets_done status.Words unseen input written Full says fine read write = absurd says
+sheets_done status.Refused unseen input written Full says fine read write = absurd says
+sheets_done status.ReadFault unseen input written Full says fine read write = absurd (read refl)
+sheets_done status.WriteFault unseen input written Full says fine read write = inr (inr (refl, write refl))
+sheets_done status.Memory unseen input written Full says fine read write = inr (inl refl)
+sheets_done status.Unproved unseen input written Full says fine read write = absurd says
+
 -- nor are late tasks and a dossier that are fine
 delays_done : (answer : Status) (unseen : Option (List ℕ)) (input written : List ℕ) (Full : Type 0) → DelaysSay answer unseen input written → AreDelays input
     → answer ≢ status.ReadFault → (answer ≡ status.WriteFault → Full) → IsTrue (is_done answer) ⊎ (answer ≡ status.Memory) ⊎ ((answer ≡ status.WriteFault) × Full)
@@ -519,6 +589,7 @@ fine_is_done Rosters answer unseen input written Full says fine read write = dos
 fine_is_done Why answer unseen input written Full says fine read write = dossiers_done _ answer unseen input written Full says fine read write
 fine_is_done Delays answer unseen input written Full says fine read write = delays_done answer unseen input written Full says fine read write
 fine_is_done (Squeeze s) answer unseen input written Full says fine read write = squeeze_done s.steps answer unseen input written Full says fine read write
+fine_is_done SqueezeCheck answer unseen input written Full says fine read write = sheets_done answer unseen input written Full says fine read write
 fine_is_done Apply answer unseen input written Full says fine read write = day_done Instances answer unseen input written Full says fine read write
 fine_is_done Day answer unseen input written Full says fine read write = day_done Dossiers answer unseen input written Full says fine read write
 fine_is_done Audit answer unseen input written Full says fine read write = audit_done answer unseen input written Full says fine read write

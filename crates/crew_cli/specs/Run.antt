@@ -22,6 +22,9 @@ use Rattle.day_commands.specs.Dossiers.{IsProved, IsUnproved}
 use Rattle.squeeze_command.specs.Says.{SaysYes as SaysSqueezed, SaysNo as SaysNotSqueezed, SaysFront as SaysSheetsFront, SaysReadFault as SaysSqueezeCutOff, SaysSheets}
 use Rattle.squeeze_command.specs.Words.{IsSqueeze, squeeze_words}
 use Rattle.squeeze_command.specs.declared.words.Squeeze.{Squeeze as SqueezeWords}
+use Rattle.sheet_terms.specs.Sheet.{Sheet}
+use Rattle.sheet_texts.specs.Accepted.{AreAcceptedSheets}
+use Rattle.sheet_commands.specs.Says.{SaysYes as SaysBounds, SaysNo as SaysNoSheets, SaysFront as SaysBoundsFront, SaysReadFault as SaysSheetsCutOff, SaysLines}
 use Rattle.audit_command.specs.Events.{IsFineAudit}
 use Rattle.audit_command.specs.Says.{SaysEvent, SaysFront as SaysEventFront, SaysNothing as SaysNoEvent}
 use Rattle.audit_command.specs.declared.ended.Ended.TheVariants as audit
@@ -30,7 +33,7 @@ use Rattle.trial_command.specs.Says.{SaysLine, SaysLineFront}
 use Rattle.trial_command.specs.declared.words.Trial.{Trial as TrialWords}
 use Rattle.crew_cli.specs.Status.{is_done}
 use Rattle.crew_cli.specs.declared.run.Command.{Command}
-use Rattle.crew_cli.specs.declared.run.Command.TheVariants.{Check, Rosters, Why, Delays, Squeeze, Apply, Day, Audit, Trial}
+use Rattle.crew_cli.specs.declared.run.Command.TheVariants.{Check, Rosters, Why, Delays, Squeeze, SqueezeCheck, Apply, Day, Audit, Trial}
 use Rattle.crew_cli.specs.declared.status.Status.{Status}
 use Rattle.crew_cli.specs.declared.status.Status.TheVariants.{Done, No, Words, Refused, ReadFault, WriteFault, Memory, Unproved}
 
@@ -61,6 +64,15 @@ SqueezeSays steps WriteFault unseen input written = SaysSheetsFront steps input 
 SqueezeSays steps Memory unseen input written = SaysSheets steps input written
 SqueezeSays steps _ unseen input written = ⊥
 
+-- what a status says of the command `squeeze-check`; no other status comes
+abbrev pub SqueezeCheckSays : Status → Option (List ℕ) → List ℕ → List ℕ → Type 0
+SqueezeCheckSays Done unseen input written = SaysBounds input written
+SqueezeCheckSays No unseen input written = SaysNoSheets input written
+SqueezeCheckSays ReadFault unseen input written = SaysSheetsCutOff unseen input written
+SqueezeCheckSays WriteFault unseen input written = SaysBoundsFront input written
+SqueezeCheckSays Memory unseen input written = SaysLines input written
+SqueezeCheckSays _ unseen input written = ⊥
+
 -- what a status says of a command over days, which writes this of each round; no other status comes
 abbrev pub DaySays : DayOutput → Status → Option (List ℕ) → List ℕ → List ℕ → Type 0
 DaySays output Done unseen input written = SaysRounds change_stop (ProvedOf output) input written
@@ -89,7 +101,7 @@ TrialSays trial WriteFault unseen input written = SaysLineFront trial written
 TrialSays trial Memory unseen input written = written ≡ []
 TrialSays trial _ unseen input written = ⊥
 
--- the statuses that a command over dossiers can end with
+-- the statuses that a command over dossiers, or over sheets, can end with
 abbrev pub dossiers_end_with : Status → Bool
 dossiers_end_with Words = false
 dossiers_end_with Refused = false
@@ -120,6 +132,10 @@ trial_ends_with _ = false
 -- the bytes are accepted as some dossiers
 abbrev pub AreDossiers : List ℕ → Type 0
 AreDossiers input = (dossiers : List Dossier) × IsAccepted input dossiers
+
+-- the bytes are accepted as some sheets
+abbrev pub AreSheets : List ℕ → Type 0
+AreSheets input = (sheets : List Sheet) × AreAcceptedSheets input sheets
 
 -- the bytes tell late tasks and a dossier whose plan does them
 abbrev pub AreDelays : List ℕ → Type 0
@@ -173,6 +189,17 @@ of_squeeze squeeze = record {
   fine = AreDossiers;
 }
 
+-- the command `squeeze-check`: it takes bytes that are accepted as sheets
+abbrev pub of_sheets : Promises
+of_sheets = record {
+  words = codes "squeeze-check" ∷ [];
+  in_range = Unit {0};
+  says = SqueezeCheckSays;
+  ends_with = dossiers_end_with;
+  reads = true;
+  fine = AreSheets;
+}
+
 -- a command over days, which writes this of each round: it takes a day of which it refuses no record, whichever legal plans its
 -- rounds get
 abbrev pub over_days : List ℕ → DayOutput → Promises
@@ -214,6 +241,7 @@ promises_of Rosters = over_dossiers (codes "rosters") roster_of
 promises_of Why = over_dossiers (codes "why") why_of
 promises_of Delays = of_delays
 promises_of (Squeeze squeeze) = of_squeeze squeeze
+promises_of SqueezeCheck = of_sheets
 promises_of Apply = over_days (codes "apply") Instances
 promises_of Day = over_days (codes "day") Dossiers
 promises_of Audit = an_audit

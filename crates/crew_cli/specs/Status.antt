@@ -28,7 +28,7 @@ is_done Done = true
 is_done Unproved = true
 is_done _ = false
 
--- the status of a command over dossiers that ended so, or for which memory was wanting
+-- the status of a command over dossiers, or over sheets, that ended so, or for which memory was wanting
 abbrev pub dossiers_status : {E : Type 0} → Result DossiersEnded E → Status
 dossiers_status (Ok dossiers.Done) = Done
 dossiers_status (Ok dossiers.No) = No

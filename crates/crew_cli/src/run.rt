@@ -13,6 +13,7 @@ use crew_io::source::Source;
 use day_commands::{DayOutput, write_rounds};
 use delay_command::write_delays;
 use dossier_commands::{Output, read_dossiers};
+use sheet_commands::read_sheets;
 use squeeze_command::{Squeeze, squeeze_dossiers};
 use std::alloc::{AllocError, Global};
 use trial_command::{Trial, TrialEnded, write_trial};
@@ -30,6 +31,8 @@ pub enum Command {
     Delays,
     /// `squeeze`: read dossiers, and write a sheet of minute prices for each good one.
     Squeeze(Squeeze),
+    /// `squeeze-check`: read sheets of minute prices, and write a yes line for each good one.
+    SqueezeCheck,
     /// `apply`: read a day, and write the instance of each round.
     Apply,
     /// `day`: read a day, and write a dossier of each round.
@@ -75,6 +78,9 @@ impl Command {
         if asks_for(words, "audit") {
             return Some(Command::Audit);
         }
+        if asks_for(words, "squeeze-check") {
+            return Some(Command::SqueezeCheck);
+        }
         if let Some(squeeze) = Squeeze::of(words) {
             return Some(Command::Squeeze(squeeze));
         }
@@ -82,7 +88,7 @@ impl Command {
     }
 }
 
-/// The status of a command over dossiers.
+/// The status of a command over dossiers, or over sheets.
 fn of_dossiers(ended: Result<dossier_commands::Ended, AllocError>) -> Status
     ensures { result ≡ dossiers_status ended }
 {
@@ -170,6 +176,7 @@ fn answer<S: Source, K: Sink>(alloc: Global, command: Command, src: &mut S, out:
         Command::Squeeze(squeeze) => {
             of_dossiers(squeeze_dossiers(alloc, squeeze.steps, src, out))
         }
+        Command::SqueezeCheck => of_dossiers(read_sheets(alloc, src, out)),
         Command::Apply => plan_day(alloc, DayOutput::Instances, src, out),
         Command::Day => plan_day(alloc, DayOutput::Dossiers, src, out),
         Command::Audit => of_audit(audit_day(alloc, src, out)),
@@ -183,6 +190,8 @@ fn answer<S: Source, K: Sink>(alloc: Global, command: Command, src: &mut S, out:
 /// is in the way of its open tasks. With `delays` it reads which tasks end late, and one dossier, and writes what waits for
 /// what in its plan, or the line `no` of the first line that is refused. With `squeeze` it reads dossiers as `check` does, and
 /// writes for each good one a sheet: a bound, with a price for each start minute of a joint task that proves it. With
+/// `squeeze-check` it reads such sheets, and writes for each good one a line `yes bound` with its bound, or the line `no` of the
+/// first line that is refused. With
 /// `apply` it reads a day, and writes the instance of each round, up to the first record that is refused, and a line
 /// `refused` for that one. With `day` it does the same, and plans each round: it writes a dossier of it, which `check` says
 /// yes to. With `audit` it reads a day, the line `dossiers` and dossiers, and writes one line: that the dossiers belong to the

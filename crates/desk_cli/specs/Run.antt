@@ -12,8 +12,9 @@ use Rattle.desk_commands.specs.Says.{SaysDone, SaysNo, SaysFront, SaysReadFault}
 use Rattle.desk_commands.specs.declared.output.DeskOutput.{DeskOutput}
 use Rattle.desk_commands.specs.declared.output.DeskOutput.TheVariants as output
 use Rattle.desk_commands.specs.declared.read.Refusal.{Refusal}
+use Rattle.day_explain.specs.Says.{IsFineText, SaysFine, SaysFront as SaysDayFront, SaysNothingRead, SaysWrong}
 use Rattle.desk_cli.specs.declared.run.Command.{Command}
-use Rattle.desk_cli.specs.declared.run.Command.TheVariants.{Changes, Picture}
+use Rattle.desk_cli.specs.declared.run.Command.TheVariants.{Changes, Picture, Explain}
 use Rattle.desk_cli.specs.declared.run.Outcome.{Outcome}
 use Rattle.desk_cli.specs.declared.status.Status.{Status}
 use Rattle.desk_cli.specs.declared.status.Status.TheVariants.{Done, No, Words, ReadFault, WriteFault, Memory}
@@ -31,6 +32,15 @@ DossiersSay output ReadFault told unseen input written = SaysReadFault output un
 DossiersSay output WriteFault told unseen input written = SaysFront output input written
 DossiersSay output Memory told unseen input written = SaysFront output input written
 DossiersSay output Words told unseen input written = ⊥
+
+-- what an outcome of a command over a day says; no other status comes
+abbrev pub DaySays : Status → Option (List ℕ) → List ℕ → List ℕ → Type 0
+DaySays Done unseen input written = SaysFine input written
+DaySays No unseen input written = SaysWrong input written
+DaySays ReadFault unseen input written = SaysNothingRead unseen input written
+DaySays WriteFault unseen input written = SaysDayFront input written
+DaySays Memory unseen input written = written ≡ []
+DaySays Words unseen input written = ⊥
 
 -- the bytes are accepted as some dossiers
 abbrev pub AreDossiers : List ℕ → Type 0
@@ -51,10 +61,19 @@ over_dossiers word output = record {
   fine = AreDossiers;
 }
 
+-- a command over a day; it tells no line in its outcome
+abbrev pub over_day : List ℕ → Promises
+over_day word = record {
+  word = word;
+  says = λ outcome unseen input written. (outcome.refusal ≡ None) × DaySays outcome.status unseen input written;
+  fine = IsFineText;
+}
+
 -- the commands, with what is promised of each
 abbrev pub promises_of : Command → Promises
 promises_of Changes = over_dossiers (codes "changes") output.Changes
 promises_of Picture = over_dossiers (codes "picture") output.Picture
+promises_of Explain = over_day (codes "explain")
 
 -- the words ask for the command
 abbrev pub AskFor : Command → List (List ℕ) → Type 0

@@ -2,6 +2,8 @@
 use Rattle.std.specs.Prelude.{ℕ, Result, Ok, Err, None, Some}
 use Rattle.desk_commands.specs.declared.read.Ended.{Ended}
 use Rattle.desk_commands.specs.declared.read.Ended.TheVariants as dossiers
+use Rattle.day_explain.specs.declared.read.Ended.{Ended as DayEnded}
+use Rattle.day_explain.specs.declared.read.Ended.TheVariants as day
 use Rattle.desk_cli.specs.declared.run.Outcome.{Outcome}
 use Rattle.desk_cli.specs.declared.status.Status.{Status}
 use Rattle.desk_cli.specs.declared.status.Status.TheVariants.{Done, No, Words, ReadFault, WriteFault, Memory}
@@ -26,3 +28,11 @@ outcome_of (Ok (dossiers.No refusal)) = record { status = No; refusal = Some ref
 outcome_of (Ok dossiers.ReadFault) = told_nothing ReadFault
 outcome_of (Ok dossiers.WriteFault) = told_nothing WriteFault
 outcome_of (Err fault) = told_nothing Memory
+
+-- the outcome of a command over a day that ended so, or for which memory was wanting
+abbrev pub day_outcome : {E : Type 0} → Result DayEnded E → Outcome
+day_outcome (Ok day.Fine) = told_nothing Done
+day_outcome (Ok day.Wrong) = told_nothing No
+day_outcome (Ok day.ReadFault) = told_nothing ReadFault
+day_outcome (Ok day.WriteFault) = told_nothing WriteFault
+day_outcome (Err fault) = told_nothing Memory

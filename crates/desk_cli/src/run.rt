@@ -2,12 +2,13 @@
 ghost use Rattle.std.specs.Prelude.{◌≡◌, ◌≢◌, ◌≤◌, ◌↔◌, ◌⊎◌, ℕ, List, [], ◌∷◌, map, string_bytes, IfSome, IsTrue, MatchOption, None};
 ghost use Rattle.crew_io.specs.Io.{HasEnded, Rose};
 ghost use Rattle.crew_io.specs.Bytes.{OfBytes};
-ghost use Rattle.desk_cli.specs.Run.{Answers, AskFor, over_dossiers, promises_of};
-ghost use Rattle.desk_cli.specs.Status.{outcome_of};
+ghost use Rattle.desk_cli.specs.Run.{Answers, AskFor, over_day, over_dossiers, promises_of};
+ghost use Rattle.desk_cli.specs.Status.{day_outcome, outcome_of};
 
 use crate::status::Status;
 use crew_io::sink::Sink;
 use crew_io::source::Source;
+use day_explain::{Ended as DayEnded, explain};
 use desk_commands::{DeskOutput, Ended, Refusal, read_desk};
 use std::alloc::{AllocError, Global};
 
@@ -18,6 +19,8 @@ pub enum Command {
     Changes,
     /// `picture`: read dossiers, and write a page with a chart of the plan of each good one.
     Picture,
+    /// `explain`: read a day, and write all that is wrong with it.
+    Explain,
 }
 
 /// What the top call answers: how it ended, and of dossiers the first line that is refused, where one is. Nothing of that line was
@@ -60,6 +63,9 @@ impl Command {
         if asks_for(words, "picture") {
             return Some(Command::Picture);
         }
+        if asks_for(words, "explain") {
+            return Some(Command::Explain);
+        }
         None
     }
 }
@@ -80,6 +86,19 @@ fn of_dossiers(ended: Result<Ended, AllocError>) -> Outcome
     }
 }
 
+/// The outcome of a command over a day.
+fn of_day(ended: Result<DayEnded, AllocError>) -> Outcome
+    ensures { result ≡ day_outcome ended }
+{
+    match ended {
+        Ok(DayEnded::Fine) => Outcome::of(Status::Done),
+        Ok(DayEnded::Wrong) => Outcome::of(Status::No),
+        Ok(DayEnded::ReadFault) => Outcome::of(Status::ReadFault),
+        Ok(DayEnded::WriteFault) => Outcome::of(Status::WriteFault),
+        Err(AllocError) => Outcome::of(Status::Memory),
+    }
+}
+
 /// Reads dossiers, and writes what is asked for of the good ones.
 fn read_all<S: Source, K: Sink>(
     alloc: Global,
@@ -93,6 +112,14 @@ fn read_all<S: Source, K: Sink>(
     of_dossiers(read_desk(alloc, output, src, out))
 }
 
+/// Reads a day, and writes what is wrong with it.
+fn read_day<S: Source, K: Sink>(alloc: Global, src: &mut S, out: &mut K) -> Outcome
+    ensures { (word : List ℕ) → Answers S.Source K.Sink (over_day word)
+        src.old src.new out.old out.new result }
+{
+    of_day(explain(alloc, src, out))
+}
+
 /// Does what a command asks for, but for the flush.
 fn answer<S: Source, K: Sink>(alloc: Global, command: Command, src: &mut S, out: &mut K) -> Outcome
     ensures { Answers S.Source K.Sink (promises_of command) src.old src.new out.old out.new result }
@@ -100,12 +127,14 @@ fn answer<S: Source, K: Sink>(alloc: Global, command: Command, src: &mut S, out:
     match command {
         Command::Changes => read_all(alloc, DeskOutput::Changes, src, out),
         Command::Picture => read_all(alloc, DeskOutput::Picture, src, out),
+        Command::Explain => read_day(alloc, src, out),
     }
 }
 
 /// Does what the words ask for. With `changes` it reads one dossier after another, and writes what changed from each good one to
 /// the next, with `picture` a page with a chart of the plan of each good one. At the first line that is refused it ends what it
-/// writes as at the end of the input, and tells the line in its outcome. Other words have no form: nothing is read or written.
+/// writes as at the end of the input, and tells the line in its outcome. With `explain` it reads a day, and writes what is wrong with
+/// it. Other words have no form: nothing is read or written.
 pub fn run<S: Source, K: Sink>(alloc: Global, words: &[String], src: &mut S, out: &mut K) -> Outcome
     // Each outcome tells what the input is and what was written, also at a fault.
     ensures says { (command : Command) → AskFor command (map (λ w. string_bytes w) words.now)

@@ -5,7 +5,7 @@ ghost use Rattle.desk_cli.specs.Status.{number_of};
 /// How a call ended.
 #[derive(Clone, Copy, Debug, PartialEq, Eq)]
 pub enum Status {
-    /// The work was done to the end of the input.
+    /// The work was done to the end of the input, and nothing is wrong with it.
     Done,
     /// The input is not accepted.
     No,

@@ -9,6 +9,9 @@ use std::test::Fail;
 /// More calls than any run here makes.
 const CALLS: u64 = 2000;
 
+/// A day with something wrong.
+const DAY: &[u8] = b"place,BASE\nteam,T1,BASE,06:00,7:00,\nplan,1\n";
+
 /// Two good dossiers.
 fn two_dossiers(alloc: Global) -> Result<Vec<u8>, AllocError> {
     let first = text_of(alloc, WITH_POOL)?;
@@ -57,11 +60,19 @@ fn each_write_of_a_page_fails_once(rt: HostRuntime) -> Result<(), Fail> {
 }
 
 #[test]
+fn each_write_of_faults_fails_once(rt: HostRuntime) -> Result<(), Fail> {
+    let writes = told_writes(rt.alloc(), "explain", DAY)?;
+    assert!(rt; writes.is_some_and(|n| n > 5));
+    Ok(())
+}
+
+#[test]
 fn each_read_fails_once(rt: HostRuntime) -> Result<(), Fail> {
     let input = two_dossiers(rt.alloc())?;
     for call in 1..3 {
         assert!(rt; tells_read(rt.alloc(), "changes", &input, call)?);
         assert!(rt; tells_read(rt.alloc(), "picture", &input, call)?);
+        assert!(rt; tells_read(rt.alloc(), "explain", DAY, call)?);
     }
     Ok(())
 }

@@ -6,6 +6,8 @@ mod answers;
 #[cfg(test)]
 mod changes;
 #[cfg(test)]
+mod explained;
+#[cfg(test)]
 mod faults;
 #[cfg(test)]
 mod picture;

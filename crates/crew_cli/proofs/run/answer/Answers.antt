@@ -1,9 +1,9 @@
 use Rattle.std.proofs.Common.{sym, subst}
 use Rattle.std.specs.Prelude.{codes}
-use Rattle.crew_cli.specs.Run.{Answers, an_audit, of_delays, of_squeeze, of_trial, promises_of}
+use Rattle.crew_cli.specs.Run.{Answers, an_audit, of_delays, of_sheets, of_squeeze, of_trial, promises_of}
 use Rattle.crew_cli.specs.declared.run.Command.{Command}
 use Rattle.crew_cli.specs.declared.status.Status.{Status}
-use Rattle.crew_cli.proofs.Top.{audit_answers, delays_answer, squeeze_answer, trial_answers}
+use Rattle.crew_cli.proofs.Top.{audit_answers, delays_answer, sheets_answer, squeeze_answer, trial_answers}
 use Rattle.crew_cli.proofs.run.answer.Goals as goal
 
 pub returns-in-Check : goal.returns-in-Check
@@ -34,6 +34,13 @@ returns-in-Squeeze g c =
     (sym c.in-Squeeze.is)
     (subst (λ (s : Status). Answers g.S.Source g.K.Sink (of_squeeze c.in-Squeeze.squeeze) c.args.src.now c.squeeze_dossiers.new.src c.args.out.now c.squeeze_dossiers.new.out s)
     (sym c.of_dossiers-in-Squeeze.ensures) (squeeze_answer g.S.Source g.K.Sink c.args.src.now c.squeeze_dossiers.new.src c.args.out.now c.squeeze_dossiers.new.out c.in-Squeeze.squeeze c.squeeze_dossiers.result c.squeeze_dossiers.ensures))
+
+pub returns-in-SqueezeCheck : goal.returns-in-SqueezeCheck
+returns-in-SqueezeCheck g c =
+    subst (λ (a : Command). Answers g.S.Source g.K.Sink (promises_of a) c.args.src.now c.read_sheets.new.src c.args.out.now c.read_sheets.new.out c.of_dossiers-in-SqueezeCheck.result)
+    (sym c.in-SqueezeCheck.is)
+    (subst (λ (s : Status). Answers g.S.Source g.K.Sink of_sheets c.args.src.now c.read_sheets.new.src c.args.out.now c.read_sheets.new.out s)
+    (sym c.of_dossiers-in-SqueezeCheck.ensures) (sheets_answer g.S.Source g.K.Sink c.args.src.now c.read_sheets.new.src c.args.out.now c.read_sheets.new.out c.read_sheets.result c.read_sheets.ensures))
 
 pub returns-in-Apply : goal.returns-in-Apply
 returns-in-Apply g c =

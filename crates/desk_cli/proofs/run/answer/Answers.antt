@@ -13,3 +13,8 @@ pub returns-in-Picture : goal.returns-in-Picture
 returns-in-Picture g c =
     subst (λ (a : Command). Answers g.S.Source g.K.Sink (promises_of a) c.args.src.now c.read_all-in-Picture.new.src c.args.out.now c.read_all-in-Picture.new.out c.read_all-in-Picture.result)
     (sym c.in-Picture.is) (c.read_all-in-Picture.ensures (codes "picture"))
+
+pub returns-in-Explain : goal.returns-in-Explain
+returns-in-Explain g c =
+    subst (λ (a : Command). Answers g.S.Source g.K.Sink (promises_of a) c.args.src.now c.read_day.new.src c.args.out.now c.read_day.new.out c.read_day.result)
+    (sym c.in-Explain.is) (c.read_day.ensures (codes "explain"))

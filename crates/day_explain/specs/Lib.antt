@@ -1,0 +1,3 @@
+pub mod Telling
+pub mod Text
+pub mod Says

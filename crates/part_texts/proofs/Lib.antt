@@ -1,0 +1,5 @@
+mod Between
+mod Bounds
+mod Division
+mod First
+mod OneMore

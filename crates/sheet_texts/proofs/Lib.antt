@@ -1,0 +1,4 @@
+pub mod Lines
+pub mod One
+pub mod Read
+pub mod Once
