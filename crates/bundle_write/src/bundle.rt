@@ -65,5 +65,5 @@ pub fn put_bundle<K: Sink>(
         return Err(PutFault::WriteFault);
     }
     let sum = put_parts(alloc, instance, &lists, nodes, sink)?;
-    Ok(sum.max(bound as u64))
+    Ok((bound as u64).max(sum))
 }
