@@ -8,8 +8,8 @@ use Rattle.dossier_terms.specs.Lines.{do_line, jobs_from, plan_line}
 use Rattle.line_out.specs.Parts.{part_word}
 use Rattle.line_out.specs.declared.Part.{Part}
 use Rattle.line_out.specs.declared.Part.TheVariants.{Number}
-use Rattle.cert_write.proofs.Texts.{text}
-use Rattle.cert_write.proofs.jobs.put_plan.Goals as goal
+use Rattle.dossier_out.specs.Texts.{text}
+use Rattle.dossier_out.proofs.jobs.put_plan.Goals as goal
 
 line_is : (a b : Part) (n u bound : ℕ) → a ≡ Number n → n ≡ u → b ≡ Number bound → line_text (codes "plan" ∷ part_word a ∷ part_word b ∷ []) ≡ line_text (plan_line u bound)
 line_is a b n u bound ea en eb =

@@ -3,8 +3,8 @@ use Rattle.std.specs.Prelude.{None}
 use Rattle.std.specs.List.{enumerate_from}
 use Rattle.crew_io.specs.Chains.{puts_nothing, puts_same, puts_more, puts_more_front, puts_all}
 use Rattle.dossier_terms.specs.Lines.{do_line}
-use Rattle.cert_write.proofs.JobTexts.{job_text, jobs_texts, job_item, items_below, items_past}
-use Rattle.cert_write.proofs.jobs.put_begun.Goals as goal
+use Rattle.dossier_out.proofs.JobTexts.{job_text, jobs_texts, job_item, items_below, items_past}
+use Rattle.dossier_out.proofs.jobs.put_begun.Goals as goal
 
 pub loop-j-init : goal.loop-j-init
 loop-j-init g c = puts_nothing g.K.Sink c.args.out.now

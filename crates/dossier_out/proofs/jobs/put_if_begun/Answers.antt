@@ -4,8 +4,8 @@ use Rattle.crew_io.specs.Chains.{puts_same, puts_nothing, puts_done}
 use Rattle.dossier_terms.specs.Lines.{do_line}
 use Rattle.crew_terms.specs.Plan.{job_of}
 use Rattle.crew_instance.specs.Begun.{none_begun}
-use Rattle.cert_write.proofs.JobTexts.{no_job, some_begun, some_job}
-use Rattle.cert_write.proofs.jobs.put_if_begun.Goals as goal
+use Rattle.dossier_out.proofs.JobTexts.{no_job, some_begun, some_job}
+use Rattle.dossier_out.proofs.jobs.put_if_begun.Goals as goal
 
 pub returns-in-None : goal.returns-in-None
 returns-in-None g c =
