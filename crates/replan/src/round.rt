@@ -170,6 +170,6 @@ pub(crate) fn put_round<K: Sink>(
     let kept = place_kept(alloc, instance, carry, &mut columns)?;
     // What always holds of the columns is known from here on.
     let _ = columns.len();
-    let outcome = solve(alloc, instance, nodes, &mut columns, DAY_EFFORT)?;
+    let outcome = solve(alloc, instance, nodes, None, &mut columns, DAY_EFFORT)?;
     put_outcome(alloc, instance, nodes, kept, &columns, &outcome, sink)
 }
