@@ -1,11 +1,11 @@
 -- plans that are no worse than those before them
-use Rattle.std.proofs.Common.{◌≡◌, ◌≤◌, ◌+◌, ◌∙◌, ◌∷◌, [], ℕ, List, Option, None, Some, Result, Ok, Err, length, zero, suc, ap, cond, refl, subst, sym, arith}
+use Rattle.std.proofs.Common.{◌≡◌, ◌≤◌, ◌+◌, ◌∙◌, ◌∷◌, [], ℕ, Option, None, Some, Result, Ok, Err, length, zero, suc, ap, cond, refl, subst, sym, arith}
 use Rattle.std.specs.Prelude.{IfOk, IfSome, is_none}
 use Rattle.std.proofs.lemmas.List.Recursion.{is_count_by}
 use Rattle.std.proofs.lemmas.List.Sums.{count_by-le-length}
 use Rattle.crew_terms.specs.Instance.{Instance}
 use Rattle.crew_terms.specs.Legal.{IsLegal}
-use Rattle.crew_terms.specs.Plan.{Job, Plan, job_of, unassigned_count}
+use Rattle.crew_terms.specs.Plan.{Plan, job_of, unassigned_count}
 use Rattle.crew_terms.specs.Verdict.{IsPlanOf}
 use Rattle.day_terms.specs.Instances.{day_instance}
 use Rattle.day_terms.specs.State.{DayState}

@@ -1,5 +1,5 @@
 -- rounds whose plan stays, unless it does more tasks
-use Rattle.std.specs.Prelude.{◌≡◌, List, Option, None, Some, Result, Ok, length}
+use Rattle.std.specs.Prelude.{◌≡◌, Option, None, Some, Result, Ok, length}
 use Rattle.crew_terms.specs.Instance.{Instance}
 use Rattle.crew_terms.specs.Legal.{IsLegal}
 use Rattle.crew_terms.specs.Plan.{Plan, unassigned_count}

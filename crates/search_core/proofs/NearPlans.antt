@@ -1,15 +1,14 @@
 -- plans that are brought near to the one with which a search began, and what stays of that one
-use Rattle.std.proofs.Common.{◌≡◌, ◌<◌, ◌∙◌, ℕ, List, Option, None, Some, ap, sym, subst, arith}
+use Rattle.std.proofs.Common.{◌≡◌, ◌<◌, ℕ, List, Option, None, Some, sym, subst, arith}
 use Rattle.std.specs.Prelude.{IfSome}
 use Rattle.crew_terms.specs.Instance.{Instance}
 use Rattle.crew_terms.specs.Leaf.{Prices}
 use Rattle.crew_terms.specs.Limits.{Limits, Route}
 use Rattle.crew_terms.specs.Plan.{Plan, unassigned_count}
-use Rattle.node_solver.specs.Plans.{IsBetterPlan, now_after}
+use Rattle.node_solver.specs.Plans.{IsBetterPlan}
 use Rattle.plan_again.specs.Stays.{IsNoWorse, StaysOrBetters}
 use Rattle.search_core.specs.Findings.{IsEnding, IsFinding}
 use Rattle.search_core.specs.declared.finding.Ending.{Ending}
-use Rattle.search_core.specs.declared.finding.Finding.{Finding}
 use Rattle.search_terms.specs.Search.{Betters, Improves, IsKeepable, Stays}
 
 -- with a plan that leaves as many tasks unassigned it is a finding still
