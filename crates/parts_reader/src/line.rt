@@ -6,6 +6,7 @@ ghost use Rattle.crew_io.specs.Draws.{TellsReads};
 ghost use Rattle.crew_io.specs.Io.{HasEnded};
 ghost use Rattle.dossier_terms.specs.Dossier.{Dossier};
 ghost use Rattle.dossier_commands.specs.Input.{IsGoing};
+ghost use Rattle.line_in.specs.Faults.{reason_for};
 ghost use Rattle.part_lines.specs.Faults.{IsCountFault, IsFirstFault};
 ghost use Rattle.part_texts.specs.Bundle.{Bundle};
 ghost use Rattle.part_texts.specs.Lines.{count_words, first_words};
@@ -48,7 +49,9 @@ fn halt_of(line: u64, progress: Progress) -> Option<Halt>
 }
 
 /// Why the line of this number is refused, which has this fault.
-fn halt_for(line: u64, fault: LineFault) -> Halt {
+fn halt_for(line: u64, fault: LineFault) -> Halt
+    ensures { result ≡ Halt.No line (BundleReason.Line (reason_for fault)) }
+{
     let reason = BundleReason::Line(fault.reason());
     Halt::No { line, reason }
 }
