@@ -1,7 +1,6 @@
 -- the dossiers of parts, one after another
-use Rattle.std.proofs.Common.{◌≡◌, ◌≢◌, ◌≤◌, ◌<◌, ◌+◌, ◌++◌, ℕ, suc, List, [], ◌∷◌, length, Option, Result, Ok, Err, Bool, true, false, ap, subst, sym, refl, ◌∙◌, arith, length-append, append_assoc, append-nil}
-use Rattle.std.specs.Prelude.{◌↔◌, All, AllPairs, flat_map, max, IfOk, IsTrue, IsFalse}
-use Rattle.std.specs.List.{sum_by}
+use Rattle.std.proofs.Common.{◌≡◌, ◌≢◌, ◌<◌, ◌+◌, ◌++◌, ℕ, List, [], ◌∷◌, length, Option, Result, Ok, Err, Bool, true, false, ap, subst, sym, refl, ◌∙◌, arith, length-append, append_assoc, append-nil}
+use Rattle.std.specs.Prelude.{◌↔◌, AllPairs, flat_map, max, IfOk, IsTrue, IsFalse}
 use Rattle.std.specs.declared.alloc.AllocError.{AllocError}
 use Rattle.std.proofs.lemmas.List.Concat.{flat_map-append}
 use Rattle.std.proofs.lemmas.List.Elements.{All-push}
@@ -16,12 +15,11 @@ use Rattle.dossier_terms.specs.Lines.{lines_of, text_of}
 use Rattle.part_terms.specs.Parts.{Restricts}
 use Rattle.part_texts.specs.Bundle.{ArePartsOf, Bundle, HaveTasks, IsGoodBundle, IsTrueBundle, sum_of_bounds}
 use Rattle.part_texts.specs.Lines.{count_words, first_words, lines_in_bundle, text_of_bundle}
-use Rattle.parts_reader.specs.Input.{BadPart, Fresh, InDay, InParts, IsNextBundle, IsPlace, IsRefusal, lines_begun, lines_up_to, text_begun, text_up_to}
+use Rattle.parts_reader.specs.Input.{BadPart, Fresh, InParts, IsNextBundle, IsPlace, IsRefusal, lines_begun, text_up_to}
 use Rattle.parts_reader.specs.Stages.{IsDossierRead, IsTallied}
 use Rattle.parts_reader.specs.declared.bundle.BundleVerdict.{BundleVerdict}
 use Rattle.parts_reader.specs.declared.dossier.WholeDossier.{WholeDossier}
 use Rattle.parts_reader.specs.declared.parts.Tally.{Tally}
-use Rattle.parts_reader.specs.declared.reason.BundleReason.{BundleReason}
 use Rattle.parts_reader.specs.declared.reason.BundleReason.TheVariants.{Part}
 use Rattle.parts_reader.proofs.Dossiers.{leads_on}
 use Rattle.parts_reader.proofs.Places.{none_have, not_true}

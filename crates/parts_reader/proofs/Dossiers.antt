@@ -1,10 +1,10 @@
 -- what a reader finds that stands where a dossier is due
-use Rattle.std.proofs.Common.{◌≡◌, ◌≢◌, ◌≤◌, ◌<◌, ◌+◌, ◌++◌, ℕ, suc, List, [], ◌∷◌, length, Option, None, Some, ap, subst, sym, refl, ◌∙◌, arith, length-append, append_assoc, append-nil}
-use Rattle.std.specs.Prelude.{All, flat_map}
+use Rattle.std.proofs.Common.{◌≡◌, ◌≤◌, ◌+◌, ◌++◌, ℕ, List, [], ◌∷◌, length, Option, ap, subst, sym, refl, ◌∙◌, arith, length-append, append_assoc, append-nil}
+use Rattle.std.specs.Prelude.{flat_map}
 use Rattle.std.proofs.lemmas.List.Elements.{All-nil}
 use Rattle.crew_terms.specs.Words.{IsLine, line_text}
 use Rattle.crew_terms.specs.declared.TheConstants.{LONGEST_INPUT}
-use Rattle.crew_io.specs.Lines.{Reader, rest_of}
+use Rattle.crew_io.specs.Lines.{Reader}
 use Rattle.cert_checker.specs.Checked.{Checked, opened_at}
 use Rattle.cert_checker.specs.declared.checker.Verdict.{Verdict}
 use Rattle.dossier_terms.specs.declared.Reason.{Reason}
@@ -12,8 +12,8 @@ use Rattle.dossier_terms.specs.Dossier.{Dossier, IsGood}
 use Rattle.dossier_terms.specs.Lines.{lines_of, text_of}
 use Rattle.dossier_commands.specs.Input.{IsBetween as IsAtFirst, IsInterrupted as IsCut, IsNextDossier, IsRefusal as IsDossierRefusal, text_before}
 use Rattle.part_texts.specs.Bundle.{Bundle}
-use Rattle.part_texts.specs.Lines.{count_words, first_words, lines_in_bundle, text_of_bundle}
-use Rattle.parts_reader.specs.Input.{AmidDossier, Begun, HasBegun, InDay, InDossier, InParts, IsBegun, IsDossierDue, IsInterrupted, IsPlace, IsRefusal, PastDay, front_at, lines_begun, lines_up_to, text_begun, text_up_to}
+use Rattle.part_texts.specs.Lines.{count_words, first_words, text_of_bundle}
+use Rattle.parts_reader.specs.Input.{AmidDossier, Begun, InDay, InDossier, InParts, IsBegun, IsDossierDue, IsInterrupted, IsPlace, IsRefusal, PastDay, front_at, lines_begun, text_begun, text_up_to}
 use Rattle.parts_reader.specs.Stages.{IsDossierRead}
 use Rattle.parts_reader.specs.declared.dossier.WholeDossier.{WholeDossier}
 use Rattle.parts_reader.specs.declared.reason.BundleReason.TheVariants.{Line}

@@ -1,7 +1,7 @@
 -- what a reader finds that stands where a line between dossiers is due
-use Rattle.std.proofs.Common.{◌≡◌, ◌≢◌, ◌≤◌, ◌<◌, ◌+◌, ◌++◌, ℕ, zero, suc, List, [], ◌∷◌, length, Option, None, Some, Result, Ok, Err, false, ap, subst, sym, refl, ◌∙◌, arith, length-append, append_assoc}
-use Rattle.std.specs.Prelude.{All, flat_map, IsTrue}
-use Rattle.std.specs.List.{AllPairs, sum_by}
+use Rattle.std.proofs.Common.{◌≡◌, ◌≢◌, ◌≤◌, ◌<◌, ◌+◌, ◌++◌, ℕ, zero, suc, List, [], ◌∷◌, length, Option, None, Some, Result, Err, false, ap, subst, sym, refl, ◌∙◌, arith, length-append, append_assoc}
+use Rattle.std.specs.Prelude.{flat_map, IsTrue}
+use Rattle.std.specs.List.{sum_by}
 use Rattle.std.proofs.lemmas.List.Elements.{All-nil}
 use Rattle.std.proofs.lemmas.List.Sums.{sum_by-cons}
 use Rattle.crew_terms.specs.Instance.{Instance}
@@ -16,9 +16,9 @@ use Rattle.dossier_commands.specs.Input.{Stops, LineTooLong, InputTooLong}
 use Rattle.line_in.specs.declared.faults.LineFault.{LineFault}
 use Rattle.line_in.specs.Faults.{reason_for}
 use Rattle.part_terms.specs.Parts.{Part, Restricts}
-use Rattle.part_texts.specs.Bundle.{ArePartsOf, Bundle, HaveTasks}
-use Rattle.part_texts.specs.Lines.{count_words, first_words, lines_in_bundle, text_of_bundle}
-use Rattle.parts_reader.specs.Input.{BadLine, Begun, BetweenDossiers, Fresh, HasParts, IsBegun, IsEnd, IsFaultAt, IsLineDue, IsPlace, IsRefusal, InDay, InParts, NoLine, PastDay, lines_begun, room_at, text_begun, text_up_to}
+use Rattle.part_texts.specs.Bundle.{Bundle, HaveTasks}
+use Rattle.part_texts.specs.Lines.{lines_in_bundle, text_of_bundle}
+use Rattle.parts_reader.specs.Input.{BadLine, Begun, BetweenDossiers, Fresh, HasParts, IsBegun, IsEnd, IsFaultAt, IsLineDue, IsPlace, IsRefusal, NoLine, lines_begun, room_at, text_begun, text_up_to}
 use Rattle.parts_reader.specs.Stages.{HaltsAt, halt_of}
 use Rattle.parts_reader.specs.declared.reason.BundleReason.{BundleReason}
 use Rattle.parts_reader.specs.declared.reason.BundleReason.TheVariants.{Line}

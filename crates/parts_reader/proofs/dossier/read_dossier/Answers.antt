@@ -1,4 +1,4 @@
-use Rattle.std.proofs.Common.{◌≡◌, ◌+◌, [], refl, subst}
+use Rattle.std.proofs.Common.{[], refl, subst}
 use Rattle.dossier_commands.specs.Input.{IsOutcome}
 use Rattle.parts_reader.specs.Input.{front_at}
 use Rattle.parts_reader.proofs.Dossiers.{cut, read, refused, stands}

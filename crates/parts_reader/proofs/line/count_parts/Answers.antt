@@ -1,4 +1,4 @@
-use Rattle.std.proofs.Common.{◌≡◌, ◌+◌, ◌++◌, ℕ, List, [], refl, ap, subst, sym, ◌∙◌, arith}
+use Rattle.std.proofs.Common.{◌≡◌, ◌+◌, [], subst, sym, ◌∙◌}
 use Rattle.crew_io.specs.Draws.{reads_none, reads_then}
 use Rattle.crew_io.specs.Lines.{Advances}
 use Rattle.crew_io.specs.declared.lines.Progress.TheVariants.{Line}
@@ -6,7 +6,7 @@ use Rattle.crew_terms.specs.Words.{words_of}
 use Rattle.dossier_terms.specs.Dossier.{Dossier}
 use Rattle.part_lines.specs.Faults.{IsCountFault}
 use Rattle.part_texts.specs.Lines.{count_words}
-use Rattle.parts_reader.specs.Input.{Begun, Fresh, InParts, PastDay}
+use Rattle.parts_reader.specs.Input.{Fresh, InParts, PastDay}
 use Rattle.parts_reader.specs.Stages.{HaltsAt}
 use Rattle.parts_reader.proofs.Places.{goes_on, line_is, line_is_no_fault, no_is_no_fault, no_parts_yet, none_is_line, none_of, refuses, stops}
 use Rattle.parts_reader.proofs.Dossiers.{count_behind}

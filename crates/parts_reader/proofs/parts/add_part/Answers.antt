@@ -1,4 +1,4 @@
-use Rattle.std.proofs.Common.{◌≡◌, ◌+◌, ◌++◌, ◌∷◌, [], refl, rules, sym, ◌∙◌}
+use Rattle.std.proofs.Common.{refl, rules, sym}
 use Rattle.parts_reader.specs.Input.{InParts}
 use Rattle.parts_reader.proofs.Added.{no_more, one_more}
 use Rattle.parts_reader.proofs.parts.add_part.Goals as goal

@@ -1,7 +1,5 @@
-use Rattle.std.proofs.Common.{◌≡◌, ◌≤◌, ◌<◌, ◌+◌, ◌*◌, ◌++◌, ◌∷◌, ℕ, List, [], length, refl, rules, arith, ap, sym, subst, ◌∙◌, length-append, Result, Ok, Err}
+use Rattle.std.proofs.Common.{◌≡◌, ◌++◌, ◌∷◌, [], refl, rules, arith, length-append, Result, Ok, Err}
 use Rattle.crew_io.specs.Draws.{reads_none, reads_then}
-use Rattle.dossier_terms.specs.Dossier.{Dossier}
-use Rattle.parts_reader.specs.Stages.{IsTallied}
 use Rattle.parts_reader.specs.declared.halt.Halt.{Halt}
 use Rattle.parts_reader.specs.declared.halt.Halt.TheVariants as halts
 use Rattle.parts_reader.proofs.parts.add_parts.Goals as goal

@@ -12,7 +12,7 @@ invariant-parts g l = record {
   more : l.fn.reader.handed ≤ l.reader.handed;
   room : l.tally.bounds ≤ l.counter * 4294967296;
   says : (input : List ℕ) (done : List Bundle) (day : Dossier) → day.instance ≡ l.fn.whole
-    → IsTallied input done day l.fn.k [] l.fn.reader (g.S.Source.left l.fn.src) l.fn.tally
-    → (parts : List Dossier) × (length parts ≡ l.counter) × IsTallied input done day l.fn.k parts l.reader (g.S.Source.left l.src) l.tally;
+      → IsTallied input done day l.fn.k [] l.fn.reader (g.S.Source.left l.fn.src) l.fn.tally
+      → (parts : List Dossier) × (length parts ≡ l.counter) × IsTallied input done day l.fn.k parts l.reader (g.S.Source.left l.src) l.tally;
   tells : TellsReads g.S.Source l.fn.src l.src ⊥;
 }

@@ -1,5 +1,5 @@
-use Rattle.std.proofs.Common.{◌≡◌, ◌≢◌, ◌++◌, ℕ, List, None, Some, subst, sym, false}
-use Rattle.std.specs.Prelude.{◌↔◌, AllPairs, IfOk, IsTrue, MatchOption}
+use Rattle.std.proofs.Common.{ℕ, List, subst, sym}
+use Rattle.std.specs.Prelude.{MatchOption}
 use Rattle.part_terms.specs.Parts.{Restricts}
 use Rattle.parts_reader.proofs.Added.{takes, takes_none}
 use Rattle.parts_reader.proofs.parts.take_part.Goals as goal
