@@ -1,3 +1,5 @@
-pub mod Said
-pub mod Orders
-pub mod Places
+mod Said
+mod Orders
+mod Places
+mod Stops
+mod Refusals

@@ -1,6 +1,6 @@
 -- what is read of a bundle, by two readings of one text: the same, or the one goes on from the other with what was due
-use Rattle.std.proofs.Common.{◌≡◌, ◌≢◌, ◌≤◌, ◌<◌, ◌+◌, ◌++◌, ℕ, suc, List, [], ◌∷◌, length, ap, subst, sym, refl, ◌∙◌, arith, length-append, append_assoc}
-use Rattle.std.specs.Prelude.{All, flat_map}
+use Rattle.std.proofs.Common.{◌≡◌, ◌≤◌, ◌<◌, ◌+◌, ◌++◌, ℕ, List, [], ◌∷◌, length, ap, subst, sym, refl, ◌∙◌, arith, length-append, append_assoc}
+use Rattle.std.specs.Prelude.{flat_map}
 use Rattle.std.proofs.lemmas.List.{get_or_at}
 use Rattle.std.proofs.lemmas.List.Concat.{flat_map-append}
 use Rattle.crew_terms.specs.Instance.{Instance}
@@ -95,8 +95,13 @@ module _ (one_dossier : (d e : Dossier) (x y : List ℕ) → IsGood d → IsGood
       let rest = count k ++ texts parts in
       let f = one_dossier day other x (rest ++ y) good ok.good_day (cancel first (text_of day ++ x) (text_of other ++ (rest ++ y))
       (sym (append_assoc first (text_of day) x) ∙ e ∙ append_assoc first (text_of other ++ rest) y ∙ ap (λ z. first ++ z) (append_assoc (text_of other) rest y))) in
-      Before (k, texts parts ++ y, ok.few, f.1 ∙ append_assoc (count k) (texts parts) y,
-      let s = parts_size other k parts in let t = day_size day in let u = ap (λ d. length (text_of d)) f.0 in omega arith)
+      Before (
+        k,
+        texts parts ++ y,
+        ok.few,
+        f.1 ∙ append_assoc (count k) (texts parts) y,
+        let s = parts_size other k parts in let t = day_size day in let u = ap (λ d. length (text_of d)) f.0 in omega arith,
+      )
 
   -- one part more is read by the other
   one_more : (day : Dossier) (k : ℕ) (parts : List Dossier) (d : Dossier) (more : List Dossier) (x y : List ℕ) → HasParts day k (parts ++ d ∷ more) → x ≡ text_of d ++ (texts more ++ y)

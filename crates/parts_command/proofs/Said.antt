@@ -1,5 +1,5 @@
 -- what is written for the bundles of an input, one after another
-use Rattle.std.proofs.Common.{◌≡◌, ◌++◌, ℕ, List, [], ◌∷◌, length, take, Option, None, Some, Result, Ok, ap, subst, sym, refl, ◌∙◌, arith, append-nil}
+use Rattle.std.proofs.Common.{◌≡◌, ◌++◌, ℕ, List, [], ◌∷◌, length, take, Option, None, Some, ap, subst, sym, refl, ◌∙◌, arith, append-nil}
 use Rattle.std.specs.Prelude.{All, IfSome}
 use Rattle.std.specs.List.{flat_map}
 use Rattle.std.proofs.lemmas.List.Concat.{flat_map-append}
@@ -8,7 +8,7 @@ use Rattle.std.proofs.Math.Seq.{take-length}
 use Rattle.crew_terms.specs.declared.TheConstants.{LONGEST_INPUT}
 use Rattle.crew_io.specs.Io.{Appended, AppendedPart}
 use Rattle.crew_io.specs.Bytes.{OfBytes, piece_front}
-use Rattle.crew_io.specs.Lines.{Reader, fresh_reader, rest_of}
+use Rattle.crew_io.specs.Lines.{Reader, fresh_reader}
 use Rattle.crew_io.specs.Appends.{appended_none, appended_both}
 use Rattle.dossier_commands.specs.Input.{IsGoing}
 use Rattle.part_texts.specs.Accepted.{AreBundles}
@@ -16,7 +16,7 @@ use Rattle.part_texts.specs.Bundle.{Bundle, IsGoodBundle, IsTrueBundle}
 use Rattle.part_texts.specs.Lines.{yes_parts_line, yes_text}
 use Rattle.parts_reader.specs.declared.bundle.BundleVerdict.{BundleVerdict}
 use Rattle.parts_reader.specs.declared.reason.BundleReason.{BundleReason}
-use Rattle.parts_reader.specs.Input.{Fresh, HasBegun, IsBetween, IsInterrupted, IsNextBundle, IsRefusal, verdict_of_bundle}
+use Rattle.parts_reader.specs.Input.{Fresh, HasBegun, IsBetween, IsInterrupted, IsNextBundle, IsRefusal}
 use Rattle.parts_command.specs.Texts.{no_bundle_line}
 use Rattle.parts_command.specs.Says.{SaysYes, SaysNo, SaysFront, SaysReadFault, SaysLines, Nothing, YesFront, NoFront}
 

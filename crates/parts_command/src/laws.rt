@@ -6,7 +6,9 @@ ghost use Rattle.part_texts.specs.Bundle.{Bundle};
 ghost use Rattle.parts_reader.specs.Input.{IsRefusal};
 ghost use Rattle.parts_reader.specs.declared.reason.BundleReason.{BundleReason};
 
-use part_texts::{lines_between, one_bundle_first, one_count_first, one_dossier_first, one_more_part};
+use part_texts::{
+    lines_between, one_bundle_first, one_count_first, one_dossier_first, one_more_part,
+};
 use text_laws::words_of_line;
 
 /// An input with a line that is refused is accepted as no list of bundles.
