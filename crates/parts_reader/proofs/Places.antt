@@ -121,7 +121,7 @@ module _ (input : List ℕ) (done : List Bundle) (begun : Begun) (old new : Read
           within = p.read.within;
           good = p.read.good;
           begins = p.read.begins;
-        }) (subst (λ room. IsPartial room new.held (length new.held)) (let h = p.handed in omega arith) (a.fault refl));
+        }) due (subst (λ room. IsPartial room new.held (length new.held)) (let h = p.handed in omega arith) (a.fault refl));
       })
 
 -- no part has no tasks

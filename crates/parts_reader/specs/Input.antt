@@ -131,7 +131,7 @@ pub data IsRefusal (input : List ℕ) (done : List Bundle) (number : ℕ) (reaso
 
 -- what was read behind these bundles where a read failed, of which no line is refused, with a front of one more; the rest is unseen
 pub data IsUnrefused (input : List ℕ) (done : List Bundle) (part rest : List ℕ) : Type 0 where
-  BetweenDossiers : (begun : Begun) (read : HasBegun input done begun (part ++ rest)) (front : IsPartial (room_at done begun) part (length part)) → IsUnrefused input done part rest
+  BetweenDossiers : (begun : Begun) (read : HasBegun input done begun (part ++ rest)) (due : IsLineDue begun) (front : IsPartial (room_at done begun) part (length part)) → IsUnrefused input done part rest
   AmidDossier : (begun : Begun) (behind : List ℕ) (begins : HasBegun input done begun behind) (due : IsDossierDue begun) (lines : List (List ℕ)) (reading : Reading)
       (read : HasRead (front_at done begun) input [] lines (part ++ rest) reading) (front : IsPartial (room_after (front_at done begun) [] lines) part (length part)) → IsUnrefused input done part rest
 
