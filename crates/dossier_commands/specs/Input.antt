@@ -3,7 +3,7 @@ use Rattle.std.specs.Prelude.{◌≡◌, ◌≢◌, ◌≤◌, ◌<◌, ◌+◌,
 use Rattle.std.specs.List.{flat_map}
 use Rattle.crew_terms.specs.Words.{IsLine, words_of, with_feed}
 use Rattle.crew_terms.specs.declared.TheConstants.{LONGEST_INPUT}
-use Rattle.crew_io.specs.Lines.{Reader, IsPartial, BeginsTooLong, IsTooMuch, rest_of}
+use Rattle.crew_io.specs.Lines.{Reader, IsPartial, BeginsTooLong, IsTooMuch, rest_of, with_left}
 use Rattle.crew_io.specs.declared.lines.Progress.{Progress}
 use Rattle.crew_io.specs.declared.lines.Progress.TheVariants as progress
 use Rattle.dossier_terms.specs.declared.Reason.{Reason}
@@ -174,3 +174,12 @@ OpensNext old new checker (Yes verdict) = CanGoOn new checker × (old.handed < n
 OpensNext old new checker End = IsEnded checker.at
 OpensNext old new checker (No line reason) = checker.at ≡ Refused line reason
 OpensNext old new checker ReadFault = IsDue checker.at
+
+-- from the one to the other the reader has handed out these bytes
+abbrev pub HasHandedOut : Reader → Option (List ℕ) → List ℕ → Reader → Option (List ℕ) → Type 0
+HasHandedOut old left bytes new later = rest_of old left ≡ with_left bytes (rest_of new later)
+
+-- the bytes of a whole dossier are kept
+abbrev pub KeepsDossier : Reader → Option (List ℕ) → List ℕ → Reader → Option (List ℕ) → Outcome → Type 0
+KeepsDossier old left kept new later (Yes verdict) = HasHandedOut old left kept new later
+KeepsDossier old left kept new later _ = Unit {0}

@@ -40,7 +40,7 @@ fn stop_of(progress: Progress) -> Option<Stop>
 }
 
 /// The outcome where no line comes whole.
-fn outcome_at_stop(checker: &mut Checker, progress: Progress) -> Outcome
+pub(crate) fn outcome_at_stop(checker: &mut Checker, progress: Progress) -> Outcome
     requires { IsDue checker.old.at }
     ensures { IsOutcomeAtStop checker.old progress checker.new result }
 {

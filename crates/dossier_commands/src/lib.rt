@@ -2,6 +2,7 @@
 #![tactic(auto)]
 
 pub mod input;
+pub mod kept;
 pub mod laws;
 pub mod output;
 pub mod read;

@@ -4,3 +4,4 @@ pub mod Given
 pub mod Planning
 pub mod Kept
 pub mod Entries
+pub mod Alone
