@@ -21,8 +21,7 @@ use Rattle.branch_tree.specs.declared.tree.LeafState.TheVariants as states
 use Rattle.label_pricing.specs.Best.{IsBest}
 use Rattle.cert_write.specs.Given.{AreWritable, Given}
 use Rattle.cert_write.specs.Dossiers.{AreBestRows, ArePricedTables, IsBestRow, IsDossierOf, IsPricedClaim, IsPricedLeaf, IsPricedTable, IsPricedTree, causes_of}
-use Rattle.cert_write.specs.Tables.{may_begin}
-use Rattle.cert_write.proofs.TeamTables.{MinutesLaw}
+use Rattle.dossier_out.specs.Tables.{MinutesLaw, may_begin}
 
 -- a team has a worth, and from each visit on a greatest sum
 abbrev pub HaveBests : Type 0

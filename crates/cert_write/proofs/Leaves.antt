@@ -23,8 +23,7 @@ use Rattle.line_out.specs.declared.Part.{Part}
 use Rattle.line_out.specs.declared.Part.TheVariants.{Signed}
 use Rattle.cert_write.specs.Dossiers.{IsPricedClaim, IsPricedLeaf}
 use Rattle.cert_write.specs.Leaves.{extra_prices, extra_words, state_line}
-use Rattle.cert_write.proofs.TeamTables.{rows_mapped}
-use Rattle.cert_write.proofs.Texts.{front_of, front_1, text}
+use Rattle.dossier_out.specs.Texts.{front_of, front_1, rows_mapped, text}
 
 -- ---- the prices of required teams
 

@@ -1,7 +1,4 @@
 pub mod Instances
-pub mod Texts
-pub mod JobTexts
-pub mod Runs
 pub mod TeamTables
 pub mod Leaves
 pub mod Walks

@@ -28,7 +28,7 @@ use Rattle.cert_write.specs.declared.causes.Cause.{Cause as GivenCause}
 use Rattle.cert_write.specs.Given.{AreWritable, Given, IsWritable}
 use Rattle.cert_write.specs.Dossiers.{IsTreeOfGiven, causes_of}
 use Rattle.cert_write.specs.Walks.{Due, GoesOn, IsAmid, IsDue, Place, Stands, Whole, lines_to_come, nodes_to_come}
-use Rattle.cert_write.proofs.Texts.{front_of, text}
+use Rattle.dossier_out.specs.Texts.{front_of, text}
 use Rattle.cert_write.specs.Counted.{same_depth, same_splits}
 
 -- the number that is counted is that of this tree

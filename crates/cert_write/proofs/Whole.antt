@@ -1,5 +1,5 @@
 -- the parts of a dossier, one after another
-use Rattle.std.proofs.Common.{◌≡◌, ◌++◌, ◌∷◌, [], ℕ, List, ap, sym, refl, ◌∙◌, append_assoc, append-nil}
+use Rattle.std.proofs.Common.{◌≡◌, ◌++◌, ◌∷◌, [], ℕ, List, ap, sym, ◌∙◌, append_assoc, append-nil}
 use Rattle.std.proofs.lemmas.List.Concat.{flat_map-append}
 use Rattle.crew_terms.specs.Instance.{Instance}
 use Rattle.crew_terms.specs.Limits.{root_limits}
@@ -12,7 +12,7 @@ use Rattle.cert_write.specs.Given.{Given}
 use Rattle.cert_write.specs.Counted.{same_counts}
 use Rattle.cert_write.specs.Dossiers.{IsDossierOf, IsPricedTree, dossier_is}
 use Rattle.crew_io.specs.Fronts.{IsFront}
-use Rattle.cert_write.proofs.Texts.{front_of, front_1, front_2, text}
+use Rattle.dossier_out.specs.Texts.{front_of, front_1, front_2, text}
 
 -- ---- texts
 

@@ -1,5 +1,5 @@
 -- what a cause is that is given
-use Rattle.std.specs.Prelude.{List, map, unsigned_abs}
+use Rattle.std.specs.Prelude.{map, unsigned_abs}
 use Rattle.dossier_terms.specs.Causes.{Cause, NoCause, Loose, Overflowed, Spent, Part}
 use Rattle.frac_master.specs.declared.shares.Share.{Share}
 use Rattle.cert_write.specs.declared.causes.Cause.{Cause as GivenCause}

@@ -1,5 +1,5 @@
 -- the numbers of a tree that is written are those of the tree that is given
-use Rattle.std.proofs.Common.{◌≡◌, ◌+◌, ◌++◌, ◌∷◌, ℕ, List, max, ap, refl, ◌∙◌, arith}
+use Rattle.std.proofs.Common.{◌≡◌, ◌+◌, ◌++◌, ℕ, max, ap, refl, ◌∙◌, arith}
 use Rattle.std.specs.List.{sum_by}
 use Rattle.std.proofs.lemmas.List.Sums.{sum_by-append, sum_by-cons}
 use Rattle.branch_tree.specs.Trees.{BranchTree, ClaimedLeaf, claim_in, counts_of as tree_counts}

@@ -1,6 +1,4 @@
 pub mod Causes
-pub mod Jobs
-pub mod Steps
 pub mod Tables
 pub mod Leaves
 pub mod Given

@@ -1,17 +1,9 @@
--- the lines of a team in a node, and the room for its potentials
-use Rattle.std.specs.Prelude.{ℕ, nat_lt, Bool, List, ◌∷◌}
+-- the room for the potentials of a team in a node
 use Rattle.crew_terms.specs.Instance.{Instance}
-use Rattle.crew_terms.specs.Limits.{Limits, root_limits}
-use Rattle.crew_terms.specs.Minutes.{first_minute, minute_count, open_tasks}
-use Rattle.crew_terms.specs.Words.{Words}
-use Rattle.dossier_terms.specs.Dossier.{Potentials}
-use Rattle.dossier_terms.specs.Lines.{potentials_line, rows_lines, steps_line, worth_line}
-use Rattle.dossier_terms.specs.Runs.{runs_of}
-use Rattle.dossier_terms.specs.declared.DossierForm.TheVariants.{Two}
+use Rattle.crew_terms.specs.Limits.{root_limits}
 use Rattle.label_pricing.specs.Pricing.{HasRoom}
 use Rattle.potentials.specs.Prices.{ArePricesOf}
-use Rattle.potentials.specs.Table.{PotentialRow, IsTableOf}
-use Rattle.cert_write.specs.Steps.{row_in}
+use Rattle.potentials.specs.Table.{IsTableOf}
 use Rattle.cert_write.specs.declared.tables.Room.{Room}
 
 -- there is room for the prices of any leaf of the instance, for any team, and for its potentials
@@ -19,15 +11,3 @@ pub record IsRoomOf (i : Instance) (room : Room) : Type 0 where
   pub pricer : HasRoom i room.pricer
   pub prices : ArePricesOf (root_limits i) room.prices
   pub table : IsTableOf i room.table
-
--- team k may begin task j at some minute
-abbrev pub may_begin : Limits → ℕ → ℕ → Bool
-may_begin n k j = nat_lt 0 (minute_count n k j)
-
--- the line of the table's potentials of task j
-abbrev pub row_line : Limits → ℕ → List PotentialRow → ℕ → Words
-row_line n k table j = steps_line j (runs_of (first_minute n k j) (row_in n k table j))
-
--- the lines of team k
-abbrev pub team_lines : Limits → ℕ → Potentials → List Words
-team_lines n k t = worth_line t.worth ∷ rows_lines (λ j. potentials_line Two (first_minute n k j) j) (open_tasks n k) t.phi

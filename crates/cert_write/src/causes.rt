@@ -9,10 +9,10 @@ ghost use Rattle.dossier_terms.specs.Lines.{cause_lines, loose_line, op_word, ov
 ghost use Rattle.line_out.specs.Parts.{next_word};
 ghost use Rattle.cert_write.specs.Causes.{cause_of, part_of};
 
-use crate::words::number;
 use crew_io::put::put_all;
 use crew_io::sink::{Sink, WriteFault};
 use crew_num::{Op, Overflow};
+use dossier_out::number;
 use frac_master::Share;
 use itoa::Buffer;
 use line_out::{Part, put_line, put_next};

@@ -13,7 +13,6 @@ use crate::causes::Cause;
 use crate::desk::Desk;
 use crate::faults::PutFault;
 use crate::instance::write_instance;
-use crate::jobs::{put_frozen, put_plan};
 use crate::laws::parts_have_one_dossier;
 use crate::pool::put_pool;
 use crate::tree::put_tree;
@@ -21,6 +20,7 @@ use branch_tree::{Tree, one_tree};
 use column_arena::Columns;
 use crew_instance::{Instance, Plan};
 use crew_io::sink::{Sink, WriteFault};
+use dossier_out::{put_frozen, put_plan};
 use line_out::{Part, put_line};
 use std::alloc::Global;
 

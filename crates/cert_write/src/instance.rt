@@ -9,11 +9,11 @@ ghost use Rattle.dossier_terms.specs.Dossier.{skills_of};
 ghost use Rattle.dossier_terms.specs.Lines.{instance_text, size_line, size_of, place_line, travel_line, team_line, task_line};
 ghost use Rattle.line_out.specs.Parts.{part_word};
 
-use crate::words::number;
 use arrayvec::ArrayVec;
 use crew_instance::Instance;
 use crew_io::sink::{Sink, WriteFault};
 use crew_terms::{MOST_PLACES, SKILLS, Task, Team};
+use dossier_out::number;
 use line_out::{Part, put_line};
 
 /// The most parts of a line of an instance: a word, and a travel time to each place.

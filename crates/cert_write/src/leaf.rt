@@ -21,12 +21,12 @@ ghost use Rattle.cert_write.specs.Leaves.{extra_prices, extra_words, state_line}
 ghost use Rattle.cert_write.specs.Tables.{IsRoomOf};
 
 use crate::tables::{Room, put_tables};
-use crate::words::number;
 use arrayvec::ArrayVec;
 use branch_tree::LeafState;
 use crew_io::put::put_all;
 use crew_io::sink::{Sink, WriteFault};
 use crew_terms::{MOST_TEAMS, Pair};
+use dossier_out::number;
 use kept_prices::KeptPrices;
 use label_pricing::Pricer;
 use line_out::{Part, put_line, put_next};

@@ -6,14 +6,11 @@ mod desk;
 mod dossier;
 mod faults;
 pub mod instance;
-mod jobs;
 mod laws;
 mod leaf;
 mod pool;
-mod steps;
 mod tables;
 mod tree;
-mod words;
 
 pub use causes::Cause;
 pub use dossier::{Parts, write_dossier};

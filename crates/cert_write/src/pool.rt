@@ -8,11 +8,11 @@ ghost use Rattle.line_out.specs.Parts.{next_word};
 ghost use Rattle.route_terms.specs.Routes.{route_of};
 ghost use Rattle.std.specs.Prelude.{map};
 
-use crate::words::number;
 use column_arena::Columns;
 use crew_io::put::put_all;
 use crew_io::sink::{Sink, WriteFault};
 use crew_terms::Visit;
+use dossier_out::number;
 use line_out::{Part, put_line, put_next};
 
 /// The words of a visit, behind others of a line.

@@ -1,7 +1,7 @@
 // The worths and the potentials of the teams in a node, as pricing gives them.
-ghost use Rattle.std.specs.Prelude.{◌<◌, List, [], ◌∷◌, filter, map, IfOk};
-ghost use Rattle.std.specs.List.{flat_map, range_with_len};
-ghost use Rattle.crew_terms.specs.Limits.{tasks_in, teams_in};
+ghost use Rattle.std.specs.Prelude.{◌<◌, List, IfOk};
+ghost use Rattle.std.specs.List.{flat_map};
+ghost use Rattle.crew_terms.specs.Limits.{teams_in};
 ghost use Rattle.crew_terms.specs.Words.{line_text};
 ghost use Rattle.crew_io.specs.Puts.{Puts};
 ghost use Rattle.dossier_terms.specs.Dossier.{Potentials};
@@ -11,14 +11,12 @@ ghost use Rattle.label_pricing.specs.Pricing.{HasRoom};
 ghost use Rattle.potentials.specs.Prices.{ArePricesOf};
 ghost use Rattle.potentials.specs.Table.{IsTableOf};
 ghost use Rattle.cert_write.specs.Dossiers.{ArePricedTables, IsPricedTable};
-ghost use Rattle.cert_write.specs.Steps.{table_in};
-ghost use Rattle.cert_write.specs.Tables.{IsRoomOf, may_begin, row_line, team_lines};
+ghost use Rattle.cert_write.specs.Tables.{IsRoomOf};
+ghost use Rattle.dossier_out.specs.Tables.{team_lines};
 
-use crate::steps::put_steps;
 use crew_io::sink::{Sink, WriteFault};
-use crew_laws::minutes_are_permitted;
+use dossier_out::put_table;
 use label_pricing::{Pricer, one_worth, teams_have_bests};
-use line_out::{Part, put_line};
 use node_limits::Limits;
 use potentials::{Prices, Table};
 use std::alloc::{AllocError, Global};
@@ -45,69 +43,6 @@ impl Room {
             table,
         })
     }
-}
-
-/// The line of the potentials of task `j`, if the team may begin it.
-fn put_if_open<K: Sink>(
-    out: &mut K,
-    limits: &Limits<'_>,
-    k: u32,
-    table: &Table,
-    j: u32,
-) -> Result<(), WriteFault>
-    requires team { k < teams_in limits.now.limits }
-    requires task { j < tasks_in limits.now.limits }
-    requires table { IsTableOf limits.now.limits.instance table.now }
-    ensures { Puts K.Sink (flat_map line_text
-        (map (row_line limits.now.limits k table.now)
-        (filter (may_begin limits.now.limits k) (j ∷ []))))
-        out.old out.new result }
-{
-    minutes_are_permitted();
-    // It is known from here on that no minute is past the last one of the day.
-    let _day = limits.instance();
-    match limits.minutes(k, j) {
-        None => Ok(()),
-        Some((first, last)) => put_steps(out, table, j, first, last + 1),
-    }
-}
-
-/// The lines of the potentials of the tasks that the team may begin.
-fn put_rows<K: Sink>(
-    out: &mut K,
-    limits: &Limits<'_>,
-    k: u32,
-    table: &Table,
-) -> Result<(), WriteFault>
-    requires team { k < teams_in limits.now.limits }
-    requires table { IsTableOf limits.now.limits.instance table.now }
-    ensures { Puts K.Sink (flat_map line_text
-        (map (row_line limits.now.limits k table.now)
-        (filter (may_begin limits.now.limits k) (range_with_len 0 (tasks_in limits.now.limits)))))
-        out.old out.new result }
-{
-    for j in 0..limits.instance().tasks() as u32 {
-        put_if_open(out, limits, k, table, j)?;
-    }
-    Ok(())
-}
-
-/// The lines of a team: its worth, and the table's potentials.
-fn put_table<K: Sink>(
-    out: &mut K,
-    limits: &Limits<'_>,
-    k: u32,
-    worth: i64,
-    table: &Table,
-) -> Result<(), WriteFault>
-    requires team { k < teams_in limits.now.limits }
-    requires table { IsTableOf limits.now.limits.instance table.now }
-    ensures { Puts K.Sink (flat_map line_text
-        (team_lines limits.now.limits k (table_in limits.now.limits k worth table.now)))
-        out.old out.new result }
-{
-    put_line(out, &[Part::Word(b"worth"), Part::Signed(worth)])?;
-    put_rows(out, limits, k, table)
 }
 
 /// The lines of a team, with the worth and the potentials that pricing gives.

@@ -17,11 +17,11 @@ ghost use Rattle.cert_write.specs.Walks.{GoesOn, IsDue, Place, Stands, is_closed
 use crate::causes::{Cause, put_cause};
 use crate::leaf::put_claim;
 use crate::tables::Room;
-use crate::words::number;
 use branch_tree::{LeafState, Node, Tree, one_tree};
 use crew_instance::Instance;
 use crew_io::sink::{Sink, WriteFault};
 use crew_terms::Choice;
+use dossier_out::number;
 use line_out::{Part, put_line};
 use node_limits::Limits;
 use tree_walk::Walk;

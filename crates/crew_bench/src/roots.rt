@@ -24,7 +24,7 @@ struct Rounds {
 /// How the step ends that has so many pivots for its master's run.
 fn end_with(alloc: Global, instance: &Instance, pivots: u32) -> Result<RootEnd, AllocError> {
     let mut columns = VecColumns::new(alloc);
-    let mut search = Search::new(alloc, instance, 1, DAY_EFFORT)?;
+    let mut search = Search::new(alloc, instance, 1, None, DAY_EFFORT)?;
     let Some(key) = search.due() else {
         return Ok(RootEnd::Closed);
     };

@@ -38,7 +38,7 @@ fn closed_leaves(tree: &Tree) -> usize {
 pub fn searched(alloc: Global, instance: &Instance, nodes: u32) -> Result<Figures, BenchError> {
     let mut columns = VecColumns::new(alloc);
     let nodes = nodes.min(MOST_NODES);
-    let outcome = solve(alloc, instance, nodes, &mut columns, DAY_EFFORT)?;
+    let outcome = solve(alloc, instance, nodes, None, &mut columns, DAY_EFFORT)?;
     Ok(Figures::Search {
         unassigned: unassigned(&outcome.plan),
         bound: outcome.bound,

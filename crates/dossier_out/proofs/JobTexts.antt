@@ -48,6 +48,13 @@ pub some_job : (word : List ℕ) (j start : ℕ) (teams : List ℕ) (o : Option 
     → line_text (word ∷ decimal j ∷ decimal start ∷ map decimal teams) ≡ text (map (counts_line word) (job_list j o))
 some_job word j start teams o is = sym (append-nil _) ∙ ap (λ x. text (map (counts_line word) (job_list j x))) (sym is)
 
+pub some_begun : (o : Option Job) (start : ℕ) (teams : List ℕ) → option_map (λ (job : Job). job.start) o ≡ Some start → teams ≡ job_teams o → o ≡ Some (job_by start teams)
+some_begun None start teams is are = cc
+some_begun (Some job) start teams is are = ap Some (by (let e : job.start ≡ start = cc in e) (sym are))
+  where
+    by : job.start ≡ start → job.teams ≡ teams → job ≡ job_by start teams
+    by e f = ap (λ s. job_by s job.teams) e ∙ ap (job_by start) f
+
 -- ---- how many jobs there are
 
 pub jobs_are : (a : ℕ) (p : Plan) → flat_map (λ (q : ℕ × Option Job). job_list q.0 q.1) (enumerate_from a p) ≡ jobs_from a p

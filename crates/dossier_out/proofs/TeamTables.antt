@@ -1,21 +1,21 @@
 -- the lines of a team's potentials
-use Rattle.std.proofs.Common.{◌≡◌, ◌<◌, ◌≤◌, ◌+◌, ◌-◌, ◌↔◌, ◌++◌, ◌∷◌, [], ℕ, List, Bool, true, false, map, ap, sym, refl, ◌∙◌, append-nil, arith, ◌⊎◌, inl, inr}
+use Rattle.std.proofs.Common.{◌≡◌, ◌<◌, ◌≤◌, ◌+◌, ◌-◌, ◌++◌, ◌∷◌, [], ℕ, List, Bool, true, false, map, ap, sym, refl, ◌∙◌, append-nil, arith, ◌⊎◌, inl, inr}
 use Rattle.std.specs.Prelude.{ℤ, nat_lt}
 use Rattle.std.specs.List.{filter, range_with_len}
 use Rattle.std.proofs.lemmas.Bool.{cases_lt, lt-ltb}
 use Rattle.crew_terms.specs.Instance.{task_of}
-use Rattle.crew_terms.specs.Limits.{Limits, IsPermittedVisit, tasks_in}
-use Rattle.crew_terms.specs.Minutes.{first_minute, minute_count, open_tasks, IsMinuteOf}
+use Rattle.crew_terms.specs.Limits.{Limits, tasks_in}
+use Rattle.crew_terms.specs.Minutes.{first_minute, minute_count, open_tasks}
 use Rattle.crew_terms.specs.Words.{Words, line_text}
-use Rattle.dossier_terms.specs.Lines.{potentials_line, rows_lines, steps_line, worth_line}
+use Rattle.dossier_terms.specs.Lines.{potentials_line, steps_line, worth_line}
 use Rattle.dossier_terms.specs.Runs.{runs_of}
 use Rattle.dossier_terms.specs.declared.DossierForm.TheVariants.{Two}
 use Rattle.node_limits.specs.Minutes.{AreMinutes, HasNoMinute}
 use Rattle.potentials.specs.Table.{PotentialRow, CoversMinute, IsTableOf}
 use Rattle.dossier_out.specs.Steps.{row_in, row_of, table_in}
-use Rattle.dossier_out.specs.Tables.{may_begin, row_line, team_lines}
+use Rattle.dossier_out.specs.Tables.{MinutesLaw, may_begin, row_line, team_lines}
 use Rattle.crew_io.specs.Fronts.{IsFront}
-use Rattle.dossier_out.specs.Texts.{front_of, text}
+use Rattle.dossier_out.specs.Texts.{front_of, rows_mapped, text}
 
 -- ---- lines of those tasks that the team may begin
 
@@ -24,10 +24,6 @@ none_passes p line j is = rw is refl
 
 pub one_passes : (p : ℕ → Bool) (line : ℕ → Words) (j : ℕ) → p j ≡ true → line_text (line j) ≡ text (map line (filter p (j ∷ [])))
 one_passes p line j is = rw is (sym (append-nil (line_text (line j))))
-
--- the minutes that are counted are those at which the team may begin the task
-abbrev pub MinutesLaw : Type 0
-MinutesLaw = (n : Limits) (k j t : ℕ) → IsPermittedVisit n k j t ↔ IsMinuteOf n k j t
 
 -- the first minute and how many there are
 pub record AreCounted (n : Limits) (k j first end : ℕ) : Type 0 where
@@ -77,10 +73,6 @@ covers n table j first end is known early late t from before =
     record { early = omega (arith, a, b); late = omega (arith, a, b) }
 
 -- ---- the lines of a team
-
-pub rows_mapped : (line : ℕ → List ℤ → Words) (f : ℕ → List ℤ) (ks : List ℕ) → rows_lines line ks (map f ks) ≡ map (λ k. line k (f k)) ks
-rows_mapped line f [] = refl
-rows_mapped line f (k ∷ ks) = ap (λ r. line k (f k) ∷ r) (rows_mapped line f ks)
 
 pub table_text : (n : Limits) (k : ℕ) (worth : ℤ) (table : List PotentialRow)
     → line_text (worth_line worth) ++ text (map (row_line n k table) (filter (may_begin n k) (range_with_len 0 (tasks_in n)))) ≡ text (team_lines n k (table_in n k worth table))

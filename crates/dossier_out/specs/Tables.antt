@@ -1,7 +1,7 @@
 -- the lines of a team in a node
-use Rattle.std.specs.Prelude.{ℕ, nat_lt, Bool, List, ◌∷◌}
-use Rattle.crew_terms.specs.Limits.{Limits}
-use Rattle.crew_terms.specs.Minutes.{first_minute, minute_count, open_tasks}
+use Rattle.std.specs.Prelude.{◌↔◌, ℕ, nat_lt, Bool, List, ◌∷◌}
+use Rattle.crew_terms.specs.Limits.{Limits, IsPermittedVisit}
+use Rattle.crew_terms.specs.Minutes.{IsMinuteOf, first_minute, minute_count, open_tasks}
 use Rattle.crew_terms.specs.Words.{Words}
 use Rattle.dossier_terms.specs.Dossier.{Potentials}
 use Rattle.dossier_terms.specs.Lines.{potentials_line, rows_lines, steps_line, worth_line}
@@ -9,6 +9,10 @@ use Rattle.dossier_terms.specs.Runs.{runs_of}
 use Rattle.dossier_terms.specs.declared.DossierForm.TheVariants.{Two}
 use Rattle.potentials.specs.Table.{PotentialRow}
 use Rattle.dossier_out.specs.Steps.{row_in}
+
+-- the minutes that are counted are those at which the team may begin the task
+abbrev pub MinutesLaw : Type 0
+MinutesLaw = (n : Limits) (k j t : ℕ) → IsPermittedVisit n k j t ↔ IsMinuteOf n k j t
 
 -- team k may begin task j at some minute
 abbrev pub may_begin : Limits → ℕ → ℕ → Bool

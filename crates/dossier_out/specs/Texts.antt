@@ -1,9 +1,11 @@
 -- texts of lists, and the fronts of a text of several parts
 use Rattle.std.proofs.Common.{◌≡◌, ◌<◌, ◌++◌, ◌∷◌, [], ℕ, List, length, map, ap, sym, refl, ◌∙◌, append_assoc, arith}
+use Rattle.std.specs.Prelude.{ℤ}
 use Rattle.std.specs.List.{flat_map, range_with_len}
 use Rattle.std.proofs.lemmas.List.Concat.{flat_map-append}
 use Rattle.std.proofs.lemmas.List.FromFn.{length-range_with_len}
 use Rattle.crew_terms.specs.Words.{Words, line_text}
+use Rattle.dossier_terms.specs.Lines.{rows_lines}
 use Rattle.crew_io.specs.Fronts.{IsFront}
 use Rattle.line_out.specs.Parts.{next_word}
 use Rattle.line_out.specs.Lines.{line_parts}
@@ -19,6 +21,11 @@ of_mapped f g (x ∷ xs) = ap (λ r. f (g x) ++ r) (of_mapped f g xs)
 pub of_lists : {A B C : Type 0} (f : B → List C) (g : A → List B) (xs : List A) → flat_map (λ x. flat_map f (g x)) xs ≡ flat_map f (flat_map g xs)
 of_lists f g [] = refl
 of_lists f g (x ∷ xs) = ap (λ r. flat_map f (g x) ++ r) (of_lists f g xs) ∙ sym (flat_map-append f (g x) (flat_map g xs))
+
+-- the lines of rows that are each made of their number
+pub rows_mapped : (line : ℕ → List ℤ → Words) (f : ℕ → List ℤ) (ks : List ℕ) → rows_lines line ks (map f ks) ≡ map (λ k. line k (f k)) ks
+rows_mapped line f [] = refl
+rows_mapped line f (k ∷ ks) = ap (λ r. line k (f k) ∷ r) (rows_mapped line f ks)
 
 pub below_range : (j n : ℕ) → j < n → j < length (range_with_len 0 n)
 below_range j n h = let l = length-range_with_len 0 n in omega (arith, l)

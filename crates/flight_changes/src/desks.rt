@@ -1,9 +1,9 @@
 // The desk: a day's state, which each entry changes.
 ghost use Rattle.std.specs.Prelude.{◌≡◌, ◌⊎◌, ℕ, List, [], None, Some, IfErr, IfOk, OnErr, OnOk, option_map};
 ghost use Rattle.crew_terms.specs.Legal.{IsLegal};
-ghost use Rattle.crew_terms.specs.Plan.{Plan};
+ghost use Rattle.crew_terms.specs.Plan.{Plan as JobPlan};
 ghost use Rattle.day_terms.specs.Entries.{after_entry};
-ghost use Rattle.day_terms.specs.Instances.{day_instance};
+ghost use Rattle.day_terms.specs.Instances.{day_instance, plan_of_jobs};
 ghost use Rattle.day_terms.specs.Ranges.{IsInRange};
 ghost use Rattle.day_terms.specs.Refusal.{Refusal, gone_work, refusal_by_lists, refusal_of, work_against};
 ghost use Rattle.day_terms.specs.Rounds.{first_missing};
@@ -15,7 +15,7 @@ ghost use Rattle.flight_changes.specs.Limits.{IsListEntry};
 use crate::faults::ChangeFault;
 use crate::jobs::{NamedJob, PlannedJobs, copies, end_jobs, end_jobs_of, first_job_of};
 use crate::lists::Lists;
-use crew_instance::Instance;
+use crew_instance::{Instance, Plan};
 use crew_laws::empty_plan_is_feasible;
 use crew_terms::Name;
 use day_terms::Entry;
@@ -88,11 +88,19 @@ impl Desk {
 
     /// Has these jobs, those of a legal plan of the state's instance, in the place of the last plan. It takes no memory.
     pub fn planned(&mut self, jobs: PlannedJobs)
-        requires legal { (p : Plan) × IsLegal (day_instance self.old) p
+        requires legal { (p : JobPlan) × IsLegal (day_instance self.old) p
             × (jobs ≡ jobs_by_names (day_instance self.old) p) }
         ensures { self.new ≡ record self.old { last_plan = jobs } }
     {
         self.last_plan = jobs.into_jobs();
+    }
+
+    /// What is left of the last plan, as a plan of the state's tasks: for each the job of its name, if there is one. AllocError
+    /// where there is no memory.
+    pub fn last_plan(&self) -> Result<Plan, AllocError>
+        ensures { IfOk result (λ plan. plan ≡ plan_of_jobs self.now self.now.last_plan) }
+    {
+        self.lists.plan_of(&self.last_plan)
     }
 
     /// Changes the lists by an entry, and takes out of the last plan what it ends.

@@ -43,6 +43,7 @@ const MASTER_ALONE: Effort = Effort {
         rounds: 0,
         routes: 0,
     },
+    near: NO_SEARCH,
 };
 
 const NODES: u32 = 3;
@@ -66,7 +67,7 @@ fn dossier_with(alloc: Global, instance: &Instance, pivots: u32) -> Result<Vec<u
     run_outcomes_are_writable();
     solved_causes_may_be_told();
     let mut columns = VecColumns::new(alloc);
-    let mut search = Search::new(alloc, instance, NODES, MASTER_ALONE)?;
+    let mut search = Search::new(alloc, instance, NODES, None, MASTER_ALONE)?;
     take_steps(&mut search, &mut columns, pivots)?;
     // It is known from here on that steps led to this.
     let _ = search.open_len();

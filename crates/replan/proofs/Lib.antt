@@ -3,3 +3,4 @@ pub mod Pools
 pub mod Dossiers
 pub mod Numbers
 pub mod Steps
+pub mod Staying

@@ -5,3 +5,4 @@ pub mod Planning
 pub mod Kept
 pub mod Entries
 pub mod Alone
+pub mod Staying

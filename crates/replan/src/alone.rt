@@ -24,7 +24,7 @@ pub fn plan_alone<K: Sink>(
     ensures put { IsPutAlone instance.now nodes result (K.got sink.old) (K.got sink.new) }
     ensures tells { TellsWrites K.Sink sink.old sink.new (result ≡ Err PutFault.WriteFault) }
 {
-    match put_round(alloc, instance, nodes, &None, sink) {
+    match put_round(alloc, instance, nodes, &None, None, sink) {
         Ok(planned) => Ok(planned.counts),
         Err(SessionFault::WriteFault) => Err(PutFault::WriteFault),
         Err(SessionFault::OutOfMemory) => Err(PutFault::OutOfMemory),

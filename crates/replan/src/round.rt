@@ -1,9 +1,10 @@
 // One round: a plan of an instance, and a dossier of it.
-ghost use Rattle.std.specs.Prelude.{◌≡◌, ◌≤◌, [], All, Err, IfOk, List, OnOk, length, map, take};
+ghost use Rattle.std.specs.Prelude.{◌≡◌, ◌≤◌, [], All, Err, IfOk, IfSome, List, OnOk, length, map, option_copied, take};
 ghost use Rattle.std.specs.List.{sum_by};
 ghost use Rattle.cert_write.specs.Causes.{cause_of};
 ghost use Rattle.cert_write.specs.Given.{Given};
 ghost use Rattle.crew_io.specs.Puts.{TellsWrites};
+ghost use Rattle.crew_terms.specs.Legal.{IsLegal};
 ghost use Rattle.crew_terms.specs.Limits.{root_limits};
 ghost use Rattle.crew_terms.specs.declared.TheConstants.{MOST_NODES};
 ghost use Rattle.dossier_terms.specs.Causes.{unshown_in};
@@ -11,6 +12,7 @@ ghost use Rattle.dossier_terms.specs.Dossier.{IsPooled};
 ghost use Rattle.replan.specs.Given.{AreNumbersOf};
 ghost use Rattle.replan.specs.Kept.{handed_in};
 ghost use Rattle.replan.specs.Planning.{IsRoundPut};
+ghost use Rattle.replan.specs.Staying.{BeginsFrom, IsPlanned, IsPlannedFrom};
 ghost use Rattle.route_terms.specs.Kept.{AreKeptIn};
 ghost use Rattle.route_terms.specs.Named.{NamedRoute};
 ghost use Rattle.search_core.specs.Steps.{IsSolved};
@@ -21,10 +23,11 @@ use crate::laws::{outcomes_are_rounds, pools_are_of_instances};
 use bumpalo::Bump;
 use cert_write::{Cause, Parts, write_dossier};
 use column_arena::{ArenaColumns, Carry, Columns};
-use crew_instance::{Instance, unassigned};
+use crew_instance::{Instance, Plan, unassigned};
 use crew_io::sink::Sink;
 use flight_changes::PlannedJobs;
 use node_limits::Limits;
+use plan_again::repair;
 use search_core::{DAY_EFFORT, Outcome, solve};
 use std::alloc::{AllocError, Global};
 use written_laws::{solved_pools_are_of_the_instance, told_causes};
@@ -119,6 +122,7 @@ fn put_outcome<K: Sink, C: Columns>(
         IsRoundPut handed (record { instance = instance.now; nodes = nodes }) result
         (K.got sink.old) (K.got sink.new) }
     ensures tells { TellsWrites K.Sink sink.old sink.new (result ≡ Err SessionFault.WriteFault) }
+    ensures planned { IfOk result (IsPlanned instance.now outcome.now.plan) }
 {
     outcomes_are_rounds();
     pools_are_of_instances();
@@ -150,12 +154,33 @@ fn put_outcome<K: Sink, C: Columns>(
     })
 }
 
-/// Plans the instance by a search with so many steps, which goes out from the routes that are carried, and writes a dossier.
+/// The plan with which a round begins: the last one, repaired, where it has a job. AllocError where there is no memory.
+fn begin_of(
+    alloc: Global,
+    instance: &Instance,
+    last: Option<&Plan>,
+) -> Result<Option<Plan>, AllocError>
+    ensures legal { IfOk result (λ begin. IfSome begin (IsLegal instance.now)) }
+    ensures stays { IfSome (option_copied last.entry) (λ old. IsLegal instance.now old →
+        IfOk result (BeginsFrom old)) }
+{
+    let Some(old) = last else {
+        return Ok(None);
+    };
+    if unassigned(old) as usize == old.len() {
+        return Ok(None);
+    }
+    Ok(Some(repair(alloc, instance, old)?))
+}
+
+/// Plans the instance by a search with so many steps, which goes out from the routes that are carried and from the last plan, if
+/// there is one, and writes a dossier.
 pub(crate) fn put_round<K: Sink>(
     alloc: Global,
     instance: &Instance,
     nodes: u32,
     carry: &Option<Carry>,
+    last: Option<&Plan>,
     sink: &mut K,
 ) -> Result<Planned, SessionFault>
     requires { nodes ≤ MOST_NODES }
@@ -163,6 +188,8 @@ pub(crate) fn put_round<K: Sink>(
         (record { instance = instance.now; nodes = nodes }) result
         (K.got sink.old) (K.got sink.new) }
     ensures tells { TellsWrites K.Sink sink.old sink.new (result ≡ Err SessionFault.WriteFault) }
+    ensures stays { IfSome (option_copied last.entry) (λ old. IsLegal instance.now old →
+        IfOk result (IsPlannedFrom instance.now old)) }
 {
     pools_are_of_instances();
     let arena = Bump::new(alloc);
@@ -170,6 +197,14 @@ pub(crate) fn put_round<K: Sink>(
     let kept = place_kept(alloc, instance, carry, &mut columns)?;
     // What always holds of the columns is known from here on.
     let _ = columns.len();
-    let outcome = solve(alloc, instance, nodes, &mut columns, DAY_EFFORT)?;
+    let begin = begin_of(alloc, instance, last)?;
+    let outcome = solve(
+        alloc,
+        instance,
+        nodes,
+        begin.as_ref(),
+        &mut columns,
+        DAY_EFFORT,
+    )?;
     put_outcome(alloc, instance, nodes, kept, &columns, &outcome, sink)
 }

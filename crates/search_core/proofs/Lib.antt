@@ -8,3 +8,4 @@ pub mod Showing
 pub mod Pricing
 pub mod Turning
 pub mod Walking
+pub mod NearPlans

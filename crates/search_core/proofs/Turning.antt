@@ -1,5 +1,5 @@
 -- a child of a node, and back
-use Rattle.std.proofs.Common.{◌≡◌, ◌≤◌, ◌<◌, ◌+◌, ◌-◌, ◌∙◌, ◌∷◌, ℕ, ℤ, zero, suc, List, length, ap, sym, subst, arith}
+use Rattle.std.proofs.Common.{◌≡◌, ◌≤◌, ◌+◌, ◌-◌, ◌∙◌, ◌∷◌, ℕ, ℤ, List, length, ap, sym, subst, arith}
 use Rattle.crew_terms.specs.Instance.{Instance}
 use Rattle.crew_terms.specs.Leaf.{IsOnRequired, Prices, Proves}
 use Rattle.crew_terms.specs.Limits.{Limits, tasks_in}

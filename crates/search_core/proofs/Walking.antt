@@ -1,5 +1,5 @@
 -- what is still due, in preorder
-use Rattle.std.proofs.Common.{◌≡◌, ◌≤◌, ◌<◌, ◌+◌, ◌-◌, ◌*◌, ◌^◌, ◌++◌, ◌∙◌, ◌∷◌, [], ℕ, suc, List, Some, length, map, refl, ap, sym, subst, arith, append_assoc}
+use Rattle.std.proofs.Common.{◌≡◌, ◌≤◌, ◌<◌, ◌+◌, ◌-◌, ◌*◌, ◌^◌, ◌++◌, ◌∙◌, ◌∷◌, [], ℕ, List, Some, length, map, refl, ap, sym, subst, arith, append_assoc}
 use Rattle.std.specs.Prelude.{All, Bool, true, false, None}
 use Rattle.std.proofs.lemmas.List.{append-nil, length-append, map-append}
 use Rattle.std.proofs.lemmas.List.Elements.{All-append, All-cons, All-nil, All-pop}
@@ -14,7 +14,7 @@ use Rattle.search_terms.specs.SearchTree.{SearchTree, SplitCause, causes}
 use Rattle.search_tree.specs.declared.nodes.Content.{Content}
 use Rattle.search_tree.specs.declared.nodes.Content.TheVariants as content
 use Rattle.search_tree.specs.declared.nodes.Node.{Node}
-use Rattle.search_tree.specs.Numbered.{AreNumbered, IsChild, child_of, grown, node_of, subtree}
+use Rattle.search_tree.specs.Numbered.{IsChild, child_of, grown, node_of}
 use Rattle.search_core.specs.Outline.{outline, outline_with}
 use Rattle.search_tree.specs.Numbers.{HasNumber}
 use Rattle.search_core.specs.Visited.{HasChildren, bare_number, cause_in, due_in, node_in}

@@ -3,6 +3,7 @@ ghost use Rattle.std.specs.Prelude.{◌≡◌, ◌≤◌, ◌<◌, ◌*◌, ◌^
 ghost use Rattle.search_core.specs.declared.effort.TheConstants.{MANY_TASKS};
 
 use node_solver::{AscentEffort, Effort as NodeEffort, RuinEffort, ScoutEffort};
+use plan_again::Effort as FirstEffort;
 
 /// More tasks than these are many.
 pub const MANY_TASKS: usize = 150;
@@ -60,9 +61,19 @@ pub struct Effort {
     pub below: AscentEffort,
     /// The scout of columns at each node.
     pub scout: ScoutEffort,
+    /// The search for a plan nearer to the one that the search began with, each time that a better one is found.
+    pub near: RebuildEffort,
 }
 
 impl Effort {
+    // The work before the first step, over so many tasks.
+    pub(crate) fn first(&self, tasks: usize) -> FirstEffort {
+        FirstEffort {
+            iterations: self.iterations,
+            near: self.near.over(tasks),
+        }
+    }
+
     /// The work of the ascent at the node of this number, 0 for the root, over so many tasks.
     pub fn ascent_at(&self, node: u32, tasks: usize) -> AscentEffort
         ensures few { node ≡ 0 → tasks ≤ MANY_TASKS → result ≡ self.now.root }
@@ -133,5 +144,9 @@ pub const DAY_EFFORT: Effort = Effort {
         pivots: 30_000,
         rounds: 100,
         routes: 1_000,
+    },
+    near: RebuildEffort {
+        looks_a_task: 100_000,
+        seed: 3,
     },
 };

@@ -1,7 +1,7 @@
 // What a step finds in a node.
-ghost use Rattle.std.specs.Prelude.{◌≡◌, ◌≤◌, IfOk};
-ghost use Rattle.crew_terms.specs.Leaf.{IsOnRequired};
-ghost use Rattle.crew_terms.specs.Limits.{tasks_in};
+ghost use Rattle.std.specs.Prelude.{◌≡◌, ◌≤◌, ℕ, List, IfOk, IfSome};
+ghost use Rattle.crew_terms.specs.Leaf.{IsOnRequired, Prices as LeafPrices};
+ghost use Rattle.crew_terms.specs.Limits.{Limits as NodeLimits, Route as TeamRoute, tasks_in};
 ghost use Rattle.crew_terms.specs.Plan.{unassigned_count};
 ghost use Rattle.search_tree.specs.States.{DecidesProved};
 ghost use Rattle.label_pricing.specs.Pricing.{HasRoom};
@@ -9,12 +9,13 @@ ghost use Rattle.node_walk.specs.Walks.{IsBack};
 ghost use Rattle.potentials.specs.Prices.{ArePricesOf};
 ghost use Rattle.search_core.specs.Findings.{IsFinding};
 ghost use Rattle.search_terms.specs.Inside.{IsNode};
-ghost use Rattle.search_terms.specs.Search.{Extends};
+ghost use Rattle.search_terms.specs.Search.{Extends, IsKeepable};
 ghost use Rattle.search_tree.specs.Ways.{CanTurns, limits_after};
 
+use crate::begun::Begun;
 use crate::handing::{Handed, hand_on};
 use column_arena::Columns;
-use crew_instance::Plan;
+use crew_instance::{Instance, Plan};
 use crew_terms::Choice;
 use kept_prices::KeptPrices;
 use label_pricing::{Pricer, worths_decide};
@@ -96,7 +97,7 @@ fn examine<C: Columns>(
 }
 
 /// Takes the step at the node to which the turns lead from these limits, and comes back.
-pub(crate) fn explore<C: Columns>(
+fn visit<C: Columns>(
     alloc: Global,
     limits: &mut Limits<'_>,
     pricer: &mut Pricer,
@@ -128,4 +129,63 @@ pub(crate) fn explore<C: Columns>(
     let found = examine(alloc, limits, pricer, own, bound, best, columns, effort);
     ascend(limits, turns.len());
     found
+}
+
+/// What was found, its plan brought near to the one with which the search began.
+fn brought_near(
+    alloc: Global,
+    instance: &Instance,
+    begun: &Begun,
+    found: Finding,
+) -> Result<Finding, AllocError>
+    requires { IfSome found.plan (IsKeepable instance.now) }
+    ensures { (n : NodeLimits) (best pivots : ℕ) (columns more : List TeamRoute) (own : LeafPrices)
+        → n.instance ≡ instance.now → IsFinding n best pivots columns more own found
+        → IfOk result (IsFinding n best pivots columns more own) }
+{
+    let Finding { plan, ending } = found;
+    let Some(plan) = plan else {
+        return Ok(Finding { plan: None, ending });
+    };
+    let near = begun.nearer_plan(alloc, instance, plan)?;
+    Ok(Finding {
+        plan: Some(near),
+        ending,
+    })
+}
+
+/// Takes the step at the node to which the turns lead from these limits, comes back, and brings the plan that was found near to
+/// the one with which the search began.
+pub(crate) fn explore<C: Columns>(
+    alloc: Global,
+    limits: &mut Limits<'_>,
+    pricer: &mut Pricer,
+    turns: &[Turn],
+    own: &KeptPrices,
+    bound: i128,
+    best: &Plan,
+    columns: &mut C,
+    effort: &NodeEffort,
+    begun: &Begun,
+) -> Result<Finding, AllocError>
+    requires can { CanTurns limits.old.limits turns.now }
+    requires node { IsNode (limits_after limits.old.limits turns.now) }
+    requires own { ArePricesOf (limits_after limits.old.limits turns.now) own.now }
+    requires required { IsOnRequired (limits_after limits.old.limits turns.now) own.now }
+    requires bound { DecidesProved (limits_after limits.old.limits turns.now) own.now bound }
+    requires best { unassigned_count best.now ≤ tasks_in
+        (limits_after limits.old.limits turns.now) }
+    requires room { HasRoom limits.old.limits.instance pricer.old }
+    ensures found { IfOk result (IsFinding (limits_after limits.old.limits turns.now)
+        (unassigned_count best.now) effort.now.pivots
+        (C.columns columns.old) (C.columns columns.new) own.now) }
+    ensures extends { Extends (limits_after limits.old.limits turns.now) (C.columns columns.old)
+        (C.columns columns.new) }
+    ensures back { IsBack limits.new limits.old }
+    ensures room { pricer.new.places ≡ pricer.old.places }
+{
+    let found = visit(
+        alloc, limits, pricer, turns, own, bound, best, columns, effort,
+    )?;
+    brought_near(alloc, limits.instance(), begun, found)
 }

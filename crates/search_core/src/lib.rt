@@ -1,6 +1,7 @@
 // The search by branch and price: its open nodes are taken in any order, and what it comes to is sound.
 #![tactic(auto)]
 
+mod begun;
 mod causes;
 mod closing;
 mod effort;

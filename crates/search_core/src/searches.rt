@@ -1,25 +1,27 @@
 // A search between two steps: what it keeps, and what is asked of it.
-ghost use Rattle.std.specs.Prelude.{◌≡◌, ◌≤◌, ◌<◌, ◌⊎◌, ◌∷◌, [], ℕ, ℤ, List, IfNone, IfOk, IfSome, length, slice_index};
+ghost use Rattle.std.specs.Prelude.{◌≡◌, ◌≤◌, ◌<◌, ◌⊎◌, ◌∷◌, [], ℕ, ℤ, List, IfNone, IfOk, IfSome, length, option_copied, slice_index};
 ghost use Rattle.crew_terms.specs.Leaf.{zero_prices};
+ghost use Rattle.crew_terms.specs.Legal.{IsLegal};
 ghost use Rattle.crew_terms.specs.Limits.{Route as TeamRoute, root_limits};
 ghost use Rattle.crew_terms.specs.declared.TheConstants.{MOST_NODES};
 ghost use Rattle.search_tree.specs.Aged.{leaves_of};
 ghost use Rattle.search_tree.specs.Keyed.{IsKeyed};
 ghost use Rattle.node_queue.specs.Waits.{keys_of};
+ghost use Rattle.plan_again.specs.Stays.{StaysOrBetters};
 ghost use Rattle.search_core.specs.Kept.{IsKeptSearch};
 ghost use Rattle.search_core.specs.Searching.{IsOpenKey, state_of};
 ghost use Rattle.search_core.specs.Steps.{IsCounted, IsDone, IsSearching};
 ghost use Rattle.search_terms.specs.BestFirst.{IsBoundIn};
-ghost use Rattle.search_terms.specs.Search.{IsBound, IsKeepable, IsStart, best};
+ghost use Rattle.search_terms.specs.Search.{IsBound, IsStart, best};
 
+use crate::begun::Begun;
 use crate::causes::Cause;
 use crate::effort::Effort;
 use crew_instance::{Instance, Plan, unassigned};
 use kept_prices::KeptPrices;
 use label_pricing::{Pricer, most_proved};
 use node_limits::Limits;
-use plan_builder::greedy;
-use plan_search::{Effort as PlanEffort, better};
+use plan_again::first_plan;
 use potentials::Prices;
 use search_laws::run_keeps;
 use search_tree::{KeyedTree, least_bounds, numbers_stay};
@@ -44,6 +46,8 @@ pub struct Search<'i> {
     pub(crate) budget: u32,
     pub(crate) left: u32,
     pub(crate) effort: Effort,
+    // What it began with.
+    pub(crate) begun: Begun,
 }
 
 impl<'i> Model for Search<'i> {
@@ -58,29 +62,20 @@ impl<'i> Model for Search<'i> {
     ghost invariant = { IsKept };
 }
 
-/// Greedy's plan, bettered by search.
-fn first_plan(alloc: Global, instance: &Instance, iterations: u32) -> Result<Plan, AllocError>
-    ensures { IfOk result (IsKeepable instance.now) }
-{
-    let plan = greedy(alloc, instance)?;
-    let effort = PlanEffort {
-        iterations,
-        enough: 0,
-        weights: None,
-    };
-    better(alloc, instance, &plan, effort)
-}
-
 impl<'i> Search<'i> {
     /// A search over the instance with so many steps, and this effort: its plan is legal and packed, found by search from
-    /// greedy's, and its root is open at zero prices. AllocError where there is no memory.
+    /// greedy's, and its root is open at zero prices. Where a legal plan is there to begin with, its plan is that one with the
+    /// tasks that can be added, unless search finds one that does more, and plans that the steps find are brought near to it.
+    /// AllocError where there is no memory.
     pub fn new(
         alloc: Global,
         instance: &'i Instance,
         nodes: u32,
+        begin: Option<&Plan>,
         effort: Effort,
     ) -> Result<Search<'i>, AllocError>
-        requires { nodes ≤ MOST_NODES }
+        requires few { nodes ≤ MOST_NODES }
+        requires begin { IfSome (option_copied begin) (λ p. IsLegal instance.now p) }
         ensures start { (columns : List TeamRoute)
             → IfOk result (λ s. IsStart instance.now nodes (state_of columns s)) }
         ensures root { IfOk result (λ s. (bound : ℤ) ×
@@ -88,11 +83,13 @@ impl<'i> Search<'i> {
             × (leaves_of s.keyed ≡ record { way = []; bound = bound } ∷ [])) }
         ensures instance { IfOk result (λ s. s.instance ≡ instance.now) }
         ensures budget { IfOk result (λ s. s.budget ≡ nodes) }
+        ensures stays { IfOk result (λ s. StaysOrBetters (option_copied begin.entry) s.plan) }
     {
         numbers_stay();
         let limits = Limits::root(alloc, instance)?;
         let mut pricer = Pricer::reserve(alloc, instance)?;
-        let plan = first_plan(alloc, instance, effort.iterations)?;
+        let begun = Begun::of(begin, effort.near.over(instance.tasks()))?;
+        let plan = first_plan(alloc, instance, begin, &effort.first(instance.tasks()))?;
         let zero = Prices::zero(alloc, &limits)?;
         let bound = pricer.proved(&limits, &zero).bound;
         let keyed = KeyedTree::root(alloc, 0, bound)?;
@@ -108,6 +105,7 @@ impl<'i> Search<'i> {
             budget: nodes,
             left: nodes,
             effort,
+            begun,
         })
     }
 

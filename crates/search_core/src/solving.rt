@@ -1,8 +1,10 @@
 // Searches from their start to their end.
-ghost use Rattle.std.specs.Prelude.{◌≤◌, ◌<◌, List, IfNone, IfOk, IfSome};
+ghost use Rattle.std.specs.Prelude.{◌≤◌, ◌<◌, List, IfNone, IfOk, IfSome, option_copied};
+ghost use Rattle.crew_terms.specs.Legal.{IsLegal};
 ghost use Rattle.crew_terms.specs.Limits.{Route as TeamRoute, root_limits};
 ghost use Rattle.crew_terms.specs.declared.TheConstants.{MOST_NODES};
 ghost use Rattle.node_queue.specs.Waits.{IsLeast};
+ghost use Rattle.plan_again.specs.Stays.{StaysOrBetters};
 ghost use Rattle.search_core.specs.Searching.{IsDueKey, IsOpenKey, state_of};
 ghost use Rattle.search_core.specs.Solved.{IsGrown};
 ghost use Rattle.search_core.specs.Steps.{IsDone, IsSolved};
@@ -11,7 +13,7 @@ use crate::causes::Outcome;
 use crate::effort::Effort;
 use crate::searches::Search;
 use column_arena::Columns;
-use crew_instance::Instance;
+use crew_instance::{Instance, Plan};
 use search_tree::{least_bounds, leaves_keep_order};
 use std::alloc::{AllocError, Global};
 
@@ -43,21 +45,25 @@ impl<'i> Search<'i> {
 }
 
 /// Searches the instance with so many steps, each at the oldest open leaf of least bound, until no better plan is possible or
-/// no step is left. The columns are used, and routes of the instance may be added to them. AllocError where there is no
-/// memory.
+/// no step is left. The columns are used, and routes of the instance may be added to them. Where a legal plan is there to begin
+/// with, the search's plan leaves no more tasks unassigned, and has each of its jobs where it leaves as many. AllocError where
+/// there is no memory.
 pub fn solve<C: Columns>(
     alloc: Global,
     instance: &Instance,
     nodes: u32,
+    begin: Option<&Plan>,
     columns: &mut C,
     effort: Effort,
 ) -> Result<Outcome, AllocError>
-    requires { nodes ≤ MOST_NODES }
+    requires few { nodes ≤ MOST_NODES }
+    requires begin { IfSome (option_copied begin) (λ p. IsLegal instance.now p) }
     ensures outcome { IfOk result (IsSolved instance.now nodes (C.columns columns.old)
         (C.columns columns.new)) }
     ensures columns { IsGrown (C.columns columns.old) (C.columns columns.new) }
+    ensures stays { IfOk result (λ o. StaysOrBetters (option_copied begin.entry) o.plan) }
 {
-    let mut search = Search::new(alloc, instance, nodes, effort)?;
+    let mut search = Search::new(alloc, instance, nodes, begin, effort)?;
     while let Some(key) = search.due() {
         search.step(key, columns)?;
     }

@@ -55,6 +55,7 @@ impl<'i> Search<'i> {
             &self.plan,
             columns,
             &effort,
+            &self.begun,
         )?;
         let now = count_after(best, &plan);
         put_ending(

@@ -32,6 +32,7 @@ pub const NO_ROUNDS: Effort = Effort {
         rounds: 0,
         routes: 0,
     },
+    near: NO_SEARCH,
 };
 
 /// Bound, best, steps left and open leaves after at most three steps, each at the youngest or at the oldest open leaf.
@@ -43,7 +44,7 @@ fn searched(
     pivots: u32,
 ) -> Result<(u32, u32, u32, usize), AllocError> {
     let mut columns = VecColumns::new(alloc);
-    let mut search = Search::new(alloc, instance, 3, effort)?;
+    let mut search = Search::new(alloc, instance, 3, None, effort)?;
     for _ in 0..3 {
         let len = search.open_len();
         if search.left() == 0 || search.bound() >= search.best() || len == 0 {

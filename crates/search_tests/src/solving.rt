@@ -19,7 +19,7 @@ fn is_bare(tree: &Tree) -> bool {
 fn hardly_overlapping_shifts_are_split_once(rt: HostRuntime) -> Result<(), Fail> {
     let instance = hardly_overlapping(rt.alloc(), 480)?;
     let mut columns = VecColumns::new(rt.alloc());
-    let outcome = solve(rt.alloc(), &instance, 3, &mut columns, DAY_EFFORT)?;
+    let outcome = solve(rt.alloc(), &instance, 3, None, &mut columns, DAY_EFFORT)?;
     assert_eq!(rt; (outcome.bound, unassigned(&outcome.plan)), (1, 1));
     assert_eq!(rt; (outcome.tree.splits(), outcome.causes.len()), (1, 1));
     Ok(())
@@ -29,7 +29,7 @@ fn hardly_overlapping_shifts_are_split_once(rt: HostRuntime) -> Result<(), Fail>
 fn without_steps_the_root_stays_open(rt: HostRuntime) -> Result<(), Fail> {
     let instance = hardly_overlapping(rt.alloc(), 480)?;
     let mut columns = VecColumns::new(rt.alloc());
-    let outcome = solve(rt.alloc(), &instance, 0, &mut columns, DAY_EFFORT)?;
+    let outcome = solve(rt.alloc(), &instance, 0, None, &mut columns, DAY_EFFORT)?;
     assert_eq!(rt; (outcome.bound, unassigned(&outcome.plan)), (0, 1));
     assert_eq!(rt; (outcome.tree.len(), is_bare(&outcome.tree)), (1, false));
     Ok(())
@@ -39,7 +39,7 @@ fn without_steps_the_root_stays_open(rt: HostRuntime) -> Result<(), Fail> {
 fn where_all_is_assigned_the_root_is_bare(rt: HostRuntime) -> Result<(), Fail> {
     let instance = far_gates(rt.alloc())?;
     let mut columns = VecColumns::new(rt.alloc());
-    let outcome = solve(rt.alloc(), &instance, 3, &mut columns, DAY_EFFORT)?;
+    let outcome = solve(rt.alloc(), &instance, 3, None, &mut columns, DAY_EFFORT)?;
     assert_eq!(rt; (outcome.bound, unassigned(&outcome.plan)), (0, 0));
     assert!(rt; is_bare(&outcome.tree) && outcome.causes.is_empty());
     Ok(())

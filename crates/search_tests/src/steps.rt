@@ -39,7 +39,7 @@ fn all_decided(alloc: Global) -> Result<Instance, FixtureFault> {
 fn a_step_on_a_decided_node_closes_it(rt: HostRuntime) -> Result<(), Fail> {
     let instance = all_decided(rt.alloc())?;
     let mut columns = VecColumns::new(rt.alloc());
-    let mut search = Search::new(rt.alloc(), &instance, 3, NO_ROUNDS)?;
+    let mut search = Search::new(rt.alloc(), &instance, 3, None, NO_ROUNDS)?;
     let start = Standing {
         open: 1,
         left: 3,
@@ -86,7 +86,7 @@ fn step_on(
 fn each_step_is_counted_and_no_bound_falls(rt: HostRuntime) -> Result<(), Fail> {
     let instance = hardly_overlapping(rt.alloc(), 480)?;
     let mut columns = VecColumns::new(rt.alloc());
-    let mut search = Search::new(rt.alloc(), &instance, 3, NO_ROUNDS)?;
+    let mut search = Search::new(rt.alloc(), &instance, 3, None, NO_ROUNDS)?;
     step_on(&rt, &mut search, &mut columns, 20_000)?;
     let outcome = search.close()?;
     same(&rt, &(outcome.bound, unassigned(&outcome.plan)), &(1, 1));

@@ -1,5 +1,5 @@
 -- the potentials of a team that hold, as the rows that are written of them
-use Rattle.std.proofs.Common.{◌≡◌, ◌<◌, ◌≤◌, ◌+◌, ◌-◌, ◌↔◌, ◌⊎◌, inl, inr, ℕ, zero, suc, Bool, true, false, [], ◌∷◌, List, map, get_or, ap, sym, refl, subst, ◌∙◌, arith}
+use Rattle.std.proofs.Common.{◌≡◌, ◌<◌, ◌≤◌, ◌+◌, ◌-◌, ◌⊎◌, inl, inr, ℕ, zero, suc, Bool, true, false, [], ◌∷◌, List, map, get_or, ap, sym, refl, subst, ◌∙◌, arith}
 use Rattle.std.specs.Prelude.{ℤ, pos, ◌≤ℤ◌, ◌+ℤ◌, FitsSigned, nat_lt, length}
 use Rattle.std.specs.Int.{w64}
 use Rattle.std.specs.List.{AllByRecursion, filter, range_with_len}
@@ -9,15 +9,11 @@ use Rattle.std.proofs.lemmas.List.FromFn.{get_or-map-range_with_len, length-map-
 use Rattle.crew_terms.specs.Instance.{task_of}
 use Rattle.crew_terms.specs.Leaf.{HoldsLocally, IsPrice, IsWorth}
 use Rattle.crew_terms.specs.Limits.{Limits, IsPermittedVisit, tasks_in}
-use Rattle.crew_terms.specs.Minutes.{IsMinuteOf, first_minute, minute_count, open_tasks}
-use Rattle.dossier_out.specs.Tables.{may_begin}
+use Rattle.crew_terms.specs.Minutes.{first_minute, minute_count, open_tasks}
+use Rattle.dossier_out.specs.Tables.{MinutesLaw, may_begin}
 use Rattle.dossier_terms.specs.Dossier.{AreRows, IsSigned, Potentials, beside, phi_in}
 use Rattle.squeeze_terms.specs.MinutePrices.{AreMinutePrices, MinutePrices, minute_price, price_place}
 use Rattle.sheet_write.specs.Teams.{IsTeamTable}
-
--- the minutes that are counted are those at which the team may begin the task
-abbrev pub MinutesLaw : Type 0
-MinutesLaw = (n : Limits) (k j t : ℕ) → IsPermittedVisit n k j t ↔ IsMinuteOf n k j t
 
 -- the potentials of task j at the minutes at which team k may begin it
 abbrev pub row_by : Limits → ℕ → (ℕ → ℕ → ℤ) → ℕ → List ℤ

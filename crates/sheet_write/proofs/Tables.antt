@@ -8,12 +8,13 @@ use Rattle.crew_terms.specs.Leaf.{HoldsLocally, IsWorth}
 use Rattle.crew_terms.specs.Limits.{Limits, IsPermittedVisit, teams_in}
 use Rattle.crew_terms.specs.Rules.{IsInstance}
 use Rattle.crew_terms.specs.declared.TheConstants.{MOST_PRICE}
+use Rattle.dossier_out.specs.Tables.{MinutesLaw}
 use Rattle.dossier_terms.specs.Dossier.{IsTable, Potentials, Tables, no_potentials}
 use Rattle.label_pricing.specs.Best.{IsBest}
 use Rattle.potentials.specs.Sums.{AreBoundedBy}
 use Rattle.squeeze_terms.specs.MinutePrices.{AreMinutePrices, MinutePrices, minute_price, price_place}
 use Rattle.sheet_write.specs.Teams.{AreTeamTables, IsTeamTable}
-use Rattle.sheet_write.proofs.Rows.{MinutesLaw, table_by, team_table}
+use Rattle.sheet_write.proofs.Rows.{table_by, team_table}
 
 -- by minute prices a visit earns at most 2,000,000 tasks, either way
 minutes_bounded : (i : Instance) (p : MinutePrices) → AreMinutePrices i p → AreBoundedBy (2 * MOST_PRICE) (minute_price i p)

@@ -5,6 +5,7 @@ use crate::answers::YES;
 use crate::asserts::{holds_at, same, same_at};
 use crate::days::{DAY, crlf_text};
 use crate::delays::{JOINT, late_input};
+use crate::squeezes::NO_TASK;
 use crew_cli::run::{Status, run};
 use crew_cli::steady::{run_in_memory, run_steady};
 use crew_fixtures::dossiers::{ONE_TASK, TOGETHER, WITH_POOL};
@@ -219,6 +220,30 @@ fn delays_in_pieces(rt: HostRuntime) -> Result<(), Fail> {
     // No read comes after the refusal.
     let refused = late_input(alloc, &[b"late B 5761"], JOINT)?;
     assert_tells(&rt, alloc, "delays", &refused, 1, 12)
+}
+
+#[test]
+fn sheets_in_pieces(rt: HostRuntime) -> Result<(), Fail> {
+    let alloc = rt.alloc();
+    let good = text_of(alloc, NO_TASK)?;
+    let both = joined(alloc, &[&good, &good])?;
+    let reads = reads_to_the_end(both.len(), 16);
+    assert_tells(&rt, alloc, "squeeze-check", &both, 16, reads)?;
+    let reads = reads_to_the_end(both.len(), 1);
+    assert_tells(&rt, alloc, "squeeze-check", &both, 1, reads)
+}
+
+#[test]
+fn a_refused_sheet_in_pieces(rt: HostRuntime) -> Result<(), Fail> {
+    let alloc = rt.alloc();
+    let front = text_of(alloc, &NO_TASK[..7])?;
+    let refused = joined(
+        alloc,
+        &[&text_of(alloc, NO_TASK)?, &front, b"worth 05\nend\n"],
+    )?;
+    // No read comes after the refusal.
+    let reads = reads_of(refused.len().saturating_sub(4), 16);
+    assert_tells(&rt, alloc, "squeeze-check", &refused, 16, reads)
 }
 
 /// The words of `crew check`.

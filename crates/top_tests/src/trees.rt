@@ -143,8 +143,8 @@ fn a_dossier_that_begins_behind_a_good_one(rt: HostRuntime) -> Result<(), Fail> 
     Ok(())
 }
 
-/// What is written for the first bytes of a dossier: that the line behind its whole lines is due.
-fn end_line(alloc: Global, front: &[u8]) -> Result<Vec<u8>, Fail> {
+/// What is written for the first bytes of a dossier or a sheet: that the line behind its whole lines is due.
+pub fn end_line(alloc: Global, front: &[u8]) -> Result<Vec<u8>, Fail> {
     let whole = front.iter().filter(|b| **b == b'\n').count();
     let text = format!(in alloc; "no {} End\n", whole.saturating_add(1))?;
     Ok(text.into_bytes())

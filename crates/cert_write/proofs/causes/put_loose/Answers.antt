@@ -2,16 +2,14 @@ use Rattle.std.proofs.Common.{◌≡◌, ◌++◌, ◌∷◌, [], ◌∙◌, ℕ
 use Rattle.std.specs.Int.{w128}
 use Rattle.std.specs.Prelude.{FitsSigned}
 use Rattle.std.proofs.lemmas.Int.{to_z-of_z}
-use Rattle.std.specs.List.{flat_map}
 use Rattle.std.proofs.lemmas.List.{length-map}
 use Rattle.std.proofs.lemmas.List.Concat.{flat_map-append}
 use Rattle.crew_terms.specs.Words.{Words, line_text}
 use Rattle.crew_io.specs.Chains.{puts_then, puts_same, puts_front}
-use Rattle.dossier_terms.specs.Causes.{Part}
 use Rattle.dossier_terms.specs.Lines.{loose_line, share_line, spare_line}
 use Rattle.cert_write.specs.Causes.{part_of}
 use Rattle.frac_master.specs.declared.shares.Share.{Share}
-use Rattle.cert_write.proofs.Texts.{front_of, front_1, text}
+use Rattle.dossier_out.specs.Texts.{front_of, front_1, text}
 use Rattle.cert_write.proofs.causes.put_loose.Goals as goal
 
 -- the text of a first line, of others and of a last one

@@ -5,7 +5,7 @@ use Rattle.std.proofs.lemmas.Int.{to_z-of_z}
 use Rattle.std.specs.Fmt.{decimal}
 use Rattle.crew_io.specs.Chains.{puts_nothing, puts_same, puts_more, puts_more_front, puts_all}
 use Rattle.line_out.specs.Parts.{next_word}
-use Rattle.cert_write.proofs.Texts.{of_mapped}
+use Rattle.dossier_out.specs.Texts.{of_mapped}
 use Rattle.cert_write.proofs.causes.put_open_parts.Goals as goal
 
 -- the word of one number

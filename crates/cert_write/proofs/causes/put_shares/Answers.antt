@@ -6,7 +6,7 @@ use Rattle.dossier_terms.specs.Causes.{Part}
 use Rattle.dossier_terms.specs.Lines.{share_line}
 use Rattle.cert_write.specs.Causes.{part_of}
 use Rattle.frac_master.specs.declared.shares.Share.{Share}
-use Rattle.cert_write.proofs.Texts.{of_mapped}
+use Rattle.dossier_out.specs.Texts.{of_mapped}
 use Rattle.cert_write.proofs.causes.put_shares.Goals as goal
 
 -- the line of one share

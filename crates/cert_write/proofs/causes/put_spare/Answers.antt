@@ -3,7 +3,7 @@ use Rattle.std.specs.Prelude.{codes}
 use Rattle.std.specs.Fmt.{decimal}
 use Rattle.crew_io.specs.Chains.{puts_then, puts_same, puts_front}
 use Rattle.line_out.specs.Lines.{line_parts}
-use Rattle.cert_write.proofs.Texts.{one_front_1, one_front_2}
+use Rattle.dossier_out.specs.Texts.{one_front_1, one_front_2}
 use Rattle.cert_write.proofs.causes.put_spare.Goals as goal
 
 pub returns-in_err-put_all : goal.returns-in_err-put_all

@@ -7,7 +7,7 @@ use Rattle.crew_terms.specs.Leaf.{Prices}
 use Rattle.crew_terms.specs.Ranges.{numbered}
 use Rattle.line_out.specs.Lines.{of_those}
 use Rattle.cert_write.specs.Leaves.{extra_words}
-use Rattle.cert_write.proofs.Texts.{below_range, text}
+use Rattle.dossier_out.specs.Texts.{below_range, text}
 use Rattle.cert_write.proofs.leaf.put_extras.Goals as goal
 
 -- the line of task j, if it has a required pair

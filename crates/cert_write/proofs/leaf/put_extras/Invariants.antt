@@ -4,7 +4,7 @@ use Rattle.crew_terms.specs.Limits.{has_required, tasks_in}
 use Rattle.crew_io.specs.Puts.{Puts}
 use Rattle.crew_io.specs.Chains.{fine}
 use Rattle.cert_write.specs.Leaves.{extra_words}
-use Rattle.cert_write.proofs.Texts.{text}
+use Rattle.dossier_out.specs.Texts.{text}
 use Rattle.cert_write.proofs.leaf.put_extras.Given as goal
 
 abbrev pub invariant-loop-j : goal.invariant-loop-j

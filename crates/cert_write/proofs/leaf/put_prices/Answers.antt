@@ -4,7 +4,7 @@ use Rattle.std.specs.Prelude.{ℤ, pos}
 use Rattle.std.specs.Fmt.{signed_decimal}
 use Rattle.crew_io.specs.Chains.{puts_nothing, puts_same, puts_more, puts_more_front, puts_all}
 use Rattle.line_out.specs.Parts.{next_word}
-use Rattle.cert_write.proofs.Texts.{of_mapped}
+use Rattle.dossier_out.specs.Texts.{of_mapped}
 use Rattle.cert_write.proofs.leaf.put_prices.Goals as goal
 
 -- the word of one price

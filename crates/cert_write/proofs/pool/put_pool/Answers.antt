@@ -2,7 +2,7 @@ use Rattle.std.proofs.Common.{length, map, ap}
 use Rattle.crew_io.specs.Chains.{puts_then, puts_front, puts_same, first_front}
 use Rattle.crew_terms.specs.Words.{line_text}
 use Rattle.dossier_terms.specs.Lines.{pool_line, route_line}
-use Rattle.cert_write.proofs.Texts.{text}
+use Rattle.dossier_out.specs.Texts.{text}
 use Rattle.cert_write.proofs.pool.put_pool.Goals as goal
 
 pub returns-in_err-put_line : goal.returns-in_err-put_line

@@ -5,7 +5,7 @@ use Rattle.std.specs.List.{flat_map}
 use Rattle.crew_io.specs.Chains.{puts_then, puts_same, puts_front}
 use Rattle.dossier_terms.specs.Lines.{visit_words}
 use Rattle.line_out.specs.Parts.{next_word, part_word}
-use Rattle.cert_write.proofs.Texts.{line_of_two, two_front_1, two_front_2, two_front_3}
+use Rattle.dossier_out.specs.Texts.{line_of_two, two_front_1, two_front_2, two_front_3}
 use Rattle.cert_write.proofs.pool.put_route.Goals as goal
 
 pub returns-in_err-put_all : goal.returns-in_err-put_all

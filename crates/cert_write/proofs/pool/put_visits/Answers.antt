@@ -5,7 +5,7 @@ use Rattle.crew_terms.specs.declared.Visit.{Visit}
 use Rattle.crew_laws.specs.Visits.{visit}
 use Rattle.dossier_terms.specs.Lines.{visit_words}
 use Rattle.line_out.specs.Parts.{next_word}
-use Rattle.cert_write.proofs.Texts.{of_lists}
+use Rattle.dossier_out.specs.Texts.{of_lists}
 use Rattle.cert_write.proofs.pool.put_visits.Goals as goal
 
 -- the words of one visit

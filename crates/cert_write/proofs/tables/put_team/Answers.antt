@@ -1,11 +1,11 @@
 use Rattle.std.proofs.Common.{ap, ◌∙◌, w64}
 use Rattle.std.proofs.lemmas.Int.{to_z-of_z}
 use Rattle.crew_terms.specs.Leaf.{earned}
-use Rattle.cert_write.specs.Steps.{table_in}
+use Rattle.dossier_out.specs.Steps.{table_in}
 use Rattle.crew_io.specs.Chains.{puts_same}
-use Rattle.cert_write.specs.Tables.{team_lines}
+use Rattle.dossier_out.specs.Tables.{team_lines}
 use Rattle.cert_write.proofs.TeamTables.{table_is}
-use Rattle.cert_write.proofs.Texts.{text}
+use Rattle.dossier_out.specs.Texts.{text}
 use Rattle.cert_write.proofs.tables.put_team.Goals as goal
 
 pub returns-clause-puts : goal.returns-clause-puts

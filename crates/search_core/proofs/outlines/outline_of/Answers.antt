@@ -1,22 +1,19 @@
-use Rattle.std.proofs.Common.{◌≡◌, ◌≤◌, ◌<◌, ◌+◌, ◌*◌, ◌++◌, ◌∷◌, ◌∙◌, [], ℕ, List, length, map, ap, sym, subst, refl, arith, rules}
-use Rattle.std.specs.Prelude.{All, Some}
+use Rattle.std.proofs.Common.{◌≡◌, ◌<◌, ◌++◌, ◌∷◌, ◌∙◌, [], ℕ, List, length, ap, sym, subst, arith, rules}
+use Rattle.std.specs.Prelude.{All}
 use Rattle.std.proofs.lemmas.Grind.{common_steps}
-use Rattle.std.proofs.lemmas.List.{append-nil}
 use Rattle.std.proofs.lemmas.List.Elements.{All-append, All-push}
 use Rattle.branch_tree.specs.Trees.{preorder}
 use Rattle.branch_tree.specs.declared.tree.Node.{Node as OutNode}
-use Rattle.crew_terms.specs.Branches.{splits}
 use Rattle.crew_terms.specs.Leaf.{Prices}
-use Rattle.crew_terms.specs.declared.Side.{Side}
 use Rattle.search_tree.specs.Numbers.{HasNumber}
 use Rattle.search_terms.specs.Earned.{Spent}
-use Rattle.search_terms.specs.SearchTree.{SearchTree, SplitCause}
+use Rattle.search_terms.specs.SearchTree.{SplitCause}
 use Rattle.search_tree.specs.declared.nodes.Content.{Content}
 use Rattle.search_tree.specs.declared.nodes.Node.{Node}
-use Rattle.search_tree.specs.Numbered.{child_of, grown, node_of, subtree}
+use Rattle.search_tree.specs.Numbered.{grown, node_of, subtree}
 use Rattle.search_core.specs.Outline.{outline, price_at}
 use Rattle.search_core.specs.Visited.{HasPricesOf, cause_in, node_in}
-use Rattle.search_core.proofs.Walking.{all_put, cause_known, causes_due, causes_kept, due_known, fewer_left, has_children, last_due, nodes_count, nodes_due, nodes_kept}
+use Rattle.search_core.proofs.Walking.{all_put, cause_known, causes_kept, due_known, fewer_left, has_children, last_due, nodes_count, nodes_kept}
 use Rattle.search_core.proofs.outlines.outline_of.Goals as goal
 
 abbrev spent : SplitCause

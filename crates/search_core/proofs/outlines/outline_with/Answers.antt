@@ -1,4 +1,4 @@
-use Rattle.std.proofs.Common.{◌≡◌, ◌∙◌, ◌∷◌, [], List, ap}
+use Rattle.std.proofs.Common.{◌∙◌, ◌∷◌, [], ap}
 use Rattle.branch_tree.specs.declared.tree.LeafState.TheVariants as states
 use Rattle.branch_tree.specs.declared.tree.Node.{Node as OutNode}
 use Rattle.crew_terms.specs.Branches.{LeafNode}

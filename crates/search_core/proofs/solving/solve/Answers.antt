@@ -1,5 +1,5 @@
 use Rattle.std.proofs.Common.{◌∙◌, ◌++◌, [], List, Result, Ok, Err, ap, sym, subst, arith, rules, append_assoc}
-use Rattle.std.specs.Prelude.{IfOk}
+use Rattle.std.specs.Prelude.{IfOk, option_copied}
 use Rattle.std.proofs.lemmas.Grind.{common_steps}
 use Rattle.std.proofs.lemmas.List.{append-nil}
 use Rattle.crew_terms.specs.Instance.{Instance}
@@ -14,12 +14,18 @@ use Rattle.search_terms.specs.Caused.{AreLooseShown}
 use Rattle.search_terms.specs.Search.{Goes, IsSearchRun, IsSearchStep, Starts}
 use Rattle.search_terms.specs.SearchTree.{SearchTree}
 use Rattle.search_terms.specs.declared.TheConstants.{PIVOTS}
+use Rattle.plan_again.specs.Stays.{StaysOrBetters}
+use Rattle.search_core.proofs.NearPlans.{step_begun}
 use Rattle.search_core.proofs.Showing.{start_shown}
 use Rattle.search_core.proofs.solving.solve.Goals as goal
 
 ok_both : {X E : Type 0} {A B C : X → Type 0} (r : Result X E) → ((x : X) → A x → B x → C x) → IfOk r A → IfOk r B → IfOk r C
 ok_both (Ok x) f a b = f x a b
 ok_both (Err e) f a b = tt
+
+ok_then : {X E : Type 0} {A C : X → Type 0} (r : Result X E) → ((x : X) → A x → C x) → IfOk r A → IfOk r C
+ok_then (Ok x) f a = f x a
+ok_then (Err e) f a = tt
 
 pub loop-key-init : goal.loop-key-init
 loop-key-init g c = record {
@@ -33,6 +39,7 @@ loop-key-init g c = record {
   priced = λ rest. subst (λ (t : SearchTree). AreLooseShown (root_limits c.in_ok-search.search.instance) t)
       (sym (c.in_ok-search.ensures.start (g.C.Columns.columns c.args.columns.now ++ rest)).tree) tt;
   shown = start_shown (g.C.Columns.columns c.args.columns.now) c.in_ok-search.search (zero_prices (root_limits c.args.instance.now)) (c.in_ok-search.ensures.start []).tree;
+  stays = c.in_ok-search.ensures.stays;
   grown = record { added = []; all = sym (append-nil (g.C.Columns.columns c.args.columns.now)) };
 }
 
@@ -61,6 +68,7 @@ loop-key-preserved g c =
       instance = step.instance ∙ inv.instance;
       shown = step.shown inv.shown;
       priced = step.priced inv.priced;
+      stays = step_begun s.instance (option_copied c.args.begin) s.plan t.plan (step.step []).plan inv.stays;
       grown = record {
         added = inv.grown.added ++ more.added;
         all = more.all ∙ ap (λ (xs : List Route). xs ++ more.added) inv.grown.all
@@ -86,3 +94,11 @@ returns-clause-outcome g c =
       loose = subst (λ (cs : List Route). AreLooseShown (root_limits s.instance) (state_of cs s).tree) (append-nil pool) (inv.priced []);
       done = done;
     }) (c.close.ensures.outcome pool) (c.close.ensures.shown pool inv.shown))
+
+pub returns-clause-stays : goal.returns-clause-stays
+returns-clause-stays g c =
+    let inv = c.loop-key.invariant in
+    let s = c.loop-key.search in
+    let pool = g.C.Columns.columns c.loop-key.columns in
+    ok_then c.close.result (λ (o : Outcome) (is : IsOutcome s.instance pool (state_of pool s) o).
+    subst (StaysOrBetters (option_copied c.args.begin)) (sym is.plan) inv.stays) (c.close.ensures.outcome pool)

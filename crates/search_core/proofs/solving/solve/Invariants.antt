@@ -1,5 +1,7 @@
 use Rattle.std.proofs.Common.{◌≡◌, List}
+use Rattle.std.specs.Prelude.{option_copied}
 use Rattle.crew_terms.specs.Limits.{Route}
+use Rattle.plan_again.specs.Stays.{StaysOrBetters}
 use Rattle.search_tree.specs.Aged.{leaves_of}
 use Rattle.search_core.specs.Searching.{state_of}
 use Rattle.search_core.specs.Shown.{AreLoosePriced, AreShown}
@@ -16,6 +18,7 @@ invariant-loop-key g l = record {
   instance : l.search.instance ≡ l.instance;
   priced : AreLoosePriced (g.C.Columns.columns l.columns) l.search;
   shown : AreShown (g.C.Columns.columns l.columns) l.search;
+  stays : StaysOrBetters (option_copied l.initial.begin) l.search.plan;
   grown : IsGrown (g.C.Columns.columns l.initial.columns) (g.C.Columns.columns l.columns);
 }
 

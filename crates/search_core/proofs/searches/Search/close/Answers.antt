@@ -17,7 +17,6 @@ use Rattle.search_core.specs.declared.causes.Outcome.{Outcome}
 use Rattle.search_terms.specs.Search.{IsBound, best}
 use Rattle.search_tree.specs.Numbered.{tree_of}
 use Rattle.search_core.specs.Outline.{handed_out, outline_with}
-use Rattle.search_core.specs.Visited.{HasPricesOf}
 use Rattle.search_core.proofs.HandingOut.{causes_held, same_splits}
 use Rattle.search_core.proofs.Showing.{shown_outline}
 use Rattle.search_core.proofs.searches.Search.close.Goals as goal

@@ -4,7 +4,9 @@ use Rattle.std.specs.Prelude.{FitsSigned}
 use Rattle.std.proofs.lemmas.Int.{to_z-of_z}
 use Rattle.crew_terms.specs.Instance.{Instance}
 use Rattle.crew_terms.specs.Leaf.{Prices, zero_prices}
+use Rattle.crew_terms.specs.Legal.{IsLegal, IsPacked}
 use Rattle.crew_terms.specs.Limits.{Limits, root_limits}
+use Rattle.crew_terms.specs.Plan.{Plan}
 use Rattle.search_tree.specs.States.{DecidesProved}
 use Rattle.search_tree.specs.Aged.{leaves_of}
 use Rattle.search_tree.specs.Keyed.{Keyed, keyed_root}
@@ -14,10 +16,13 @@ use Rattle.potentials.specs.Prices.{ArePricesOf}
 use Rattle.search_core.specs.Kept.{IsKeptSearch}
 use Rattle.search_core.specs.Searching.{Searching, state_of}
 use Rattle.search_terms.specs.BestFirst.{IsBoundIn}
-use Rattle.search_terms.specs.Search.{IsStart}
+use Rattle.search_terms.specs.Search.{IsKeepable, IsStart}
 use Rattle.search_core.proofs.Keeping.{same_search}
 use Rattle.search_core.proofs.Starting.{first_kept, first_search, root_leaves, starts}
 use Rattle.search_core.proofs.searches.Search.new.Goals as goal
+
+keepable : (i : Instance) (p : Plan) → IsLegal i p → IsPacked i p → IsKeepable i p
+keepable i p legal packed = record { legal = legal; packed = packed }
 
 pub invariant_of-result : goal.invariant_of-result
 invariant_of-result c =
@@ -44,7 +49,7 @@ invariant_of-result c =
     subst (λ (n : Limits). ArePricesOf n zeros) lim
     (subst (λ (p : Prices). ArePricesOf c.in_ok-limits.limits.limits p) zero c.in_ok-zero.ensures.prices) in
     let kept : IsKeptSearch (first_search I nodes plan key b zeros) =
-    first_kept I nodes key plan b c.in_ok-plan.ensures c.requires decides shape (c.numbers_stay.ensures.root 1 0 0 (omega arith)) in
+    first_kept I nodes key plan b (keepable I plan c.in_ok-plan.ensures.legal c.in_ok-plan.ensures.packed) c.requires.few decides shape (c.numbers_stay.ensures.root 1 0 0 (omega arith)) in
     record {
       search = subst IsKeptSearch (sym same) kept;
       root = lim ∙ ap (λ (i : Instance). root_limits i) (sym inst);
@@ -70,7 +75,7 @@ returns-clause-start c = λ columns.
     ∙ ap (λ (p : Prices). p ∷ []) (c.in_ok-of.ensures ∙ zero) in
     let same = same_search c.in_ok-limits.limits.limits.instance I nodes plan plan nodes nodes c.in_ok-keyed.keyed (keyed_root key 0 b) c.push.new.self.items (zeros ∷ [])
     c.new.result.items [] inst refl refl keyed items c.new.ensures.items in
-    subst (λ (s : Searching). IsStart I nodes (state_of columns s)) (sym same) (starts I nodes key plan b c.in_ok-plan.ensures columns)
+    subst (λ (s : Searching). IsStart I nodes (state_of columns s)) (sym same) (starts I nodes key plan b (keepable I plan c.in_ok-plan.ensures.legal c.in_ok-plan.ensures.packed) columns)
 
 pub returns-clause-root : goal.returns-clause-root
 returns-clause-root c =

@@ -1,8 +1,0 @@
-use Rattle.std.proofs.Common.{◌-◌}
-use Rattle.crew_io.specs.Puts.{Puts}
-use Rattle.crew_io.specs.Chains.{fine}
-use Rattle.cert_write.proofs.Runs.{runs_below, runs_text}
-use Rattle.cert_write.proofs.steps.put_runs.Given as goal
-
-abbrev pub invariant-loop-t : goal.invariant-loop-t
-invariant-loop-t g l = Puts g.K.Sink (runs_text (runs_below l.table l.j l.first (l.t - l.first))) l.fn.out l.out fine

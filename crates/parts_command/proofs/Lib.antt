@@ -1,0 +1,5 @@
+mod Said
+mod Orders
+mod Places
+mod Stops
+mod Refusals

@@ -1,0 +1,50 @@
+use Rattle.std.proofs.Common.{◌≡◌, ◌+◌, [], subst, sym, ◌∙◌}
+use Rattle.crew_io.specs.Draws.{reads_none, reads_then}
+use Rattle.crew_io.specs.Lines.{Advances}
+use Rattle.crew_io.specs.declared.lines.Progress.TheVariants.{Line}
+use Rattle.crew_terms.specs.Words.{words_of}
+use Rattle.dossier_terms.specs.Dossier.{Dossier}
+use Rattle.part_lines.specs.Faults.{IsCountFault}
+use Rattle.part_texts.specs.Lines.{count_words}
+use Rattle.parts_reader.specs.Input.{Fresh, InParts, PastDay}
+use Rattle.parts_reader.specs.Stages.{HaltsAt}
+use Rattle.parts_reader.proofs.Places.{goes_on, line_is, line_is_no_fault, no_is_no_fault, no_parts_yet, none_is_line, none_of, refuses, stops}
+use Rattle.parts_reader.proofs.Dossiers.{count_behind}
+use Rattle.parts_reader.proofs.line.count_parts.Goals as goal
+
+past_is_not_fresh : (day : Dossier) → PastDay day ≡ Fresh → ⊥
+past_is_not_fresh day e = cc
+
+pub returns-in-Some-clause-says : goal.returns-in-Some-clause-says
+returns-in-Some-clause-says g c = λ input done day p.
+    stops input done (PastDay day) c.args.reader.now c.advance-progress.new.self (g.S.Source.left c.args.src.now) (g.S.Source.left c.advance-progress.new.src) c.args.lines c.requires.limit p tt
+    c.advance-progress.result (c.advance-progress.ensures.steps.advances c.requires.going) c.in-Some.halt (sym c.halt_of.ensures ∙ c.in-Some.is)
+    (λ e _ _. past_is_not_fresh day e)
+
+pub returns-in-Ok-clause-says : goal.returns-in-Ok-clause-says
+returns-in-Ok-clause-says g c = λ input done day p.
+    let left = g.S.Source.left c.args.src.now in
+    let later = g.S.Source.left c.advance-progress.new.src in
+    let line : c.advance-progress.result ≡ Line = none_is_line (c.args.lines + 1) c.advance-progress.result (sym c.halt_of.ensures ∙ none_of c.halt_of.result c.in_default.not-Some) in
+    let a = subst (λ x. Advances c.args.reader.now left x c.advance-progress.new.self later) line (c.advance-progress.ensures.steps.advances c.requires.going) in
+    let k = c.in-Ok.parts in
+    let text = count_behind day k in
+    goes_on input done (PastDay day) c.args.reader.now c.advance-progress.new.self left later c.args.lines c.requires.limit p (count_words k) (InParts day k []) a
+    (line_is c.words_of_line.ensures.line c.advance-progress.new.self.line c.line.result.now (count_words k) c.line.ensures c.in-Ok.ensures.1)
+    text.0 text.1 (no_parts_yet day k p.read.begins c.in-Ok.ensures.0)
+
+pub returns-clause-says : goal.returns-clause-says
+returns-clause-says g c = λ input done day p.
+    let left = g.S.Source.left c.args.src.now in
+    let later = g.S.Source.left c.advance-progress.new.src in
+    let line : c.advance-progress.result ≡ Line = none_is_line (c.args.lines + 1) c.advance-progress.result (sym c.halt_of.ensures ∙ none_of c.halt_of.result c.in_default.not-Some) in
+    let a = subst (λ x. Advances c.args.reader.now left x c.advance-progress.new.self later) line (c.advance-progress.ensures.steps.advances c.requires.going) in
+    let how = subst (λ bytes. IsCountFault (words_of bytes) c.in-Err.fault) c.line.ensures c.in-Err.ensures in
+    subst (HaltsAt input done later) (sym c.halt_for.ensures)
+    (refuses input done (PastDay day) c.args.reader.now c.advance-progress.new.self left later c.args.lines c.requires.limit p c.in-Err.fault a how)
+
+pub returns-clause-tells : goal.returns-clause-tells
+returns-clause-tells g c =
+    let line : c.advance-progress.result ≡ Line = none_is_line (c.args.lines + 1) c.advance-progress.result (sym c.halt_of.ensures ∙ none_of c.halt_of.result c.in_default.not-Some) in
+    reads_then g.S.Source _ _ _ (λ fault. fault) (reads_none g.S.Source c.args.src.now) (c.advance-progress.ensures.tells c.requires.going)
+    (λ e. absurd (no_is_no_fault c.halt_for.result _ _ c.halt_for.ensures e)) (λ e. absurd (line_is_no_fault c.advance-progress.result line e))
