@@ -6,11 +6,14 @@ ghost use Rattle.std.specs.Prelude.{◌≡◌, ◌⊎◌, ℕ, List, [], Option,
 ghost use Rattle.crew_terms.specs.Plan.{Plan};
 ghost use Rattle.day_terms.specs.Rounds.{Round};
 ghost use Rattle.day_commands.specs.Refused.{refused_line};
-ghost use Rattle.day_commands.specs.Rounds.{ComesTo, DayStop, change_stop};
+ghost use Rattle.day_commands.specs.Outputs.{ProvedOf, TextsOf};
+ghost use Rattle.day_commands.specs.Rounds.{ComesTo, DayStop, IsRefusedOutput, SaysRounds, change_stop};
+ghost use Rattle.day_commands.specs.declared.ended.DayOutput.TheVariants.{Instances};
+ghost use Rattle.day_explain.specs.Says.{SaysFine, SaysWrong};
 ghost use Rattle.day_explain.specs.Text.{refused_text};
 ghost use Rattle.day_faults.specs.Days.{StopsFirst};
 ghost use Rattle.day_faults.specs.declared.stops.Stop.{Stop};
-ghost use Rattle.fault_laws.specs.Told.{StopsForWork, day_stop};
+ghost use Rattle.fault_laws.specs.Told.{EndAlike, StopsForWork, day_stop};
 
 use day_commands::laws::{one_coming, state_takes_entries};
 use day_records::one_reading;
@@ -49,3 +52,18 @@ pub fn one_line_is_told()
     ensures { (stop : Stop) → refused_text stop.number stop.cause
         ≡ refused_line (day_stop stop).number (day_stop stop).cause }
 {}
+
+/// What `explain` tells of a day with faults ends with the line that `apply` writes of it. `apply` refuses no day that has none, and
+/// takes none to its end that has some.
+pub fn explain_tells_what_apply_writes()
+    ensures wrong { (input explained applied : List ℕ) → SaysWrong input explained
+        → IsRefusedOutput change_stop (TextsOf Instances) input applied
+        → EndAlike explained applied }
+    ensures fine { (input explained applied : List ℕ) → SaysFine input explained
+        → IsRefusedOutput change_stop (TextsOf Instances) input applied → ⊥ }
+    ensures taken { (input explained applied : List ℕ) → SaysWrong input explained
+        → SaysRounds change_stop (ProvedOf Instances) input applied → ⊥ }
+{
+    apply_stops_at_what_is_told();
+    one_line_is_told();
+}
