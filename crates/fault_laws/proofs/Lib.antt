@@ -1,0 +1,3 @@
+mod Free
+mod Stops
+mod Written
