@@ -2,7 +2,7 @@
 use crate::asserts::assert_told;
 use crate::bundles::{PART_A, PART_B, bundle};
 use crew_fixtures::dossiers::TWO_TASKS;
-use crew_fixtures::{joined, text_of, with_line};
+use crew_fixtures::{text_of, with_line};
 use dossier_commands::Ended;
 use std::test::Fail;
 
@@ -64,32 +64,35 @@ fn lines_between_dossiers(rt: HostRuntime) -> Result<(), Fail> {
         Ended::No,
         b"yes unassigned 0 bound 0 parts 1\nno 35 Shape\n",
     )?;
-    let text = joined(alloc, &[b"crew parts 01\n", &text_of(alloc, TWO_TASKS)?])?;
+    let mut text = b"crew parts 01\n".to_vec(alloc)?;
+    text.extend_from_slice(&text_of(alloc, TWO_TASKS)?)?;
     assert_told(&rt, rt.alloc(), text, Ended::No, b"no 1 Shape\n")?;
-    assert_told(
-        &rt,
-        rt.alloc(),
-        text_of(alloc, TWO_TASKS)?,
-        Ended::No,
-        b"no 1 Shape\n",
-    )
+    let text = text_of(alloc, TWO_TASKS)?;
+    assert_told(&rt, alloc, text, Ended::No, b"no 1 Shape\n")
 }
 
 #[test]
 fn an_input_that_is_cut_off(rt: HostRuntime) -> Result<(), Fail> {
     let alloc = rt.alloc();
     let text = bundle(alloc, TWO_TASKS, b"parts 1", &[PART_A])?;
-    let cases: [(usize, &[u8]); 6] = [
-        (0, b"no 1 End\n"),
-        (12, b"no 1 End\n"),
-        (13, b"no 2 End\n"),
-        (text.len() - 1, b"no 34 End\n"),
-        (text.len() - 4, b"no 34 End\n"),
-        (text.len() - 5, b"no 33 End\n"),
+    let fronts: [(&[u8], &[u8]); 3] = [
+        (b"", b"no 1 End\n"),
+        (b"crew parts 1", b"no 1 End\n"),
+        (b"crew parts 1\n", b"no 2 End\n"),
     ];
-    for (until, told) in cases {
-        let front = text.get(..until).ok_or("a front")?;
-        assert_told(&rt, rt.alloc(), front.to_vec(alloc)?, Ended::No, told)?;
+    for (front, told) in fronts {
+        let input = front.to_vec(alloc)?;
+        assert_told(&rt, alloc, input, Ended::No, told)?;
+    }
+    let backs: [(&[u8], &[u8]); 3] = [
+        (b"\n", b"no 34 End\n"),
+        (b"end\n", b"no 34 End\n"),
+        (b"\nend\n", b"no 33 End\n"),
+    ];
+    for (back, told) in backs {
+        let front = text.strip_suffix(back).ok_or("a front")?;
+        let input = front.to_vec(alloc)?;
+        assert_told(&rt, alloc, input, Ended::No, told)?;
     }
     // A line of a dossier that is refused has its number in the whole input.
     let mut text = bundle(alloc, TWO_TASKS, b"parts 1", &[])?;
