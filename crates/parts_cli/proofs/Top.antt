@@ -1,5 +1,5 @@
 -- what the statuses of a call say
-use Rattle.std.proofs.Common.{◌≡◌, inl, inr, List, ℕ, Option, None, Some, Result, Ok, Err, refl}
+use Rattle.std.proofs.Common.{inl, inr, List, ℕ, Option, None, Some, Result, Ok, Err, refl}
 use Rattle.std.specs.Prelude.{IfSome}
 use Rattle.crew_io.specs.Bytes.{OfBytes}
 use Rattle.crew_io.specs.Puts.{TellsWrites}
