@@ -1,0 +1,28 @@
+-- how a call ended
+use Rattle.std.specs.Prelude.{ℕ, Bool, true, false, Result, Ok, Err}
+use Rattle.dossier_commands.specs.declared.read.Ended.{Ended}
+use Rattle.dossier_commands.specs.declared.read.Ended.TheVariants as bundles
+use Rattle.parts_cli.specs.declared.status.Status.{Status}
+use Rattle.parts_cli.specs.declared.status.Status.TheVariants.{Done, No, Words, ReadFault, WriteFault, Memory}
+
+-- the exit status of the program
+abbrev pub number_of : Status → ℕ
+number_of Done = 0
+number_of No = 1
+number_of Words = 2
+number_of ReadFault = 4
+number_of WriteFault = 5
+number_of Memory = 6
+
+-- the work was done to the end of the input
+abbrev pub is_done : Status → Bool
+is_done Done = true
+is_done _ = false
+
+-- the status of a check of bundles that ended so, or for which memory was wanting
+abbrev pub bundles_status : {E : Type 0} → Result Ended E → Status
+bundles_status (Ok bundles.Done) = Done
+bundles_status (Ok bundles.No) = No
+bundles_status (Ok bundles.ReadFault) = ReadFault
+bundles_status (Ok bundles.WriteFault) = WriteFault
+bundles_status (Err fault) = Memory

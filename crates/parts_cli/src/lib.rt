@@ -1,0 +1,5 @@
+// The top call of the program for days in parts.
+#![tactic(auto)]
+
+pub mod run;
+pub mod status;
