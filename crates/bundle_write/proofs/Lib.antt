@@ -1,0 +1,4 @@
+mod Planned
+mod Written
+mod Division
+mod Begun
