@@ -1,5 +1,5 @@
 -- the commands, and what each status says
-use Rattle.std.specs.Prelude.{◌≡◌, ◌⊎◌, ℕ, Bool, true, false, List, [], ◌∷◌, All, Option, Unit, codes, IfSome, IsTrue}
+use Rattle.std.specs.Prelude.{◌≡◌, ◌⊎◌, ℕ, Bool, true, false, List, [], ◌∷◌, All, Option, codes, IfSome, IsTrue}
 use Rattle.crew_io.specs.Io.{HasEnded, Rose}
 use Rattle.crew_io.specs.Bytes.{OfBytes}
 use Rattle.crew_io.specs.Puts.{TellsWrites}
