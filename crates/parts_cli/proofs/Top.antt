@@ -8,10 +8,14 @@ use Rattle.crew_io.specs.Chains.{writes_none, writes_then}
 use Rattle.crew_io.specs.declared.sink.Sink.{Ghosts as SinkTells}
 use Rattle.crew_io.specs.declared.source.Source.{Ghosts as SourceTells}
 use Rattle.dossier_commands.specs.declared.read.Ended.{Ended}
-use Rattle.dossier_commands.specs.declared.read.Ended.TheVariants as bundles
+use Rattle.dossier_commands.specs.declared.read.Ended.TheVariants as check
+use Rattle.bundle_command.specs.Says.{WritesBundles, SaysNo as SaysNotWritten}
+use Rattle.bundle_command.specs.declared.command.BundlesEnded.{BundlesEnded}
+use Rattle.bundle_command.specs.declared.command.BundlesEnded.TheVariants as bundles
 use Rattle.parts_command.specs.Says.{ReadsBundles, SaysNo}
-use Rattle.parts_cli.specs.Run.{Answers, AreSomeBundles, of_check}
-use Rattle.parts_cli.specs.Status.{bundles_status}
+use Rattle.parts_cli.specs.Run.{Answers, AreDossiers, AreSomeBundles, of_check, of_parts}
+use Rattle.parts_cli.specs.Status.{bundles_status, check_status}
+use Rattle.parts_cli.specs.declared.words.Parts.{Parts as PartsWords}
 
 pub if_some : {X : Type 0} (o : Option X) (P : X → Type 0) → ((x : X) → P x) → IfSome o P
 if_some None P h = tt
@@ -22,6 +26,10 @@ refused_is_no_bundles : (left got later : Option (List ℕ)) (A B C : Type 0) �
 refused_is_no_bundles None got later A B C says = tt
 refused_is_no_bundles (Some input) got later A B C says = λ fine a b. absurd (says.2.not_accepted fine.0 fine.1)
 
+no_dossiers_is_not_fine : (nodes : ℕ) (left got later : Option (List ℕ)) (A B C : Type 0) → OfBytes left got later (SaysNotWritten nodes) → IfSome left (λ input. AreDossiers input → A → B → C)
+no_dossiers_is_not_fine nodes None got later A B C says = tt
+no_dossiers_is_not_fine nodes (Some input) got later A B C says = λ fine a b. absurd (says.2.not_accepted fine.0 fine.1)
+
 module _ {S K : Type 0} (source : SourceTells S) (sink : SinkTells K) (src later : S) (out new : K) where
   -- the same fault by another name
   tells_read : {A B : Type 0} → TellsReads source src later A → (B → A) → (A → B) → TellsReads source src later B
@@ -31,8 +39,8 @@ module _ {S K : Type 0} (source : SourceTells S) (sink : SinkTells K) (src later
   tells_write t to from = writes_then sink out out new (λ fault. fault) (writes_none sink out) t to from
 
   -- the command `parts-check` answers by the status of its end
-  pub check_answers : {E : Type 0} (ended : Result Ended E) → ReadsBundles source sink src later out new ended → Answers source sink of_check src later out new (bundles_status ended)
-  check_answers (Ok bundles.Done) r = record {
+  pub check_answers : {E : Type 0} (ended : Result Ended E) → ReadsBundles source sink src later out new ended → Answers source sink of_check src later out new (check_status ended)
+  check_answers (Ok check.Done) r = record {
     says = r.says;
     part = r.front;
     ends = refl;
@@ -42,7 +50,7 @@ module _ {S K : Type 0} (source : SourceTells S) (sink : SinkTells K) (src later
     writes = tells_write r.writes (λ e. absurd (cc)) (λ e. absurd (cc));
     complete = if_some (source.left src) _ (λ input fine nr nw. inl refl);
   }
-  check_answers (Ok bundles.No) r = record {
+  check_answers (Ok check.No) r = record {
     says = r.says;
     part = r.front;
     ends = refl;
@@ -52,7 +60,7 @@ module _ {S K : Type 0} (source : SourceTells S) (sink : SinkTells K) (src later
     writes = tells_write r.writes (λ e. absurd (cc)) (λ e. absurd (cc));
     complete = refused_is_no_bundles (source.left src) (sink.got out) (sink.got new) _ _ _ r.says;
   }
-  check_answers (Ok bundles.ReadFault) r = record {
+  check_answers (Ok check.ReadFault) r = record {
     says = r.says;
     part = r.front;
     ends = refl;
@@ -62,7 +70,7 @@ module _ {S K : Type 0} (source : SourceTells S) (sink : SinkTells K) (src later
     writes = tells_write r.writes (λ e. absurd (cc)) (λ e. absurd (cc));
     complete = if_some (source.left src) _ (λ input fine nr nw. absurd (nr (r.reads.cause refl)));
   }
-  check_answers (Ok bundles.WriteFault) r = record {
+  check_answers (Ok check.WriteFault) r = record {
     says = r.says;
     part = r.front;
     ends = refl;
@@ -74,6 +82,70 @@ module _ {S K : Type 0} (source : SourceTells S) (sink : SinkTells K) (src later
   }
   check_answers (Err fault) r = record {
     says = r.memory;
+    part = r.front;
+    ends = refl;
+    words = λ e. absurd (cc);
+    ended = λ e. absurd (cc);
+    reads = tells_read r.reads (λ e. absurd (cc)) (λ e. absurd (cc));
+    writes = tells_write r.writes (λ e. absurd (cc)) (λ e. absurd (cc));
+    complete = if_some (source.left src) _ (λ input fine nr nw. inr refl);
+  }
+
+  -- the command `parts` answers by the status of its end
+  pub parts_answer : {E : Type 0} (p : PartsWords) (ended : Result BundlesEnded E) → WritesBundles source sink p.nodes src later out new ended
+      → Answers source sink (of_parts p) src later out new (bundles_status ended)
+  parts_answer p (Ok bundles.Proved) r = record {
+    says = r.says;
+    part = r.front;
+    ends = refl;
+    words = λ e. absurd (cc);
+    ended = λ _. r.ended tt;
+    reads = tells_read r.reads (λ e. absurd (cc)) (λ e. absurd (cc));
+    writes = tells_write r.writes (λ e. absurd (cc)) (λ e. absurd (cc));
+    complete = if_some (source.left src) _ (λ input fine nr nw. inl refl);
+  }
+  parts_answer p (Ok bundles.Open) r = record {
+    says = r.says;
+    part = r.front;
+    ends = refl;
+    words = λ e. absurd (cc);
+    ended = λ _. r.ended tt;
+    reads = tells_read r.reads (λ e. absurd (cc)) (λ e. absurd (cc));
+    writes = tells_write r.writes (λ e. absurd (cc)) (λ e. absurd (cc));
+    complete = if_some (source.left src) _ (λ input fine nr nw. inl refl);
+  }
+  parts_answer p (Ok bundles.No) r = record {
+    says = r.says;
+    part = r.front;
+    ends = refl;
+    words = λ e. absurd (cc);
+    ended = λ e. absurd (cc);
+    reads = tells_read r.reads (λ e. absurd (cc)) (λ e. absurd (cc));
+    writes = tells_write r.writes (λ e. absurd (cc)) (λ e. absurd (cc));
+    complete = no_dossiers_is_not_fine p.nodes (source.left src) (sink.got out) (sink.got new) _ _ _ r.says;
+  }
+  parts_answer p (Ok bundles.ReadFault) r = record {
+    says = r.says;
+    part = r.front;
+    ends = refl;
+    words = λ e. absurd (cc);
+    ended = λ e. absurd (cc);
+    reads = tells_read r.reads (λ _. refl) (λ _. refl);
+    writes = tells_write r.writes (λ e. absurd (cc)) (λ e. absurd (cc));
+    complete = if_some (source.left src) _ (λ input fine nr nw. absurd (nr (r.reads.cause refl)));
+  }
+  parts_answer p (Ok bundles.WriteFault) r = record {
+    says = r.says;
+    part = r.front;
+    ends = refl;
+    words = λ e. absurd (cc);
+    ended = λ e. absurd (cc);
+    reads = tells_read r.reads (λ e. absurd (cc)) (λ e. absurd (cc));
+    writes = tells_write r.writes (λ _. refl) (λ _. refl);
+    complete = if_some (source.left src) _ (λ input fine nr nw. absurd (nw (r.writes.cause refl)));
+  }
+  parts_answer p (Err fault) r = record {
+    says = r.front;
     part = r.front;
     ends = refl;
     words = λ e. absurd (cc);

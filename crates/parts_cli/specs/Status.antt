@@ -1,9 +1,11 @@
 -- how a call ended
 use Rattle.std.specs.Prelude.{ℕ, Bool, true, false, Result, Ok, Err}
 use Rattle.dossier_commands.specs.declared.read.Ended.{Ended}
-use Rattle.dossier_commands.specs.declared.read.Ended.TheVariants as bundles
+use Rattle.dossier_commands.specs.declared.read.Ended.TheVariants as check
+use Rattle.bundle_command.specs.declared.command.BundlesEnded.{BundlesEnded}
+use Rattle.bundle_command.specs.declared.command.BundlesEnded.TheVariants as bundles
 use Rattle.parts_cli.specs.declared.status.Status.{Status}
-use Rattle.parts_cli.specs.declared.status.Status.TheVariants.{Done, No, Words, ReadFault, WriteFault, Memory}
+use Rattle.parts_cli.specs.declared.status.Status.TheVariants.{Done, No, Words, ReadFault, WriteFault, Memory, Unproved}
 
 -- the exit status of the program
 abbrev pub number_of : Status → ℕ
@@ -13,15 +15,26 @@ number_of Words = 2
 number_of ReadFault = 4
 number_of WriteFault = 5
 number_of Memory = 6
+number_of Unproved = 7
 
 -- the work was done to the end of the input
 abbrev pub is_done : Status → Bool
 is_done Done = true
+is_done Unproved = true
 is_done _ = false
 
 -- the status of a check of bundles that ended so, or for which memory was wanting
-abbrev pub bundles_status : {E : Type 0} → Result Ended E → Status
-bundles_status (Ok bundles.Done) = Done
+abbrev pub check_status : {E : Type 0} → Result Ended E → Status
+check_status (Ok check.Done) = Done
+check_status (Ok check.No) = No
+check_status (Ok check.ReadFault) = ReadFault
+check_status (Ok check.WriteFault) = WriteFault
+check_status (Err fault) = Memory
+
+-- the status of a command that writes bundles and ended so, or for which memory was wanting
+abbrev pub bundles_status : {E : Type 0} → Result BundlesEnded E → Status
+bundles_status (Ok bundles.Proved) = Done
+bundles_status (Ok bundles.Open) = Unproved
 bundles_status (Ok bundles.No) = No
 bundles_status (Ok bundles.ReadFault) = ReadFault
 bundles_status (Ok bundles.WriteFault) = WriteFault

@@ -2,10 +2,12 @@
 ghost use Rattle.std.specs.Prelude.{◌≡◌, ◌≢◌, ◌≤◌, ◌↔◌, ◌⊎◌, ℕ, List, [], ◌∷◌, map, string_bytes, IfSome, IsTrue, MatchOption};
 ghost use Rattle.crew_io.specs.Io.{HasEnded, Rose};
 ghost use Rattle.crew_io.specs.Bytes.{OfBytes};
-ghost use Rattle.parts_cli.specs.Status.{bundles_status, is_done};
+ghost use Rattle.parts_cli.specs.Status.{bundles_status, check_status, is_done};
 ghost use Rattle.parts_cli.specs.Run.{Answers, AskFor, promises_of};
 
 pub use crate::status::Status;
+use crate::words::Parts;
+use bundle_command::{BundlesEnded, write_bundles};
 use crew_io::sink::Sink;
 use crew_io::source::Source;
 use dossier_commands::Ended;
@@ -17,6 +19,8 @@ use std::alloc::{AllocError, Global};
 pub enum Command {
     /// `parts-check`: read bundles, and write a yes line for each good one.
     PartsCheck,
+    /// `parts`: read dossiers, and write for each good one a bundle, whose parts are planned on their own.
+    Parts(Parts),
 }
 
 /// Whether the words are the one word.
@@ -36,13 +40,13 @@ impl Command {
         if asks_for(words, "parts-check") {
             return Some(Command::PartsCheck);
         }
-        None
+        Some(Command::Parts(Parts::of(words)?))
     }
 }
 
 /// The status of a check of bundles.
-fn of_bundles(ended: Result<Ended, AllocError>) -> Status
-    ensures { result ≡ bundles_status ended }
+fn of_check(ended: Result<Ended, AllocError>) -> Status
+    ensures { result ≡ check_status ended }
 {
     match ended {
         Ok(Ended::Done) => Status::Done,
@@ -53,18 +57,36 @@ fn of_bundles(ended: Result<Ended, AllocError>) -> Status
     }
 }
 
+/// The status of bundles that are written.
+fn of_bundles(ended: Result<BundlesEnded, AllocError>) -> Status
+    ensures { result ≡ bundles_status ended }
+{
+    match ended {
+        Ok(BundlesEnded::Proved) => Status::Done,
+        Ok(BundlesEnded::Open) => Status::Unproved,
+        Ok(BundlesEnded::No) => Status::No,
+        Ok(BundlesEnded::ReadFault) => Status::ReadFault,
+        Ok(BundlesEnded::WriteFault) => Status::WriteFault,
+        Err(AllocError) => Status::Memory,
+    }
+}
+
 /// Does what a command asks for, but for the flush.
 fn answer<S: Source, K: Sink>(alloc: Global, command: Command, src: &mut S, out: &mut K) -> Status
+    requires { (promises_of command).in_range }
     ensures { Answers S.Source K.Sink (promises_of command)
         src.old src.new out.old out.new result }
 {
     match command {
-        Command::PartsCheck => of_bundles(read_bundles(alloc, src, out)),
+        Command::PartsCheck => of_check(read_bundles(alloc, src, out)),
+        Command::Parts(parts) => of_bundles(write_bundles(alloc, parts.nodes, src, out)),
     }
 }
 
 /// Does what the words ask for. With `parts-check` it reads one bundle after another, and writes a line `yes` with its counts for
-/// each good one; at the first line that is refused it writes a line `no` with its number and the reason, and ends. Other words
+/// each good one; at the first line that is refused it writes a line `no` with its number and the reason, and ends. With `parts` it
+/// reads one dossier after another, divides the day of each good one into parts, plans each of these on its own with a budget of so
+/// many nodes, and writes a bundle, which `parts-check` says yes to, or the line `no` of the first line that is refused. Other words
 /// have no form: nothing is read or written.
 pub fn run<S: Source, K: Sink>(alloc: Global, words: &[String], src: &mut S, out: &mut K) -> Status
     // Each status tells what the input is and what was written, also at a fault.

@@ -17,6 +17,9 @@ pub enum Status {
     WriteFault,
     /// Memory was wanting.
     Memory,
+    /// The work was done to the end of the input, and some bundle does not show whether another plan leaves fewer tasks
+    /// unassigned.
+    Unproved,
 }
 
 impl Status {
@@ -31,6 +34,7 @@ impl Status {
             Status::ReadFault => 4,
             Status::WriteFault => 5,
             Status::Memory => 6,
+            Status::Unproved => 7,
         }
     }
 }

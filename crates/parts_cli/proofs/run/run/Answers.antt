@@ -4,7 +4,7 @@ use Rattle.crew_io.specs.Io.{Rose}
 use Rattle.parts_cli.specs.Run.{promises_of}
 use Rattle.parts_cli.specs.declared.run.Command.{Command}
 use Rattle.parts_cli.specs.declared.status.Status.{Status}
-use Rattle.parts_cli.specs.declared.status.Status.TheVariants.{Done, No, Words, ReadFault, WriteFault, Memory}
+use Rattle.parts_cli.specs.declared.status.Status.TheVariants.{Done, No, Words, ReadFault, WriteFault, Memory, Unproved}
 use Rattle.parts_cli.proofs.Asked.{one_command}
 use Rattle.parts_cli.proofs.Top.{if_some}
 use Rattle.parts_cli.proofs.run.run.Goals as goal
@@ -22,6 +22,7 @@ is_read_fault No told broken = absurd (broken (told (λ e. cc)))
 is_read_fault Words told broken = absurd (broken (told (λ e. cc)))
 is_read_fault WriteFault told broken = absurd (broken (told (λ e. cc)))
 is_read_fault Memory told broken = absurd (broken (told (λ e. cc)))
+is_read_fault Unproved told broken = absurd (broken (told (λ e. cc)))
 
 pub returns-in-Ok-clause-says : goal.returns-in-Ok-clause-says
 returns-in-Ok-clause-says g c = λ command asks.
