@@ -1,12 +1,12 @@
 // The command `parts`.
-ghost use Rattle.std.specs.Prelude.{◌≡◌, ◌≤◌, IsTrue};
+ghost use Rattle.std.specs.Prelude.{◌≡◌, ◌≤◌, ◌↔◌, IsTrue};
 ghost use Rattle.crew_terms.specs.declared.TheConstants.{LONGEST_INPUT, MOST_NODES};
 ghost use Rattle.crew_io.specs.Lines.{fresh_reader};
 ghost use Rattle.cert_checker.specs.Checked.{fresh_checker};
 ghost use Rattle.bundle_command.specs.Says.{WritesBundles, ended_where};
 
 use bundle_write::{PutFault, put_bundle};
-use cert_checker::Checker;
+use cert_checker::{Checker, Verdict};
 use crew_io::lines::LineReader;
 use crew_io::sink::{Sink, WriteFault};
 use crew_io::source::Source;
@@ -41,6 +41,13 @@ fn ended_where(proved: bool) -> BundlesEnded
     } else {
         BundlesEnded::Open
     }
+}
+
+/// Whether all was proved before, and this bound is what the dossier's plan leaves unassigned.
+fn is_still_proved(proved: bool, bound: u64, verdict: &Verdict) -> bool
+    ensures { IsTrue result ↔ (IsTrue proved × (bound ≡ verdict.now.unassigned)) }
+{
+    proved && bound == verdict.unassigned as u64
 }
 
 /// Reads one dossier after another, divides its day into parts, plans each on its own by a search with so many steps, and writes
@@ -84,7 +91,7 @@ fn write_all<S: Source, K: Sink>(
         match next_kept(reader, checker, src, &mut kept)? {
             Outcome::Yes(verdict) => {
                 match put_bundle(alloc, checker.instance(), &kept, verdict.bound, nodes, out) {
-                    Ok(bound) => proved = proved && bound == verdict.unassigned as u64,
+                    Ok(bound) => proved = is_still_proved(proved, bound, &verdict),
                     Err(PutFault::WriteFault) => return Ok(BundlesEnded::WriteFault),
                     Err(PutFault::OutOfMemory) => return Err(AllocError),
                 }
