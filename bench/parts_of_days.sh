@@ -1,11 +1,11 @@
 #!/usr/bin/env bash
 # What is proved where a day is parted: plans the days 0 to 19 of bench/airport_day of each size by `crew day`, gives each dossier
 # to `crew parts`, and its bundle to `crew parts-check`, which has to say yes. Prints for each day what the plan leaves unassigned;
-# of the dossier and of the bundle the bound, the splits (those of all parts together) and the seconds of a processor; the parts; and
-# whether the bundle's bound is what the plan leaves. At the end of a size it prints on how many days each of the two proves that.
-# With words: only these sizes, as 18x110. Of the environment NODES and PART_NODES change the budgets of a day and of each part (50
-# and 400), SECONDS_EACH the limit by the clock for each of the two commands (600), and SEEDS the days, as SEEDS='0 7'. CREW and PARTS tell the
-# paths of the programs crew and crew_parts, where they are built already.
+# the bound of the dossier and that of the bundle, each with its splits (of all parts together) and the seconds of a processor; how
+# many parts there are; and whether the bundle's bound is what the plan leaves. Behind the days of a size it prints on how many of
+# them each of the two bounds is. With words: only these sizes, as 18x110. Of the environment NODES and PART_NODES change the
+# budgets of a day and of each part (50 and 400), SECONDS_EACH the limit by the clock of each of the two commands (600), and SEEDS
+# the days, as SEEDS='0 7'. CREW and PARTS tell the paths of the programs crew and crew_parts, where they are built already.
 set -eu
 here=$(cd "$(dirname "${BASH_SOURCE[0]}")" && pwd)
 . "$here/timing.sh"
@@ -34,26 +34,26 @@ timed() {
   echo "${seconds##*$'\n'}"
 }
 
-# one NUMBER TEAMS TASKS: the number, unassigned, bound, splits and seconds of the dossier, and bound, parts, splits and seconds of the
-# bundle, which are not there where a command is cut off
+# one NUMBER TEAMS TASKS: the number; unassigned, bound, splits and seconds of the dossier; and bound, parts, splits and seconds of
+# the bundle. Those of a command that is cut off are not there
 one() {
-  local day_seconds parts_seconds yes
+  local day_seconds parts_seconds yes said splits
   "$here/airport_day" "$@" "$nodes" >"$at/day"
   day_seconds=$(timed "$at/day" "$at/dossier" "$crew" day) || { echo "$1" && return; }
   yes=$("$crew" check <"$at/dossier" | awk '{ print $3, $5, $7 }')
   parts_seconds=$(timed "$at/dossier" "$at/bundle" "$parts" parts "$part_nodes") || { echo "$1 $yes $day_seconds" && return; }
+  said=$("$parts" parts-check <"$at/bundle" | awk '$1 == "yes" { print $5, $7 }')
   # the first line `tree` is that of the day's own dossier
-  echo "$1 $yes $day_seconds" \
-    "$("$parts" parts-check <"$at/bundle" | awk '$1 == "yes" { print $5, $7; told = 1 } END { exit !told }' || echo refused refused)" \
-    "$(awk '$1 == "tree" && trees++ { splits += $2 } END { print splits + 0 }' "$at/bundle") $parts_seconds"
+  splits=$(awk '$1 == "tree" && trees++ { splits += $2 } END { print splits + 0 }' "$at/bundle")
+  echo "$1 $yes $day_seconds ${said:-refused refused} $splits $parts_seconds"
 }
 
 for size in "${sizes[@]}"; do
   for number in "${seeds[@]}"; do
     one "$number" "${size%x*}" "${size#*x}"
   done | awk -v size="$size" -v nodes="$nodes" -v part_nodes="$part_nodes" '
-    NF > 1 { alone += $2 == $3; unassigned += $2 }
-    NF == 9 && $6 != "refused" { proved += $2 == $6; told++; bound += $6; seconds += $9; if ($9 > slowest) slowest = $9 }
+    NF > 1 { alone += $2 == $3 }
+    NF == 9 && $6 != "refused" { proved += $2 == $6; told++; seconds += $9; if ($9 > slowest) slowest = $9 }
     { printf "%s day %d: ", size, $1
       if (NF == 1) print "day is cut off"
       else {
@@ -63,6 +63,6 @@ for size in "${sizes[@]}"; do
         else printf "bundle: bound %d, parts %d, splits %d, %.2f s; %s\n", $6, $7, $8, $9, $2 == $6 ? "proved" : "open"
       }
       fflush() }
-    END { printf "%s, %d nodes and %d for each part: of %d days %d proved by the dossier, %d by the bundle; %.2f s for parts each, at most %.2f s\n",
-      size, nodes, part_nodes, NR, alone, proved, told ? seconds / told : 0, slowest }'
+    END { printf "%s, %d nodes and %d for each part: %d of %d days proved by the dossier, %d by the bundle; %.2f s for parts each, at most %.2f s\n",
+      size, nodes, part_nodes, alone, NR, proved, told ? seconds / told : 0, slowest }'
 done
