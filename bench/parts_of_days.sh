@@ -48,12 +48,9 @@ one() {
   echo "$1 $yes $day_seconds ${said:-refused refused} $splits $parts_seconds"
 }
 
-for size in "${sizes[@]}"; do
-  for number in "${seeds[@]}"; do
-    one "$number" "${size%x*}" "${size#*x}"
-  done | awk -v size="$size" -v nodes="$nodes" -v part_nodes="$part_nodes" '
-    NF > 1 { alone += $2 == $3 }
-    NF == 9 && $6 != "refused" { proved += $2 == $6; told++; seconds += $9; if ($9 > slowest) slowest = $9 }
+# tell SIZE: such a line in words
+tell() {
+  awk -v size="$1" '
     { printf "%s day %d: ", size, $1
       if (NF == 1) print "day is cut off"
       else {
@@ -61,8 +58,17 @@ for size in "${sizes[@]}"; do
         if (NF == 5) print "parts is cut off"
         else if ($6 == "refused") print "the bundle is refused"
         else printf "bundle: bound %d, parts %d, splits %d, %.2f s; %s\n", $6, $7, $8, $9, $2 == $6 ? "proved" : "open"
-      }
-      fflush() }
+      } }'
+}
+
+for size in "${sizes[@]}"; do
+  : >"$at/lines"
+  for number in "${seeds[@]}"; do
+    one "$number" "${size%x*}" "${size#*x}" | tee -a "$at/lines" | tell "$size"
+  done
+  awk -v size="$size" -v nodes="$nodes" -v part_nodes="$part_nodes" '
+    NF > 1 { alone += $2 == $3 }
+    NF == 9 && $6 != "refused" { proved += $2 == $6; told++; seconds += $9; if ($9 > slowest) slowest = $9 }
     END { printf "%s, %d nodes and %d for each part: %d of %d days proved by the dossier, %d by the bundle; %.2f s for parts each, at most %.2f s\n",
-      size, nodes, part_nodes, alone, NR, proved, told ? seconds / told : 0, slowest }'
+      size, nodes, part_nodes, alone, NR, proved, told ? seconds / told : 0, slowest }' "$at/lines"
 done
