@@ -2,8 +2,9 @@
 # Times `crew check` against `wc -l` and `sha256sum` on the same bytes: a hundred megabytes and more of dossiers
 # with the greatest instance, of those of a small airport, and of the smallest there are; a leaf of the greatest day, with
 # all its potentials, three numbers for each task or one for each minute, in both forms; and a pool, a deep tree in form 1, and
-# one in form 2 each of whose splits shows a loose cause, of half the size and of the whole. With words: only these of them,
-# as leaf_runs; or trees_counted, which counts instructions of smaller such trees, and wants valgrind. CREW and OTHER: see timing.sh.
+# one in form 2 each of whose splits shows a loose cause, of half the size and of the whole; and forty megabytes of what `crew day`
+# writes of generated days and of a realistic one. With words: only these of them, as leaf_runs; or trees_counted, which counts
+# instructions of smaller such trees, and wants valgrind. CREW and OTHER: see timing.sh.
 set -eu
 here=$(cd "$(dirname "${BASH_SOURCE[0]}")" && pwd)
 . "$here/timing.sh"
@@ -141,10 +142,10 @@ deep_loose() {
   }'
 }
 
-# repeat FILE MANY: writes the file again and again to MANY, until it has a hundred megabytes
+# repeat FILE MANY [BYTES]: writes the file again and again to MANY, until it has so many bytes, or a hundred megabytes
 repeat() {
   cp "$1" "$2"
-  while [ "$(wc -c <"$2")" -lt 100000000 ]; do
+  while [ "$(wc -c <"$2")" -lt "${3:-100000000}" ]; do
     cat "$2" "$2" >"$made/twice"
     mv "$made/twice" "$2"
   done
@@ -201,6 +202,24 @@ trees_loose() {
     ratios "a tree of depth $many with loose causes, of 128 shares each" "$made/one" "$crew" check
   done
 }
+# day_of TITLE DAYS NUMBER TEAMS TASKS NODES: what `day` writes of such a day, which ends with status 7 where it leaves a gap
+day_of() {
+  local title=$1
+  shift
+  "$here/$1" "${@:2}" >"$made/day"
+  "$crew" day <"$made/day" >"$made/once" || [ $? = 7 ] || return 1
+  repeat "$made/once" "$made/many" 40000000
+  ratios "$title" "$made/many" "$crew" check
+}
+days() {
+  for number in 1 3; do
+    day_of "day $number of 20 teams and 120 tasks, budget 0" generated_day $number 20 120 0
+    day_of "day $number of 20 teams and 120 tasks, budget 1" generated_day $number 20 120 1
+  done
+  day_of 'day 3 of 40 teams and 300 tasks, budget 0' generated_day 3 40 300 0
+  for number in 1 3; do day_of "day $number of 64 teams and 400 tasks, budget 0" generated_day $number 64 400 0; done
+  day_of 'a realistic day of 18 teams and 110 tasks, budget 10' airport_day 1 18 110 10
+}
 # instructions of `crew check` in place of seconds, by valgrind: they are the same whatever else the machine does
 trees_counted() {
   local counted
@@ -214,6 +233,6 @@ trees_counted() {
 
 inputs=("$@")
 if [ $# -eq 0 ]; then
-  inputs=(dossiers_greatest dossiers_small dossiers_smallest leaf leaf_runs leaf_apart leaf_steps pools trees trees_loose)
+  inputs=(dossiers_greatest dossiers_small dossiers_smallest leaf leaf_runs leaf_apart leaf_steps pools trees trees_loose days)
 fi
 for input in "${inputs[@]}"; do "$input"; done

@@ -1,2 +1,3 @@
-pub mod Bundles
+pub mod Days
+pub mod Pieces
 pub mod Says

@@ -1,11 +1,13 @@
-// The command `parts`.
-ghost use Rattle.std.specs.Prelude.{◌≡◌, ◌≤◌, ◌↔◌, IsTrue};
-ghost use Rattle.crew_terms.specs.declared.TheConstants.{LONGEST_INPUT, MOST_NODES};
+// The commands that write a text for each good dossier of an input.
+ghost use Rattle.std.specs.Prelude.{◌≡◌, ◌↔◌, IsTrue};
+ghost use Rattle.crew_terms.specs.declared.TheConstants.{LONGEST_INPUT};
 ghost use Rattle.crew_io.specs.Lines.{fresh_reader};
-ghost use Rattle.cert_checker.specs.Checked.{fresh_checker};
-ghost use Rattle.bundle_command.specs.Says.{WritesBundles, ended_where};
+ghost use Rattle.cert_checker.specs.Checked.{IsEnded, fresh_checker};
+ghost use Rattle.bundle_write.specs.Pieces.{IsWithin};
+ghost use Rattle.bundle_command.specs.Days.{IsToldBy};
+ghost use Rattle.bundle_command.specs.Says.{WritesPieces, ended_where};
 
-use bundle_write::{PutFault, put_bundle};
+use bundle_write::{Day, Job, PutFault, put_piece};
 use cert_checker::{Checker, Verdict};
 use crew_io::lines::LineReader;
 use crew_io::sink::{Sink, WriteFault};
@@ -17,12 +19,12 @@ use dossier_commands::laws::refused_is_not_accepted;
 use dossier_commands::texts::put_no;
 use std::alloc::{AllocError, Global};
 
-/// How the writing of bundles ended.
+/// How the writing for dossiers ended.
 #[derive(Clone, Copy, Debug, PartialEq, Eq)]
-pub enum BundlesEnded {
-    /// The input is good dossiers, to its end, and each bundle proves that no legal plan leaves fewer tasks unassigned than its own.
+pub enum PiecesEnded {
+    /// The input is good dossiers, to its end, and nothing that was planned leaves open whether another plan does more tasks.
     Proved,
-    /// The input is good dossiers, to its end, and some bundle proves less.
+    /// The input is good dossiers, to its end, and something leaves that open.
     Open,
     /// A line is refused.
     No,
@@ -33,38 +35,50 @@ pub enum BundlesEnded {
 }
 
 /// How it ended where all dossiers are good.
-fn ended_where(proved: bool) -> BundlesEnded
+fn ended_where(proved: bool) -> PiecesEnded
     ensures { result ≡ ended_where proved }
 {
     if proved {
-        BundlesEnded::Proved
+        PiecesEnded::Proved
     } else {
-        BundlesEnded::Open
+        PiecesEnded::Open
     }
 }
 
-/// Whether all was proved before, and this bound is what the dossier's plan leaves unassigned.
-fn is_still_proved(proved: bool, bound: u64, verdict: &Verdict) -> bool
-    ensures { IsTrue result ↔ (IsTrue proved × (bound ≡ verdict.now.unassigned)) }
+/// Whether both hold.
+fn are_both(before: bool, now: bool) -> bool
+    ensures { IsTrue result ↔ (IsTrue before × IsTrue now) }
 {
-    proved && bound == verdict.unassigned as u64
+    before && now
 }
 
-/// Reads one dossier after another, divides its day into parts, plans each on its own by a search with so many steps, and writes
-/// the bundle of the dossier and those of its parts, each when it is done; or writes the no line of the first line that is refused.
-/// After a write fault or for want of memory a front of what was due was written.
-pub fn write_bundles<S: Source, K: Sink>(
+/// What is told of the dossier that a checker has read, of which this is said and which has this text.
+fn day_of<'a>(checker: &'a Checker, verdict: &Verdict, text: &'a [u8]) -> Day<'a>
+    requires { IsEnded checker.now.at }
+    ensures { IsToldBy checker.now verdict.now text.now result }
+{
+    Day {
+        instance: checker.instance(),
+        text,
+        unassigned: verdict.unassigned,
+        bound: verdict.bound,
+    }
+}
+
+/// Reads one dossier after another, and writes for each what is to be written of it; or writes the no line of the first line that
+/// is refused. After a write fault a front of what was due was written.
+pub fn write_pieces<S: Source, K: Sink>(
     alloc: Global,
-    nodes: u32,
+    job: Job,
     src: &mut S,
     out: &mut K,
-) -> Result<BundlesEnded, AllocError>
-    requires { nodes ≤ MOST_NODES }
-    ensures { WritesBundles S.Source K.Sink nodes src.old src.new out.old out.new result }
+) -> Result<PiecesEnded, AllocError>
+    requires { IsWithin job }
+    ensures { WritesPieces S.Source K.Sink job src.old src.new out.old out.new result }
 {
     let mut reader = LineReader::open(alloc, LONGEST_INPUT)?;
     let mut checker = Checker::open(alloc)?;
-    let ended = write_all(alloc, &mut reader, &mut checker, nodes, src, out);
+    let ended = write_all(alloc, &mut reader, &mut checker, job, src, out);
     // By name, so that its many parts are let go of in one call.
     drop(checker);
     ended
@@ -75,14 +89,14 @@ fn write_all<S: Source, K: Sink>(
     alloc: Global,
     reader: &mut LineReader,
     checker: &mut Checker,
-    nodes: u32,
+    job: Job,
     src: &mut S,
     out: &mut K,
-) -> Result<BundlesEnded, AllocError>
-    requires nodes { nodes ≤ MOST_NODES }
+) -> Result<PiecesEnded, AllocError>
+    requires job { IsWithin job }
     requires reader { reader.old ≡ fresh_reader LONGEST_INPUT }
     requires checker { checker.old ≡ fresh_checker }
-    ensures { WritesBundles S.Source K.Sink nodes src.old src.new out.old out.new result }
+    ensures { WritesPieces S.Source K.Sink job src.old src.new out.old out.new result }
 {
     refused_is_not_accepted();
     let mut kept = Vec::new(alloc);
@@ -90,20 +104,21 @@ fn write_all<S: Source, K: Sink>(
     'dossiers: loop {
         match next_kept(reader, checker, src, &mut kept)? {
             Outcome::Yes(verdict) => {
-                match put_bundle(alloc, checker.instance(), &kept, verdict.bound, nodes, out) {
-                    Ok(bound) => proved = is_still_proved(proved, bound, &verdict),
-                    Err(PutFault::WriteFault) => return Ok(BundlesEnded::WriteFault),
+                let day = day_of(checker, &verdict, &kept);
+                match put_piece(alloc, job, &day, out) {
+                    Ok(now) => proved = are_both(proved, now),
+                    Err(PutFault::WriteFault) => return Ok(PiecesEnded::WriteFault),
                     Err(PutFault::OutOfMemory) => return Err(AllocError),
                 }
             }
             Outcome::End => return Ok(ended_where(proved)),
             Outcome::No { line, reason } => {
                 if let Err(WriteFault) = put_no(out, line, reason) {
-                    return Ok(BundlesEnded::WriteFault);
+                    return Ok(PiecesEnded::WriteFault);
                 }
-                return Ok(BundlesEnded::No);
+                return Ok(PiecesEnded::No);
             }
-            Outcome::ReadFault => return Ok(BundlesEnded::ReadFault),
+            Outcome::ReadFault => return Ok(PiecesEnded::ReadFault),
         }
     }
 }

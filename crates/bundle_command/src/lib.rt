@@ -1,6 +1,7 @@
-// The command `parts`: a bundle for each good dossier of an input, with dossiers of the parts of its day.
+// The commands `parts`, `parts-cut` and `part`: a text for each good dossier of an input, made of the parts of its day.
 #![tactic(auto)]
 
 mod command;
 
-pub use command::{BundlesEnded, write_bundles};
+pub use bundle_write::Job;
+pub use command::{PiecesEnded, write_pieces};

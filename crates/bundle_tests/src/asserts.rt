@@ -2,7 +2,7 @@
 ghost use Rattle.std.specs.Prelude.{◌≤◌};
 ghost use Rattle.crew_terms.specs.declared.TheConstants.{MOST_NODES};
 
-use bundle_command::{BundlesEnded, write_bundles};
+use bundle_command::{Job, PiecesEnded, write_pieces};
 use crew_fixtures::Shown;
 use crew_io::sink::MemSink;
 use crew_io::source::MemSource;
@@ -23,17 +23,17 @@ pub fn answer_over(
     input: &[u8],
     reads: &[u64],
     writes: &[u64],
-) -> Result<(BundlesEnded, Vec<u8>), Fail>
+) -> Result<(PiecesEnded, Vec<u8>), Fail>
     requires { nodes ≤ MOST_NODES }
 {
     let mut src = MemSource::new(input.to_vec(alloc)?, 700, reads.to_vec(alloc)?);
     let mut out = MemSink::new(alloc, ROOM, 7, writes.to_vec(alloc)?)?;
-    let ended = write_bundles(alloc, nodes, &mut src, &mut out)?;
+    let ended = write_pieces(alloc, Job::Bundle { nodes }, &mut src, &mut out)?;
     Ok((ended, out.got().to_vec(alloc)?))
 }
 
 /// The same where nothing fails.
-pub fn answer(alloc: Global, nodes: u32, input: &[u8]) -> Result<(BundlesEnded, Vec<u8>), Fail>
+pub fn answer(alloc: Global, nodes: u32, input: &[u8]) -> Result<(PiecesEnded, Vec<u8>), Fail>
     requires { nodes ≤ MOST_NODES }
 {
     answer_over(alloc, nodes, input, &[], &[])
@@ -53,7 +53,7 @@ pub fn assert_text(
     alloc: Global,
     nodes: u32,
     input: &[u8],
-    wanted: BundlesEnded,
+    wanted: PiecesEnded,
     text: &[u8],
 ) -> Result<(), Fail>
     requires { nodes ≤ MOST_NODES }
@@ -70,7 +70,7 @@ pub fn assert_yes(
     alloc: Global,
     nodes: u32,
     input: &[u8],
-    wanted: BundlesEnded,
+    wanted: PiecesEnded,
     lines: &[u8],
 ) -> Result<(), Fail>
     requires { nodes ≤ MOST_NODES }

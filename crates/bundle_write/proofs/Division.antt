@@ -1,7 +1,6 @@
 -- a division of a day's tasks
-use Rattle.std.proofs.Common.{◌≡◌, ◌≤◌, ◌<◌, ◌++◌, ℕ, List, [], ◌∷◌, length, get_or}
+use Rattle.std.proofs.Common.{◌≤◌, ◌<◌, ℕ, List, [], ◌∷◌, length, get_or}
 use Rattle.std.specs.Prelude.{All, Contains}
-use Rattle.std.specs.List.{flat_map}
 use Rattle.std.proofs.lemmas.List.Elements.{All-nil, All-cons, All-contains_itself, Contains-append_left, Contains-append_right}
 use Rattle.crew_terms.specs.Instance.{Instance}
 use Rattle.crew_terms.specs.declared.TheConstants.{MOST_TASKS}

@@ -1,4 +1,5 @@
 mod Planned
-mod Written
 mod Division
-mod Begun
+mod Texts
+mod Rows
+mod Made

@@ -3,7 +3,8 @@
 
 mod bundle;
 mod parts;
+mod piece;
 
-pub use bundle::put_bundle;
+pub use bundle_join::{Day, JoinFault, Proves};
 pub use cert_write::PutFault;
-pub use parts::put_parts;
+pub use piece::{Job, put_piece};

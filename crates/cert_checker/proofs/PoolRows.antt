@@ -10,7 +10,7 @@ use Rattle.crew_terms.specs.Instance.{Instance}
 use Rattle.crew_terms.specs.Limits.{Limits, root_limits, Route}
 use Rattle.crew_terms.specs.Plan.{Plan, empty_plan}
 use Rattle.crew_terms.specs.Verdict.{IsPlanOf}
-use Rattle.crew_terms.specs.declared.TheConstants.{LAST_MINUTE, MOST_TASKS}
+use Rattle.crew_terms.specs.declared.TheConstants.{LAST_MINUTE, MOST_TASKS, MOST_NUMBER}
 use Rattle.crew_terms.specs.declared.Visit.{Visit}
 use Rattle.crew_terms.specs.EmptyPlan.{job_none}
 use Rattle.dossier_terms.specs.declared.DossierForm.{DossierForm}
@@ -74,15 +74,15 @@ begun form i budget kept pool plan e f =
 -- ---- the line `pool`
 
 -- a number that is told is the natural one
-pub natural_is : (n : ℤ) (k r : ℕ) → n ≡ pos k → k ≤ 9223372036854775807 → to_z w64 (of_z w64 n) ≡ pos r → r ≡ k
+pub natural_is : (n : ℤ) (k r : ℕ) → n ≡ pos k → k ≤ MOST_NUMBER → to_z w64 (of_z w64 n) ≡ pos r → r ≡ k
 natural_is n k r e le f =
     let g : pos r ≡ pos k = sym f ∙ ap (λ z. to_z w64 (of_z w64 z)) e ∙ to_z_pos w64 k (omega arith) in cc
 
-pub pool_many : (form : DossierForm) (i : Instance) (budget k c : ℕ) (ws : Words) → k ≤ 9223372036854775807 → c ≤ 9223372036854775807 → ws ≡ pool_line k c
+pub pool_many : (form : DossierForm) (i : Instance) (budget k c : ℕ) (ws : Words) → k ≤ MOST_NUMBER → c ≤ MOST_NUMBER → ws ≡ pool_line k c
     → c < k → pool_row form i budget ws (Refuses reasons.Pool)
 pool_many form i budget k c ws a b is more = Holds (_, is, refl) (Spelled (k, c) (a, b) is (Fails (λ le. absurd (omega arith)) refl))
 
-pub pool_more : (form : DossierForm) (i : Instance) (budget k c : ℕ) (ws : Words) → k ≤ 9223372036854775807 → c ≤ 9223372036854775807 → ws ≡ pool_line k c
+pub pool_more : (form : DossierForm) (i : Instance) (budget k c : ℕ) (ws : Words) → k ≤ MOST_NUMBER → c ≤ MOST_NUMBER → ws ≡ pool_line k c
     → k ≤ c → pool_row form i budget ws (Goes (routes_due (begin form i budget k) c))
 pool_more form i budget k c ws a b is le = Holds (_, is, refl) (Spelled (k, c) (a, b) is (Holds le (On refl)))
 

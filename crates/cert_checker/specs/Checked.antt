@@ -8,7 +8,7 @@ use Rattle.dossier_terms.specs.declared.Reason.TheVariants as reasons
 use Rattle.dossier_terms.specs.Dossier.{Dossier, IsGood, unshown}
 use Rattle.crew_terms.specs.Branches.{splits, closed, left_open}
 use Rattle.crew_terms.specs.Limits.{root_limits}
-use Rattle.cause_laws.specs.Shown.{EachStaysOpen}
+use Rattle.dossier_laws.specs.Shown.{EachStaysOpen}
 use Rattle.dossier_terms.specs.Reading.{Reading, Form, Nodes, Whys, Parts, Spares, Prices, Extras, Worths, Phis, Ends as EndDue, Answer, More as Goes, Whole as Ends, No as Refuses}
 use Rattle.dossier_terms.specs.Table.{Says, Reaches}
 use Rattle.head_check.specs.declared.due.HeadDue.TheVariants as heads

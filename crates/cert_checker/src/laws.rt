@@ -6,8 +6,10 @@ ghost use Rattle.dossier_terms.specs.Reading.{Reading, Answer, More, Whole};
 ghost use Rattle.dossier_terms.specs.Table.{Says};
 ghost use Rattle.cert_checker.specs.Checked.{IsReached, IsTrueYes};
 
-use cause_laws::loose_splits_stay_open;
-use dossier_laws::{good_bounds, read_is_good, reading_ends, reading_goes_on, says_one_thing};
+use dossier_laws::{
+    good_bounds, loose_splits_stay_open, read_is_good, reading_ends, reading_goes_on,
+    says_one_thing,
+};
 
 /// There is one answer to a line where lines have led to what is due.
 pub fn one_answer()

@@ -11,7 +11,7 @@ use Rattle.dossier_terms.specs.Causes.{Part, IsPartOf}
 use Rattle.dossier_terms.specs.Dossier.{IsWorthNumber, IsSigned}
 use Rattle.dossier_terms.specs.declared.DossierForm.{DossierForm}
 use Rattle.dossier_terms.specs.Runs.{Run}
-use Rattle.crew_terms.specs.declared.TheConstants.{LAST_MINUTE}
+use Rattle.crew_terms.specs.declared.TheConstants.{LAST_MINUTE, MOST_NUMBER}
 use Rattle.dossier_terms.specs.Rules.{IsShape, IsShapeFrom, Begins}
 use Rattle.dossier_terms.specs.Ranges.{IsSize, IsTravel, IsTeamLine, IsTaskLine, IsRouteLine, IsDoLine, IsCounts, IsStepsLine, IsNowWord, IsLooseLine, IsSpareLine, IsOverflowLine, IsWhy, IsWhyOverflow, AreNumbers, HasName, IsPairs, IsRow, BeginsAt}
 use Rattle.dossier_terms.specs.Lines.{form_line, size_line, place_line, travel_line, team_words, task_words, frozen_line, keep_line, pool_line, route_line, plan_line, do_line, tree_line, window_line, pair_line, why_none_line, loose_line, share_line, spare_line, overflow_line, spent_line, bare_line, open_line, closed_line, price_line, extra_line, worth_line, phi_line, steps_line, end_line}
@@ -64,7 +64,7 @@ IsKeepLine teams tasks ws _ = ⊥
 
 abbrev pub IsPoolLine : Words → LineKind → Type 0
 IsPoolLine ws (kinds.Pool kept routes) = (k c : ℕ) × (kept ≡ pos k) × (routes ≡ pos c)
-    × (k ≤ 9223372036854775807) × (c ≤ 9223372036854775807) × (ws ≡ pool_line k c)
+    × (k ≤ MOST_NUMBER) × (c ≤ MOST_NUMBER) × (ws ≡ pool_line k c)
 IsPoolLine ws _ = ⊥
 
 abbrev pub IsRouteOf : ℕ → ℕ → Words → LineKind → Type 0

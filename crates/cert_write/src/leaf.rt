@@ -4,7 +4,7 @@ ghost use Rattle.std.specs.Fmt.{signed_decimal};
 ghost use Rattle.std.specs.List.{flat_map};
 ghost use Rattle.arrayvec.specs.ArrayVec.{array_vec_len};
 ghost use Rattle.crew_terms.specs.Branches.{Claim};
-ghost use Rattle.crew_terms.specs.Limits.{has_required, is_required as required_pair, tasks_in};
+ghost use Rattle.crew_terms.specs.Limits.{has_required, tasks_in};
 ghost use Rattle.crew_terms.specs.Minutes.{priced};
 ghost use Rattle.crew_terms.specs.Words.{line_text};
 ghost use Rattle.crew_terms.specs.declared.TheConstants.{MOST_TASKS, MOST_TEAMS};
@@ -25,12 +25,12 @@ use arrayvec::ArrayVec;
 use branch_tree::LeafState;
 use crew_io::put::put_all;
 use crew_io::sink::{Sink, WriteFault};
-use crew_terms::{MOST_TEAMS, Pair};
+use crew_terms::MOST_TEAMS;
 use dossier_out::number;
 use kept_prices::KeptPrices;
 use label_pricing::Pricer;
 use line_out::{Part, put_line, put_next};
-use node_limits::Limits;
+use node_limits::{Limits, is_required};
 use potentials::{Prices, Table};
 
 /// The most parts of the line of a task's required teams: a word, the task, and a price for each team.
@@ -59,12 +59,6 @@ fn put_price_line<K: Sink>(out: &mut K, prices: &Prices) -> Result<(), WriteFaul
     put_all(out, b"price")?;
     put_prices(out, prices)?;
     put_all(out, b"\n")
-}
-
-fn is_required(pair: Pair) -> bool
-    ensures { result ≡ required_pair pair }
-{
-    matches!(pair, Pair::Required)
 }
 
 /// Adds the prices of the teams that the node requires at task `j`.

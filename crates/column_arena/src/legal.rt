@@ -8,7 +8,7 @@ ghost use Rattle.column_arena.specs.Legal.{AreRuledOut, IsLegalColumn};
 
 use crate::columns::Columns;
 use crew_terms::Pair;
-use node_limits::Limits;
+use node_limits::{Limits, is_forbidden};
 use route_check::{RouteVerdict, check_route};
 use std::alloc::{AllocError, Global};
 
@@ -40,12 +40,6 @@ fn rule_out<C: Columns>(limits: &Limits<'_>, columns: &C, k: u32, j: u32, marks:
     for id in columns.using(k, j) {
         marks[*id] = true;
     }
-}
-
-fn is_forbidden(pair: Pair) -> bool
-    ensures { IsTrue result ↔ (pair ≡ Pair.Forbidden) }
-{
-    matches!(pair, Pair::Forbidden)
 }
 
 // A mark for each column, which only columns of forbidden pairs have.

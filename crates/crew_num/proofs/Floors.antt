@@ -3,8 +3,8 @@ use Rattle.std.proofs.Common.{◌≡◌, ◌<◌, ◌+◌, ◌*◌, ℕ, zero, s
 use Rattle.std.specs.Prelude.{ℤ, pos, negsuc, ◌+ℤ◌, ◌*ℤ◌, ◌≤ℤ◌, ◌<ℤ◌, unsigned_abs, FitsSigned}
 use Rattle.std.specs.Int.{int_div_euclid, int_rem_euclid, w128}
 use Rattle.std.proofs.lemmas.Int.{ints}
-use Rattle.ring_laws.specs.Ring.{sum_times}
-use Rattle.ring_laws.specs.Quotients.{division}
+use Rattle.crew_num.specs.Ring.{sum_times}
+use Rattle.crew_num.specs.Quotients.{division}
 use Rattle.crew_num.proofs.Products.{times_swap}
 use Rattle.crew_num.specs.declared.exact.Op.TheVariants.{Mul}
 use Rattle.crew_num.specs.Exact.{fault}

@@ -2,7 +2,7 @@
 use Rattle.std.proofs.Common.{◌≡◌, ℕ, ◌*◌, ◌+◌, ap, arith}
 use Rattle.std.specs.Prelude.{ℤ, pos, ◌+ℤ◌, ◌-ℤ◌, ◌*ℤ◌}
 use Rattle.std.proofs.lemmas.Int.{ints}
-use Rattle.ring_laws.specs.Ring.{sum_times, difference_times}
+use Rattle.crew_num.specs.Ring.{sum_times, difference_times}
 use Rattle.crew_num.proofs.Products.{times_swap}
 
 -- a difference whose part needs no unit of the whole

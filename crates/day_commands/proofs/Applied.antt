@@ -93,7 +93,7 @@ plan_applied a s mid entry nodes instance got later is none same unknown i taken
   where
     by : (a : Taken) → (a ≡ Whole true → Appended got later (instance_text instance nodes)) → (a ≡ WriteFault → AppendedPart got later (instance_text instance nodes))
         → IsTrue (is_whole_or_write_fault a) → instance_text instance nodes ≡ rounds_text (round_at s entry) → IsStateAfter s [] entry mid → IsTakenSo Instances (of_desk s) entry a (of_desk mid) got later
-    by (Whole true) taken part others t after = (stop_of_none s entry none, refl, ([], rounds_text (round_at s entry), after, ((refl, refl), refl), subst (λ x. Appended got later x) t (taken refl)))
+    by (Whole true) taken part others t after = (stop_of_none s entry none, refl, ([], rounds_text (round_at s entry), after, ((refl, refl), refl), subst (λ x. Appended got later x) t (taken refl), tt))
     by (Whole false) taken part others t after = absurd (cc)
     by (IsRefused fault) taken part others t after = absurd (cc)
-    by WriteFault taken part others t after = (stop_of_none s entry none, ([], rounds_text (round_at s entry), true, [], ((refl, refl), refl), subst (λ x. AppendedPart got later x) t (part refl)))
+    by WriteFault taken part others t after = (stop_of_none s entry none, ([], rounds_text (round_at s entry), true, [], ((refl, refl), refl), subst (λ x. AppendedPart got later x) t (part refl), tt))

@@ -1,5 +1,6 @@
 pub mod Days
 pub mod Texts
+pub mod Stays
 pub mod Said
 pub mod Applied
 pub mod Planned

@@ -18,4 +18,4 @@ pub held_back : (output : DayOutput) (s : Planning) (entry : Entry) (proved : Bo
     → IsTakenSo output s entry WriteFault new got later
 held_back output s entry proved new got mid later taken same =
     let w = taken.2 in
-    (taken.0, (w.0, w.1, proved, new.handed, w.3, subst (λ m. AppendedPart got m w.1) (sym same) (all_is_part got mid w.1 w.4)))
+    (taken.0, (w.0, w.1, proved, new.handed, w.3, subst (λ m. AppendedPart got m w.1) (sym same) (all_is_part got mid w.1 w.4), w.5))

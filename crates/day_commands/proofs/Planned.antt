@@ -103,6 +103,7 @@ changed_so s new entry got later open_yet unknown e = (
       handed_last = ap (λ (x : Planning). x.handed) e.2;
     },
     subst (λ x. Appended got x []) (sym e.3) (appended_none got),
+    tt,
   ),
 )
 
@@ -119,6 +120,7 @@ round_so s new entry got later counts q open_yet unknown e equal apart_so =
         plan_state s.day new.day entry at.round d.plan at.begins unknown (ap (λ (x : Planning). x.day) e.1.3),
         subst (λ h. AreDossiersFrom s.handed (d.plan ∷ []) (round_at s.day entry) (text_of d) q h) (sym (ap (λ (x : Planning). x.handed) e.1.3)) (one_dossier s entry d q at (by q equal apart_so)),
         e.1.4,
+        at.stays,
       ),
     )
   where
@@ -151,4 +153,4 @@ fault_so s new entry got later e =
     let f = e.2 in
     let d = f.0 in
     let t = proved_or_not d (at_most s.handed f.1.round d f.1.dossier) in
-    (stop_of_none s.day entry e.0, (d.plan ∷ [], text_of d, t.0, handed_on d, one_dossier s entry d t.0 f.1 t.1, f.2))
+    (stop_of_none s.day entry e.0, (d.plan ∷ [], text_of d, t.0, handed_on d, one_dossier s entry d t.0 f.1 t.1, f.2, f.1.stays))

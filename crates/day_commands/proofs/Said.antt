@@ -16,14 +16,15 @@ use Rattle.day_terms.specs.Days.{IsDayOf}
 use Rattle.day_terms.specs.State.{DayState, start, start_with}
 use Rattle.day_terms.specs.Entries.{after_entry, state_after}
 use Rattle.day_terms.specs.Laws.{is_plan}
-use Rattle.day_terms.specs.Refusal.{AreTaken, refusal_of}
 use Rattle.day_terms.specs.Rounds.{Round, round_at, rounds_of}
 use Rattle.replan.specs.Planning.{Planning}
 use Rattle.day_commands.specs.Refused.{refused_line}
 use Rattle.day_commands.specs.Rounds.{AreTakenBy, DayStop, ComesTo, AllTaken, BadRecord, BadEntry, IsFineDay, IsTooLong, IsStopped, OfRounds, OfRefusal, SaysFirstRounds, NoRound, Rounds, change_stop}
 use Rattle.day_commands.specs.Outputs.{MayHave, TextsOf}
 use Rattle.day_commands.specs.Says.{SaysAt, whole_end, is_refused_or_write_fault, is_of_text, is_whole, can_end}
+use Rattle.day_commands.specs.Staying.{FirstStays, PlansStay}
 use Rattle.day_commands.specs.Taken.{AreTextsFrom, IsTakenSo, IsDay, Wrote}
+use Rattle.day_commands.specs.ToCome.{PlansToCome}
 use Rattle.day_commands.specs.Fronts.{take_front}
 use Rattle.day_commands.specs.declared.ended.DayOutput.{DayOutput}
 use Rattle.day_commands.specs.declared.ended.DayOutput.TheVariants.{Instances, Dossiers}
@@ -36,6 +37,7 @@ use Rattle.day_commands.specs.declared.refused.DayFault.TheVariants.{TooLong, In
 use Rattle.flight_changes.specs.declared.faults.ChangeFault.TheVariants.{OutOfMemory}
 use Rattle.day_commands.proofs.Applied.{known_none}
 use Rattle.day_commands.proofs.Days.{goes_on, rounds_more, state_takes_entries, stop_same, taken_more, state_more}
+use Rattle.day_commands.proofs.Stays.{StayFor, none_stay, plans_stay, stay_more}
 use Rattle.day_commands.proofs.Texts.{HasAll, has_all, texts_none, texts_then, texts_are, texts_proved, texts_unproved}
 
 pub same_ok : {T E : Type 0} {x y : T} → ◌≡◌ {A = Result T E} (Ok x) (Ok y) → x ≡ y
@@ -58,64 +60,67 @@ pub record SoFar (output : DayOutput) (entries : List Entry) (proved : Bool) (s 
   pub taken : AreTakenBy change_stop (start_with plans) entries
   pub text : List ℕ
   pub texts : AreTextsFrom output [] plans (rounds_of plans entries) text proved s.handed
+  pub stay : StayFor output plans entries
   pub wrote : Appended got later text
+
+-- their plans stay, in a day that begins with them
+so_stay : PlansToCome → (output : DayOutput) (text : List ℕ) (front back : List Entry) (last : Option Refused) (proved : Bool) (s : Planning) (got later : Option (List ℕ)) (so : SoFar output front proved s got later)
+    → IsDayOf text (front ++ back) last → PlansStay text so.plans
+so_stay laws output text front back last proved s got later so day =
+    plans_stay laws output so.plans text front back last day (has_all output [] s.handed so.plans (rounds_of so.plans front) so.text proved so.texts) so.stay
+
+-- and in one of which they are all
+all_stay : PlansToCome → (output : DayOutput) (text : List ℕ) (entries : List Entry) (last : Option Refused) (proved : Bool) (s : Planning) (got later : Option (List ℕ)) (so : SoFar output entries proved s got later)
+    → IsDayOf text entries last → PlansStay text so.plans
+all_stay laws output text entries last proved s got later so day = so_stay laws output text entries [] last proved s got later so (subst (λ es. IsDayOf text es last) (sym (append-nil entries)) day)
 
 -- the rounds of entries that are taken are the first of those that the day comes to
 first_rounds : (output : DayOutput) (plans : List Plan) (text : List ℕ) (front back : List Entry) (last : Option Refused) (written : List ℕ) → length text ≤ LONGEST_DAY → IsDayOf text (front ++ back) last
-    → AreTakenBy change_stop (start_with plans) front → TextsOf output plans (rounds_of plans front) written → SaysFirstRounds change_stop (TextsOf output) text written
-first_rounds output plans text front back last written within day taken texts =
+    → AreTakenBy change_stop (start_with plans) front → PlansStay text plans → TextsOf output plans (rounds_of plans front) written → SaysFirstRounds change_stop (TextsOf output) text written
+first_rounds output plans text front back last written within day taken stay texts =
     let g = goes_on change_stop plans text front back last day taken in
-    Rounds within plans (rounds_of plans front ++ g.rest) g.stop g.comes_to (length (rounds_of plans front))
+    Rounds within plans (rounds_of plans front ++ g.rest) g.stop g.comes_to stay (length (rounds_of plans front))
     (subst (λ rounds. TextsOf output plans rounds written) (sym (take_front (rounds_of plans front) g.rest)) texts)
 
 -- memory was wanting behind entries that are taken
-pub says_first : (output : DayOutput) (text : List ℕ) (front back : List Entry) (last : Option Refused) (proved : Bool) (s : Planning) (got later : Option (List ℕ)) → length text ≤ LONGEST_DAY → IsDayOf text (front ++ back) last
+pub says_first : PlansToCome → (output : DayOutput) (text : List ℕ) (front back : List Entry) (last : Option Refused) (proved : Bool) (s : Planning) (got later : Option (List ℕ)) → length text ≤ LONGEST_DAY → IsDayOf text (front ++ back) last
     → SoFar output front proved s got later → Wrote got later (SaysFirstRounds change_stop (TextsOf output) text)
-says_first output text front back last proved s got later within day so =
-    (so.text, so.wrote, first_rounds output so.plans text front back last so.text within day so.taken (texts_are output so.plans (rounds_of so.plans front) so.text proved s.handed so.texts))
+says_first laws output text front back last proved s got later within day so =
+    (so.text, so.wrote, first_rounds output so.plans text front back last so.text within day so.taken (so_stay laws output text front back last proved s got later so day) (texts_are output so.plans (rounds_of so.plans front) so.text proved s.handed so.texts))
 
 -- no record was refused
-pub says_rounds : (output : DayOutput) (text : List ℕ) (entries : List Entry) (proved : Bool) (s : Planning) (got later : Option (List ℕ)) → length text ≤ LONGEST_DAY → IsDayOf text entries None
+pub says_rounds : PlansToCome → (output : DayOutput) (text : List ℕ) (entries : List Entry) (proved : Bool) (s : Planning) (got later : Option (List ℕ)) → length text ≤ LONGEST_DAY → IsDayOf text entries None
     → SoFar output entries proved s got later → Wrote got later (SaysAt output (whole_end proved) None text)
-says_rounds output text entries true s got later within day so = (
+says_rounds laws output text entries true s got later within day so = (
   so.text,
   so.wrote,
-  record { within = within; plans = so.plans; rounds = rounds_of so.plans entries; comes_to = AllTaken entries day so.taken refl refl; texts = texts_proved output so.plans (rounds_of so.plans entries) so.text s.handed so.texts },
+  record { within = within; plans = so.plans; rounds = rounds_of so.plans entries; comes_to = AllTaken entries day so.taken refl refl; stay = all_stay laws output text entries None true s got later so day; texts = texts_proved output so.plans (rounds_of so.plans entries) so.text s.handed so.texts },
 )
-says_rounds output text entries false s got later within day so = (
+says_rounds laws output text entries false s got later within day so = (
   so.text,
   so.wrote,
-  record { within = within; plans = so.plans; rounds = rounds_of so.plans entries; comes_to = AllTaken entries day so.taken refl refl; texts = texts_unproved output so.plans (rounds_of so.plans entries) so.text s.handed so.texts },
+  record { within = within; plans = so.plans; rounds = rounds_of so.plans entries; comes_to = AllTaken entries day so.taken refl refl; stay = all_stay laws output text entries None false s got later so day; texts = texts_unproved output so.plans (rounds_of so.plans entries) so.text s.handed so.texts },
 )
 
 -- a record is refused
 pub says_stop : (output : DayOutput) (plans : List Plan) (text : List ℕ) (rounds : List Round) (stop : DayStop) (written : List ℕ) (got mid later : Option (List ℕ)) (answer : Ended) → length text ≤ LONGEST_DAY
-    → ComesTo change_stop plans text rounds (Some stop) → TextsOf output plans rounds written → Appended got mid written
+    → ComesTo change_stop plans text rounds (Some stop) → PlansStay text plans → TextsOf output plans rounds written → Appended got mid written
     → (answer ≡ ended.Refused → Appended mid later (refused_line stop.number stop.cause)) → AppendedPart mid later (refused_line stop.number stop.cause)
     → IsTrue (is_refused_or_write_fault answer) → Wrote got later (SaysAt output answer None text)
-says_stop output plans text rounds stop written got mid later ended.Done within c texts wrote all part others = absurd (cc)
-says_stop output plans text rounds stop written got mid later ended.Unproved within c texts wrote all part others = absurd (cc)
-says_stop output plans text rounds stop written got mid later ended.ReadFault within c texts wrote all part others = absurd (cc)
-says_stop output plans text rounds stop written got mid later ended.Refused within c texts wrote all part others = (
+says_stop output plans text rounds stop written got mid later ended.Done within c stay texts wrote all part others = absurd (cc)
+says_stop output plans text rounds stop written got mid later ended.Unproved within c stay texts wrote all part others = absurd (cc)
+says_stop output plans text rounds stop written got mid later ended.ReadFault within c stay texts wrote all part others = absurd (cc)
+says_stop output plans text rounds stop written got mid later ended.Refused within c stay texts wrote all part others = (
   written ++ refused_line stop.number stop.cause,
   appended_both got mid later written (refused_line stop.number stop.cause) wrote (all refl),
-  IsStopped within plans rounds stop c written texts refl,
+  IsStopped within plans rounds stop c stay written texts refl,
 )
-says_stop output plans text rounds stop written got mid later ended.WriteFault within c texts wrote all part others =
+says_stop output plans text rounds stop written got mid later ended.WriteFault within c stay texts wrote all part others =
     let line = refused_line stop.number stop.cause in
     let w = piece_front got mid later written line wrote part in
-    (written ++ take w.0 line, w.2, OfRefusal (written ++ line) (IsStopped within plans rounds stop c written texts refl) (length written + w.0) (front_behind written line w.0))
+    (written ++ take w.0 line, w.2, OfRefusal (written ++ line) (IsStopped within plans rounds stop c stay written texts refl) (length written + w.0) (front_behind written line w.0))
 
 -- ---- plans of later rounds
-
--- what is known of them
-pub record PlansToCome : Type 0 where
-  pub state : (plans more : List Plan) (entries : List Entry) → length plans ≡ count_by is_plan entries → state_after (plans ++ more) entries ≡ record (state_after plans entries) { plans = more }
-  pub rounds : (plans more : List Plan) (entries : List Entry) → length plans ≡ count_by is_plan entries → rounds_of (plans ++ more) entries ≡ rounds_of plans entries
-  pub taken : (plans more : List Plan) (entries : List Entry) → length plans ≡ count_by is_plan entries → AreTaken (start_with plans) entries → AreTaken (start_with (plans ++ more)) entries
-  pub count : (plans : List Plan) (entries : List Entry) → length (rounds_of plans entries) ≡ count_by is_plan entries
-  pub refusal : (s : DayState) (plans : List Plan) (entry : Entry) → refusal_of (record s { plans = plans }) entry ≡ refusal_of s entry
-  pub round : (s : DayState) (plans : List Plan) (entry : Entry) → round_at (record s { plans = plans }) entry ≡ round_at s entry
 
 -- further plans change nothing of these entries
 record IsLater (plans more : List Plan) (entries : List Entry) : Type 0 where
@@ -153,10 +158,10 @@ day_at text entries n d last below day = subst (λ es. IsDayOf text es last) (en
 
 module _ (output : DayOutput) (text : List ℕ) (entries : List Entry) (n : ℕ) (last : Option Refused) (proved : Bool) (s : Planning) (got mid : Option (List ℕ)) where
   -- the entry is refused
-  pub at_refused : (d : Entry) (new : Planning) (taken : Taken) (fault : DayFault) (held later : Option (List ℕ)) (answer : Ended) → IsDay text entries last → n < length entries → SoFar output (take n entries) proved s got mid
+  pub at_refused : PlansToCome → (d : Entry) (new : Planning) (taken : Taken) (fault : DayFault) (held later : Option (List ℕ)) (answer : Ended) → IsDay text entries last → n < length entries → SoFar output (take n entries) proved s got mid
       → IsTakenSo output s (get_or entries n d) taken new mid held → taken ≡ IsRefused fault → (answer ≡ ended.Refused → Appended held later (refused_line (n + 1) fault))
       → AppendedPart held later (refused_line (n + 1) fault) → IsTrue (is_refused_or_write_fault answer) → Wrote got later (SaysAt output answer None text)
-  at_refused d new taken fault held later answer day below so comes is all part others =
+  at_refused laws d new taken fault held later answer day below so comes is all part others =
       let front = take n entries in
       let entry = get_or entries n d in
       let p = subst (λ x. IsTakenSo output s entry x new mid held) is comes in
@@ -166,6 +171,7 @@ module _ (output : DayOutput) (text : List ℕ) (entries : List Entry) (n : ℕ)
       let stop_is : Some stop ≡ Some (record { number = length front + 1; cause = fault }) = ap (λ k. Some (record { number = k; cause = fault })) number in
       says_stop output so.plans text (rounds_of so.plans front) stop so.text got mid later answer day.within
       (BadEntry front (drop (n + 1) entries) entry last (day_at text entries n d last below day.day) so.taken fault refused refl stop_is)
+      (so_stay laws output text front (entry ∷ drop (n + 1) entries) last proved s got mid so (day_at text entries n d last below day.day))
       (texts_are output so.plans (rounds_of so.plans front) so.text proved s.handed so.texts) so.wrote
       (λ e. subst (λ x. Appended x later (refused_line (n + 1) fault)) p.2 (all e)) (subst (λ x. AppendedPart x later (refused_line (n + 1) fault)) p.2 part) others
 
@@ -201,6 +207,10 @@ module _ (output : DayOutput) (text : List ℕ) (entries : List Entry) (n : ℕ)
         ∙ sym (rounds_more known front entry))
         (texts_then output [] s.handed handed so.plans more (rounds_of so.plans front) (round_at s.day entry) so.text ys proved q so.texts texts)
 
+    more_stay : FirstStays s.day more → StayFor output known (front ++ entry ∷ [])
+    more_stay first =
+        stay_more laws output so.plans more front entry s.day so.state (has_all output [] s.handed so.plans (rounds_of so.plans front) so.text proved so.texts) has first so.stay
+
     more_state : (new : DayState) → new ≡ after_entry (record s.day { plans = more }) entry → new ≡ state_after known (front ++ entry ∷ [])
     more_state new is =
         is ∙ ap (λ (x : DayState). after_entry (record x { plans = more }) entry) so.state ∙ ap (λ x. after_entry x entry) (sym same_before.state) ∙ sym (state_more known front entry)
@@ -217,17 +227,19 @@ module _ (output : DayOutput) (text : List ℕ) (entries : List Entry) (n : ℕ)
       let w = piece_front got mid later so.text f.1 so.wrote f.5 in
       let has = has_all output s.handed f.3 f.0 (round_at s.day entry) f.1 f.2 f.4 in
       let more = more_texts laws d below so f.0 has f.1 f.2 f.3 f.4 in
-      let whole = first_rounds output known text (front ++ entry ∷ []) (drop (n + 1) entries) last (so.text ++ f.1) day.within
-      (subst (λ es. IsDayOf text es last) (sym (append_assoc front (entry ∷ []) (drop (n + 1) entries))) (day_at text entries n d last below day.day))
+      let whole_day = subst (λ es. IsDayOf text es last) (sym (append_assoc front (entry ∷ []) (drop (n + 1) entries))) (day_at text entries n d last below day.day) in
+      let whole = first_rounds output known text (front ++ entry ∷ []) (drop (n + 1) entries) last (so.text ++ f.1) day.within whole_day
       (more_taken laws d below so f.0 has p.0)
+      (plans_stay laws output known text (front ++ entry ∷ []) (drop (n + 1) entries) last whole_day (has_all output [] f.3 known (rounds_of known (front ++ entry ∷ [])) (so.text ++ f.1) (proved && f.2) more)
+      (more_stay laws d below so f.0 has f.6))
       (texts_are output known (rounds_of known (front ++ entry ∷ [])) (so.text ++ f.1) (proved && f.2) f.3 more) in
       (so.text ++ take w.0 f.1, w.2, OfRounds (so.text ++ f.1) whole (length so.text + w.0) (front_behind so.text f.1 w.0))
 
   -- memory was wanting for it
-  pub at_memory : (later : Option (List ℕ)) → IsDay text entries last → SoFar output (take n entries) proved s got mid → later ≡ mid → Wrote got later (SaysFirstRounds change_stop (TextsOf output) text)
-  at_memory later day so same =
+  pub at_memory : PlansToCome → (later : Option (List ℕ)) → IsDay text entries last → SoFar output (take n entries) proved s got mid → later ≡ mid → Wrote got later (SaysFirstRounds change_stop (TextsOf output) text)
+  at_memory laws later day so same =
       subst (λ x. Wrote got x (SaysFirstRounds change_stop (TextsOf output) text)) (sym same)
-      (says_first output text (take n entries) (drop n entries) last proved s got mid day.within (subst (λ es. IsDayOf text es last) (sym (take-append-drop n entries)) day.day) so)
+      (says_first laws output text (take n entries) (drop n entries) last proved s got mid day.within (subst (λ es. IsDayOf text es last) (sym (take-append-drop n entries)) day.day) so)
 
   pub at_taken : PlansToCome → (d : Entry) (new : Planning) (taken : Taken) (q : Bool) (later : Option (List ℕ)) → n < length entries → SoFar output (take n entries) proved s got mid
       → IsTakenSo output s (get_or entries n d) taken new mid later → taken ≡ Whole q → SoFar output (take (n + 1) entries) (proved && q) new got later
@@ -246,22 +258,24 @@ module _ (output : DayOutput) (text : List ℕ) (entries : List Entry) (n : ℕ)
         taken = more_taken laws d below so f.0 has p.0;
         text = so.text ++ f.1;
         texts = more_texts laws d below so f.0 has f.1 q new.handed f.3;
+        stay = more_stay laws d below so f.0 has f.5;
         wrote = appended_both got mid later so.text f.1 so.wrote f.4;
       })
 
   -- ---- behind the last entry
 
-  pub at_end : IsDay text entries last → length entries ≤ n → SoFar output (take n entries) proved s got mid → last ≡ None → Wrote got mid (SaysAt output (whole_end proved) None text)
-  at_end day all so none =
-      says_rounds output text entries proved s got mid day.within (subst (IsDayOf text entries) none day.day) (subst (λ es. SoFar output es proved s got mid) (take_all n entries all) so)
+  pub at_end : PlansToCome → IsDay text entries last → length entries ≤ n → SoFar output (take n entries) proved s got mid → last ≡ None → Wrote got mid (SaysAt output (whole_end proved) None text)
+  at_end laws day all so none =
+      says_rounds laws output text entries proved s got mid day.within (subst (IsDayOf text entries) none day.day) (subst (λ es. SoFar output es proved s got mid) (take_all n entries all) so)
 
-  pub at_stop : (stop : Refused) (later : Option (List ℕ)) (answer : Ended) → IsDay text entries last → length entries ≤ n → SoFar output (take n entries) proved s got mid → last ≡ Some stop
+  pub at_stop : PlansToCome → (stop : Refused) (later : Option (List ℕ)) (answer : Ended) → IsDay text entries last → length entries ≤ n → SoFar output (take n entries) proved s got mid → last ≡ Some stop
       → (answer ≡ ended.Refused → Appended mid later (refused_line stop.number (InItself stop.cause)))
       → AppendedPart mid later (refused_line stop.number (InItself stop.cause)) → IsTrue (is_refused_or_write_fault answer) → Wrote got later (SaysAt output answer None text)
-  at_stop stop later answer day all so some whole part others =
+  at_stop laws stop later answer day all so some whole part others =
       let done = subst (λ es. SoFar output es proved s got mid) (take_all n entries all) so in
       says_stop output done.plans text (rounds_of done.plans entries) (record { number = stop.number; cause = InItself stop.cause }) done.text got mid later answer day.within
       (BadRecord entries stop (subst (IsDayOf text entries) some day.day) done.taken refl refl)
+      (all_stay laws output text entries last proved s got mid done day.day)
       (texts_are output done.plans (rounds_of done.plans entries) done.text proved s.handed done.texts) done.wrote whole part others
 
 -- before the first entry
@@ -274,6 +288,7 @@ nothing_yet output s got is = subst (λ x. SoFar output [] true x got got) (sym 
   taken = tt;
   text = [];
   texts = texts_none output;
+  stay = none_stay output;
   wrote = appended_none got;
 })
 

@@ -34,7 +34,7 @@ rounds_are_part : (stops : Stops) (Texts Fact : TextsFor) (input written : List 
     → SaysRounds stops Fact input written → SaysOutputPart stops Texts input written
 rounds_are_part stops Texts Fact input written are says =
     first_are_part stops Texts input written
-    (Rounds says.within says.plans says.rounds None says.comes_to (length says.rounds)
+    (Rounds says.within says.plans says.rounds None says.comes_to says.stay (length says.rounds)
     (subst (λ rounds. Texts says.plans rounds written) (sym (take-length says.rounds)) (are says.plans says.rounds written says.texts)))
 
 -- however the call ends, what was written is a front of the output

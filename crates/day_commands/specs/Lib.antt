@@ -1,4 +1,5 @@
 pub mod Refused
+pub mod Staying
 pub mod Rounds
 pub mod Instances
 pub mod Dossiers
@@ -7,4 +8,5 @@ pub mod Says
 pub mod Legal
 pub mod Fronts
 pub mod Taken
+pub mod ToCome
 pub mod Fine

@@ -11,6 +11,7 @@ use Rattle.day_terms.specs.Refusal.{refusal_of}
 use Rattle.day_terms.specs.Rounds.{Round, rounds_of}
 use Rattle.flight_changes.specs.Faults.{fault_of}
 use Rattle.day_commands.specs.Refused.{refused_line}
+use Rattle.day_commands.specs.Staying.{PlansStay}
 use Rattle.day_commands.specs.declared.refused.DayFault.{DayFault}
 use Rattle.day_commands.specs.declared.refused.DayFault.TheVariants.{TooLong, InItself, Change}
 
@@ -55,7 +56,8 @@ abbrev pub IsFineDay : Stops → PlansOf → List ℕ → Type 0
 IsFineDay stops Plans input = (length input ≤ LONGEST_DAY)
     × ((plans : List Plan) (rounds : List Round) (stop : Option DayStop) → ComesTo stops plans input rounds stop → Plans plans rounds → stop ≡ None)
 
--- ---- what is written of it; `Texts` says which texts are those of some rounds with such plans, one for each round, in order
+-- ---- what is written of it; `Texts` says which texts are those of some rounds with such plans, one for each round, in order. The
+-- plans are such as stay
 
 -- which texts are those of rounds with these plans
 abbrev pub TextsFor : Type 1
@@ -67,6 +69,7 @@ pub record SaysRounds (stops : Stops) (Texts : TextsFor) (input written : List �
   pub plans : List Plan
   pub rounds : List Round
   pub comes_to : ComesTo stops plans input rounds None
+  pub stay : PlansStay input plans
   pub texts : Texts plans rounds written
 
 -- the output of a day that is refused: its one line where it is too long, else the texts of the rounds before the
@@ -74,13 +77,14 @@ pub record SaysRounds (stops : Stops) (Texts : TextsFor) (input written : List �
 pub data IsRefusedOutput (stops : Stops) (Texts : TextsFor) (input output : List ℕ) : Type 0 where
   IsTooLong : (more : LONGEST_DAY < length input) (is : output ≡ refused_line 0 TooLong) → IsRefusedOutput stops Texts input output
   IsStopped : (within : length input ≤ LONGEST_DAY) (plans : List Plan) (rounds : List Round) (stop : DayStop) (comes_to : ComesTo stops plans input rounds (Some stop))
-      (text : List ℕ) (texts : Texts plans rounds text) (is : output ≡ text ++ refused_line stop.number stop.cause) → IsRefusedOutput stops Texts input output
+      (stay : PlansStay input plans) (text : List ℕ) (texts : Texts plans rounds text) (is : output ≡ text ++ refused_line stop.number stop.cause)
+      → IsRefusedOutput stops Texts input output
 
 -- the texts of the first rounds were written and nothing else, if any; no plan of a later round is known
 pub data SaysFirstRounds (stops : Stops) (Texts : TextsFor) (input written : List ℕ) : Type 0 where
   NoRound : (none : written ≡ []) → SaysFirstRounds stops Texts input written
   Rounds : (within : length input ≤ LONGEST_DAY) (plans : List Plan) (rounds : List Round) (stop : Option DayStop) (comes_to : ComesTo stops plans input rounds stop)
-      (n : ℕ) (texts : Texts plans (take n rounds) written) → SaysFirstRounds stops Texts input written
+      (stay : PlansStay input plans) (n : ℕ) (texts : Texts plans (take n rounds) written) → SaysFirstRounds stops Texts input written
 
 -- a front was written: of the texts of the first rounds, so that the last of them may be cut short; or of the output of a day
 -- that is refused

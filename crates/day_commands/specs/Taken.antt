@@ -19,6 +19,7 @@ use Rattle.replan.specs.Planning.{Planning}
 use Rattle.day_commands.specs.Instances.{AreInstances}
 use Rattle.day_commands.specs.Rounds.{change_stop}
 use Rattle.day_commands.specs.Dossiers.{IsProved, IsUnproved, plans_in}
+use Rattle.day_commands.specs.Staying.{FirstStays}
 use Rattle.day_commands.specs.declared.ended.DayOutput.{DayOutput}
 use Rattle.day_commands.specs.declared.ended.DayOutput.TheVariants.{Instances, Dossiers}
 use Rattle.day_commands.specs.declared.entries.Taken.{Taken}
@@ -66,11 +67,11 @@ abbrev pub AreTextsFrom : DayOutput → List NamedRoute → List Plan → List R
 AreTextsFrom Instances handed plans rounds text proved later = AreInstances plans rounds text × (proved ≡ true)
 AreTextsFrom Dossiers handed plans rounds text proved later = AreDossiersFrom handed plans rounds text proved later
 
--- a front of what is written of these rounds was written
-abbrev pub IsFrontFrom : DayOutput → List NamedRoute → List Round → Option (List ℕ) → Option (List ℕ) → Type 0
-IsFrontFrom output handed rounds got later =
-    (plans : List Plan) × (text : List ℕ) × (proved : Bool) × (last : List NamedRoute) × AreTextsFrom output handed plans rounds text proved last
-    × AppendedPart got later text
+-- a front of what is written of the round that the entry begins was written
+abbrev pub IsFrontFrom : DayOutput → Planning → Entry → Option (List ℕ) → Option (List ℕ) → Type 0
+IsFrontFrom output s entry got later =
+    (plans : List Plan) × (text : List ℕ) × (proved : Bool) × (last : List NamedRoute) × AreTextsFrom output s.handed plans (round_at s.day entry) text proved last
+    × AppendedPart got later text × FirstStays s.day plans
 
 -- how the entry changes a state of which no plan to come is known, where the round that it begins has these plans
 abbrev pub IsStateAfter : DayState → List Plan → Entry → DayState → Type 0
@@ -81,9 +82,9 @@ IsStateAfter s plans entry new = (new ≡ after_entry (record s { plans = plans 
 abbrev pub IsTakenSo : DayOutput → Planning → Entry → Taken → Planning → Option (List ℕ) → Option (List ℕ) → Type 0
 IsTakenSo output s entry (Whole proved) new got later = (change_stop s.day entry ≡ None) × (new.failed ≡ None)
     × ((plans : List Plan) × (text : List ℕ) × IsStateAfter s.day plans entry new.day
-    × AreTextsFrom output s.handed plans (round_at s.day entry) text proved new.handed × Appended got later text)
+    × AreTextsFrom output s.handed plans (round_at s.day entry) text proved new.handed × Appended got later text × FirstStays s.day plans)
 IsTakenSo output s entry (IsRefused fault) new got later = (change_stop s.day entry ≡ Some fault) × (fault ≢ Change OutOfMemory) × (later ≡ got)
-IsTakenSo output s entry WriteFault new got later = (change_stop s.day entry ≡ None) × IsFrontFrom output s.handed (round_at s.day entry) got later
+IsTakenSo output s entry WriteFault new got later = (change_stop s.day entry ≡ None) × IsFrontFrom output s entry got later
 
 -- what writing the instance of a round can come to
 abbrev pub is_whole_or_write_fault : Taken → Bool

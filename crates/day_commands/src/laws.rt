@@ -7,8 +7,10 @@ ghost use Rattle.day_terms.specs.Entries.{state_after};
 ghost use Rattle.day_terms.specs.Refusal.{AreTaken};
 ghost use Rattle.day_terms.specs.Rounds.{Round};
 ghost use Rattle.day_commands.specs.Rounds.{AreTakenBy, ComesTo, DayStop, Stops, change_stop};
+ghost use Rattle.day_commands.specs.ToCome.{PlansToCome};
 
 use day_records::one_reading;
+use day_terms::{plans_to_come_decide_nothing, rounds_are_of_plans, state_goes_on};
 
 /// Entries of a day are taken exactly where none is stopped in the state that those before it come to.
 pub fn entries_are_taken_in_turn()
@@ -32,5 +34,15 @@ pub fn one_coming()
         → ComesTo stops plans text rounds stop → ComesTo stops plans text others other
         → (rounds ≡ others) × (stop ≡ other) }
 {
+    one_reading();
+}
+
+/// What the laws of days say of the plans of rounds to come.
+pub(crate) fn plans_to_come()
+    ensures { PlansToCome }
+{
+    plans_to_come_decide_nothing();
+    rounds_are_of_plans();
+    state_goes_on();
     one_reading();
 }

@@ -11,13 +11,13 @@ ghost use Rattle.replan.specs.Planning.{no_entry_yet};
 
 use crate::ended::{DayOutput, Ended, refuse};
 use crate::entries::{Taken, Taker};
+use crate::laws::plans_to_come;
 use crate::refused::DayFault;
 use crew_io::sink::Sink;
 use crew_io::source::Source;
 use crew_io::text::{Text, read_text};
 use crew_terms::LONGEST_DAY;
 use day_records::{Day, read_day};
-use day_terms::{plans_to_come_decide_nothing, rounds_are_of_plans, state_goes_on};
 use std::alloc::{AllocError, Global};
 
 /// How a day ends of which no record is refused.
@@ -40,9 +40,7 @@ fn over_entries<K: Sink>(taker: &mut Taker, day: &Day, out: &mut K) -> Result<En
     ensures others { IfOk result (λ ended. IsTrue (is_of_text (output_of taker.old) ended)) }
     ensures tells { TellsWrites K.Sink out.old out.new (result ≡ Ok Ended.WriteFault) }
 {
-    plans_to_come_decide_nothing();
-    rounds_are_of_plans();
-    state_goes_on();
+    plans_to_come();
     let mut all_proved = true;
     let entries = day.entries.as_slice();
     for (n, entry) in entries.iter().enumerate() {

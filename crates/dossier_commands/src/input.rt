@@ -28,7 +28,7 @@ pub enum Outcome {
 }
 
 /// Why no line comes, as the checker is told it; None where a line comes, or where a read failed.
-fn stop_of(progress: Progress) -> Option<Stop>
+pub fn stop_of(progress: Progress) -> Option<Stop>
     ensures { result ≡ told_of progress }
 {
     match progress {

@@ -9,9 +9,9 @@ ghost use Rattle.dossier_terms.specs.Table.{Ended, Reaches};
 ghost use Rattle.cert_checker.specs.Checked.{IsTrueYes};
 ghost use Rattle.dossier_commands.specs.Input.{Front, GoTo, HasRead, IsAcceptedBehind, IsRefusal, text_of_lines};
 
-use cause_laws::loose_splits_stay_open;
 use dossier_laws::{
-    good_bounds, good_is_read, one_dossier, read_is_good, says_one_thing, sheet_is_good,
+    good_bounds, good_is_read, loose_splits_stay_open, one_dossier, read_is_good, says_one_thing,
+    sheet_is_good,
 };
 use text_laws::{good_lines, lines_in_text, read_front, words_of_line};
 

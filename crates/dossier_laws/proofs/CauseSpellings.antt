@@ -7,7 +7,7 @@ use Rattle.std.specs.Str.{all_ascii_digits}
 use Rattle.std.proofs.lemmas.Fmt.{decimal_is_IsNumeral_wide}
 use Rattle.crew_num.specs.declared.Op.{Op}
 use Rattle.crew_num.specs.declared.Overflow.{Overflow}
-use Rattle.crew_terms.specs.declared.TheConstants.{MOST_TASKS}
+use Rattle.crew_terms.specs.declared.TheConstants.{MOST_TASKS, MOST_NUMBER}
 use Rattle.dossier_terms.specs.Causes.{Part, IsPartOf}
 use Rattle.dossier_terms.specs.Counted.{IsVast, vast}
 use Rattle.dossier_terms.specs.Lines.{loose_line, share_line, spare_line, op_word, overflow_line, spent_line}
@@ -50,7 +50,7 @@ loose_one n few x y a b e =
     let r = dec x.2 y.2 (omega (arith, a.count)) (omega (arith, b.count)) cc in
     ap (λ (k : ℕ). (k, x.1, x.2)) p ∙ ap (λ (k : ℕ). (y.0, k, x.2)) q ∙ ap (λ (k : ℕ). (y.0, y.1, k)) r
 
-pub share_one : (columns whole : ℕ) → columns ≤ 9223372036854775807 → whole ≤ 170141183460469231731687303715884105727
+pub share_one : (columns whole : ℕ) → columns ≤ MOST_NUMBER → whole ≤ 170141183460469231731687303715884105727
     → (x y : Part) → IsPartOf columns whole x → IsPartOf columns whole y → share_line x ≡ share_line y → x ≡ y
 share_one columns whole few small x y a b e =
     let p = dec x.column y.column (omega (arith, a.known)) (omega (arith, b.known)) cc in

@@ -28,3 +28,7 @@ pub mod CauseSpellings
 pub mod Single
 pub mod One
 pub mod Sheet
+pub mod Duality
+pub mod Gaps
+pub mod Shown
+pub mod LooseBound

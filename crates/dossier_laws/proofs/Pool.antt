@@ -18,7 +18,7 @@ use Rattle.dossier_terms.specs.Table.{Says, Reaches}
 use Rattle.dossier_terms.specs.BodyTable.{pool_row, route_row, begin}
 use Rattle.dossier_terms.specs.Counted.{route_pairs}
 use Rattle.dossier_laws.proofs.SoFar.{IsHead, IsPoolPart, AreRoutes, IsReading, spelled, Follows, routes_lines}
-use Rattle.crew_terms.specs.declared.TheConstants.{LAST_MINUTE}
+use Rattle.crew_terms.specs.declared.TheConstants.{LAST_MINUTE, MOST_NUMBER}
 use Rattle.dossier_laws.proofs.Lists.{All-at, AllPairs-at, map_more}
 use Rattle.dossier_laws.proofs.Rules.{must_then, spells_then, goes_then, reaches_all}
 use Rattle.dossier_laws.specs.Days.{IsDay, last_minute, root_day}
@@ -86,7 +86,7 @@ route_in i k (v ∷ vs) day g =
     let b = goes_in i k v vs day g.1 in
     ((a.0, b.0), (a.1, b.1))
 
-pub pool_reached : (form : DossierForm) (i : Instance) (budget kept : ℕ) (pool : List Route) → IsInstance i → kept ≤ length pool → length pool ≤ 9223372036854775807
+pub pool_reached : (form : DossierForm) (i : Instance) (budget kept : ℕ) (pool : List Route) → IsInstance i → kept ≤ length pool → length pool ≤ MOST_NUMBER
     → All (IsPooled i) pool → AllPairs (λ (a b : Route). a ≢ b) pool
     → Reaches (Pools form i budget) (pool_lines kept pool) (Plans (record (begin form i budget kept) { pool = pool }))
 pool_reached form i budget kept pool whole some many good differ = (

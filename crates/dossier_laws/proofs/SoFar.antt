@@ -16,7 +16,7 @@ use Rattle.crew_terms.specs.declared.Side.TheVariants.{First}
 use Rattle.crew_terms.specs.declared.Team.{Team}
 use Rattle.crew_terms.specs.declared.Task.{Task}
 use Rattle.crew_terms.specs.declared.TreeCounts.{TreeCounts}
-use Rattle.crew_terms.specs.declared.TheConstants.{MOST_NODES}
+use Rattle.crew_terms.specs.declared.TheConstants.{MOST_NODES, MOST_NUMBER}
 use Rattle.dossier_terms.specs.declared.DossierForm.{DossierForm}
 use Rattle.dossier_terms.specs.declared.DossierForm.TheVariants.{Two}
 use Rattle.dossier_terms.specs.Causes.{Cause, Part, Shares, IsNow, IsPartOf, PartsRise, IsCauseOf}
@@ -88,7 +88,7 @@ pub record IsHead (form : DossierForm) (i : Instance) (b : ℕ) : Type 0 where
 pub record IsPoolPart (b : Begun) (all : ℕ) : Type 0 where
   pub head : IsHead b.form b.instance b.budget
   pub kept : b.kept ≤ all
-  pub many : all ≤ 9223372036854775807
+  pub many : all ≤ MOST_NUMBER
   pub pool : All (IsPooled b.instance) b.pool
   pub differ : AllPairs (λ (a c : Route). a ≢ c) b.pool
 
@@ -147,7 +147,7 @@ pub record ArePartsRead (p : SplitSite) (now : ℕ) (read : Shares) (left from :
   pub site : IsSplitSite p
   pub now_known : IsNow (limits_before p) (unassigned_count p.begun.plan) now
   pub whole : read.whole ≤ 170141183460469231731687303715884105727
-  pub count : length read.parts + left ≤ 9223372036854775807
+  pub count : length read.parts + left ≤ MOST_NUMBER
   pub parts : AllByRecursion (IsPartOf (length p.begun.pool) read.whole) read.parts
   pub rise : (more : List Part) → PartsRise from more → PartsRise 0 (read.parts ++ more)
 

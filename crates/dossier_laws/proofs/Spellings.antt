@@ -12,7 +12,7 @@ use Rattle.crew_terms.specs.Plan.{Job}
 use Rattle.crew_terms.specs.declared.Team.{Team}
 use Rattle.crew_terms.specs.declared.Task.{Task}
 use Rattle.crew_terms.specs.declared.Visit.{Visit}
-use Rattle.crew_terms.specs.declared.TheConstants.{LAST_MINUTE, MOST_PLACES, MOST_TASKS, MOST_TEAMS, SKILLS}
+use Rattle.crew_terms.specs.declared.TheConstants.{LAST_MINUTE, MOST_PLACES, MOST_TASKS, MOST_TEAMS, SKILLS, MOST_NUMBER}
 use Rattle.dossier_terms.specs.declared.Size.{Size}
 use Rattle.dossier_terms.specs.Dossier.{IsWorthNumber, IsSigned}
 use Rattle.crew_terms.specs.Limits.{Route}
@@ -40,10 +40,10 @@ no_sign : (n : ℕ) (ds : List ℕ) → n < 18446744073709551616 → decimal n �
 no_sign n ds h e = let a : true ≡ false = sym (digits_decimal own n (omega arith)) ∙ ap all_ascii_digits e in absurd cc
 
 small : (m : ℕ) → IsWide (pos m) → m < 18446744073709551616
-small m a = let p : pos m ≤ℤ pos 9223372036854775807 = a.most in omega (arith, ints)
+small m a = let p : pos m ≤ℤ pos MOST_NUMBER = a.most in omega (arith, ints)
 
 small_neg : (m : ℕ) → IsWide (negsuc m) → suc m < 18446744073709551616
-small_neg m a = let p : negsuc 9223372036854775807 ≤ℤ negsuc m = a.least in omega (arith, ints)
+small_neg m a = let p : negsuc MOST_NUMBER ≤ℤ negsuc m = a.least in omega (arith, ints)
 
 pub sdec : (y z : ℤ) → IsWide y → IsWide z → signed_decimal y ≡ signed_decimal z → y ≡ z
 sdec (pos m) (pos n) a b e = ap pos (dec m n (small m a) (small n b) e)
@@ -130,7 +130,7 @@ pair_one : (x y : ℕ × ℕ) → x.0 < 18446744073709551616 → x.1 < 184467440
     → decimal x.0 ≡ decimal y.0 → decimal x.1 ≡ decimal y.1 → x ≡ y
 pair_one x y a b c d e f = ap (λ (n : ℕ). (n, x.1)) (dec x.0 y.0 a c e) ∙ ap (λ (n : ℕ). (y.0, n)) (dec x.1 y.1 b d f)
 
-pub pool_one : (x y : ℕ × ℕ) → (x.0 ≤ 9223372036854775807) × (x.1 ≤ 9223372036854775807) → (y.0 ≤ 9223372036854775807) × (y.1 ≤ 9223372036854775807)
+pub pool_one : (x y : ℕ × ℕ) → (x.0 ≤ MOST_NUMBER) × (x.1 ≤ MOST_NUMBER) → (y.0 ≤ MOST_NUMBER) × (y.1 ≤ MOST_NUMBER)
     → pool_line x.0 x.1 ≡ pool_line y.0 y.1 → x ≡ y
 pool_one x y a b e = pair_one x y (omega arith) (omega arith) (omega arith) (omega arith) (cc) (cc)
 

@@ -1,5 +1,5 @@
-// The laws of dossiers: the table of lines reads what is good and nothing else, says one thing of each line,
-// and every good dossier's bound holds. Each law is the contract of a function with nothing to do.
+// The laws of dossiers: the table of lines reads what is good and nothing else, says one thing of each line, every good
+// dossier's bound holds, and what the causes of its splits mean. Each law is the contract of a function with nothing to do.
 #![tactic(auto)]
 
 ghost use Rattle.std.specs.Prelude.{◌≡◌, ◌≤◌, ◌<◌, ◌^◌, ◌++◌, List, [], ◌∷◌, ℕ, ℤ, ◌+◌, pos, length, map, slice_index, slice_index_or};
@@ -29,6 +29,9 @@ ghost use Rattle.dossier_laws.specs.Sheet.{sheet, sheet_lines};
 ghost use Rattle.dossier_laws.specs.Law.{AreRunsOfRow, IsHeadOf, IsWhole, IsRead};
 ghost use Rattle.dossier_laws.specs.Listed.{IsSkillList};
 
+mod causes;
+
+pub use causes::{loose_choices_bound_prices, loose_splits_stay_open, no_leaf_beats_a_choice};
 use crew_laws::{one_verdict, root_has_legal_plans, root_is_limits, tree_proves};
 
 /// Lines that the table reads to an end are the lines of a good dossier.

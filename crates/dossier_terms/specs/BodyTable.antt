@@ -8,6 +8,7 @@ use Rattle.crew_terms.specs.Limits.{Route, IsRoute, root_limits}
 use Rattle.crew_terms.specs.Verdict.{IsVerdict}
 use Rattle.crew_terms.specs.declared.PlanVerdict.{PlanVerdict}
 use Rattle.crew_terms.specs.declared.TreeCounts.{TreeCounts}
+use Rattle.crew_terms.specs.declared.TheConstants.{MOST_NUMBER}
 use Rattle.dossier_terms.specs.declared.DossierForm.{DossierForm}
 use Rattle.dossier_terms.specs.declared.Reason.{Reason}
 use Rattle.dossier_terms.specs.declared.Reason.TheVariants.{Shape, Number, Plan as BadPlan, Count, Budget, Pool}
@@ -23,7 +24,7 @@ begin form i budget kept = record { form = form; instance = i; budget = budget; 
 -- a line `pool`
 abbrev pub pool_row : DossierForm → Instance → ℕ → Words → Answer → Type 0
 pool_row form i budget ws = Must (IsShape (codes "pool") 2 ws) Shape
-    (MustSpell (λ (p : ℕ × ℕ). pool_line p.0 p.1) (λ p. (p.0 ≤ 9223372036854775807) × (p.1 ≤ 9223372036854775807)) ws Number λ p.
+    (MustSpell (λ (p : ℕ × ℕ). pool_line p.0 p.1) (λ p. (p.0 ≤ MOST_NUMBER) × (p.1 ≤ MOST_NUMBER)) ws Number λ p.
     Must (p.0 ≤ p.1) Pool
     (Goes (routes_due (begin form i budget p.0) p.1)))
 

@@ -4,6 +4,7 @@ use Rattle.std.specs.List.{AllByRecursion}
 use Rattle.crew_num.specs.declared.Overflow.{Overflow}
 use Rattle.crew_num.specs.Exact.{FitsI128, IsOverflow}
 use Rattle.crew_terms.specs.Limits.{Limits, Route, tasks_in}
+use Rattle.crew_terms.specs.declared.TheConstants.{MOST_NUMBER}
 use Rattle.share_terms.specs.Shares.{Share, FractionalChoice, IsFractional, IsLoose}
 use Rattle.dossier_terms.specs.declared.DossierForm.{DossierForm}
 use Rattle.dossier_terms.specs.declared.DossierForm.TheVariants.{One, Two}
@@ -66,7 +67,7 @@ PartsRise from (p ∷ ps) = (from ≤ p.column) × PartsRise (suc p.column) ps
 -- shares of columns of the pool, each once
 pub record AreShares (pool : List Route) (s : Shares) : Type 0 where
   pub whole : s.whole ≤ 170141183460469231731687303715884105727
-  pub count : length s.parts ≤ 9223372036854775807
+  pub count : length s.parts ≤ MOST_NUMBER
   pub parts : AllByRecursion (IsPartOf (length pool) s.whole) s.parts
   pub rise : PartsRise 0 s.parts
 

@@ -9,6 +9,7 @@ use Rattle.crew_terms.specs.Leaf.{IsPrice}
 use Rattle.crew_terms.specs.Limits.{Limits, Route}
 use Rattle.crew_terms.specs.Nodes.{child_instance}
 use Rattle.crew_terms.specs.declared.Visit.{Visit}
+use Rattle.crew_terms.specs.declared.TheConstants.{MOST_NUMBER}
 use Rattle.dossier_terms.specs.Dossier.{Written, unshown, IsWorthNumber, IsSigned}
 use Rattle.dossier_terms.specs.Causes.{Cause, NoCause, Loose, Overflowed, Spent, unshown_in}
 use Rattle.dossier_terms.specs.Reading.{Above, limits_below}
@@ -69,8 +70,8 @@ steps_pairs j rs some = let a = runs_length rs in (length rs - 1, omega arith)
 
 -- fits 64 bits, with a sign
 pub record IsWide (z : ℤ) : Type 0 where
-  pub least : negsuc 9223372036854775807 ≤ℤ z
-  pub most : z ≤ℤ pos 9223372036854775807
+  pub least : negsuc MOST_NUMBER ≤ℤ z
+  pub most : z ≤ℤ pos MOST_NUMBER
 
 -- fits 128 bits, with a sign
 pub record IsVast (z : ℤ) : Type 0 where

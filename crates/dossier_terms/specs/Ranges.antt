@@ -11,7 +11,7 @@ use Rattle.crew_terms.specs.declared.Visit.{Visit}
 use Rattle.crew_terms.specs.declared.Team.{Team}
 use Rattle.crew_terms.specs.declared.Task.{Task}
 use Rattle.crew_terms.specs.declared.TreeCounts.{TreeCounts}
-use Rattle.crew_terms.specs.declared.TheConstants.{MOST_PLACES, MOST_TEAMS, MOST_TASKS, SKILLS, LAST_MINUTE, MOST_NODES}
+use Rattle.crew_terms.specs.declared.TheConstants.{MOST_PLACES, MOST_TEAMS, MOST_TASKS, SKILLS, LAST_MINUTE, MOST_NODES, MOST_NUMBER}
 use Rattle.dossier_terms.specs.declared.Size.{Size}
 use Rattle.dossier_terms.specs.Dossier.{IsSigned}
 use Rattle.crew_num.specs.declared.Op.{Op}
@@ -96,7 +96,7 @@ pub record IsLooseLine (n : ℕ) (p : ℕ × ℕ × ℕ) : Type 0 where
   pub now : IsNowWord n p.0
   pub some : 1 ≤ p.1
   pub whole : p.1 ≤ 170141183460469231731687303715884105727
-  pub count : p.2 ≤ 9223372036854775807
+  pub count : p.2 ≤ MOST_NUMBER
 
 -- the ranges of a line `spare`
 pub record IsSpareLine (n whole : ℕ) (spare : List ℕ) : Type 0 where

@@ -76,15 +76,15 @@ module _ (same : (text : List ℕ) (told : Option Stop) (rounds : List Round) (s
     told = text ∙ long_as;
     written = is;
   }
-  wrong_alike input explained applied (IsTooLong more text) (IsStopped within plans rounds stop comes lines texts is) = absurd (omega arith)
+  wrong_alike input explained applied (IsTooLong more text) (IsStopped within plans rounds stop comes stay lines texts is) = absurd (omega arith)
   wrong_alike input explained applied (HasFaults within faults told are some text) (IsRefusedWhole longer is) = absurd (omega arith)
-  wrong_alike input explained applied (HasFaults within faults told are some text) (IsStopped fits plans rounds stop comes lines texts is) =
+  wrong_alike input explained applied (HasFaults within faults told are some text) (IsStopped fits plans rounds stop comes stay lines texts is) =
       ends_alike explained applied (front_of faults told) lines (first_stop (stops_of faults.records.items)) stop (stops_there input faults told plans rounds (Some stop) are texts.0 comes)
       (text ∙ explained_as faults told) is
 
   pub fine_is_not_refused : (input explained applied : List ℕ) → SaysFine input explained → IsRefusedOutput change_stop (TextsOf Instances) input applied → ⊥
   fine_is_not_refused input explained applied fine (IsRefusedWhole longer is) = let within = fine.within in omega arith
-  fine_is_not_refused input explained applied fine (IsStopped within plans rounds stop comes lines texts is) =
+  fine_is_not_refused input explained applied fine (IsStopped within plans rounds stop comes stay lines texts is) =
       let there = stops_there input fine.faults fine.told plans rounds (Some stop) fine.are texts.0 comes in
       let none = no_stop fine.faults.records.items fine.none in
       let e : Some stop ≡ None = there ∙ ap (option_map day_stop) none in

@@ -12,3 +12,8 @@ pub mod ByPlace
 pub mod Entries
 pub mod Refusals
 pub mod PlansSoFar
+pub mod FirstOf
+pub mod GoodJobs
+pub mod Clashes
+pub mod CalmTeams
+pub mod FirstFaults

@@ -13,6 +13,7 @@ ghost use Rattle.flight_changes.specs.Faults.{fault_of};
 ghost use Rattle.flight_changes.specs.Limits.{IsListEntry};
 
 use crate::faults::ChangeFault;
+use crate::job_laws::first_fault_is_told;
 use crate::jobs::{NamedJob, PlannedJobs, copies, end_jobs, end_jobs_of, first_job_of};
 use crate::lists::Lists;
 use crew_instance::{Instance, Plan};
@@ -21,7 +22,6 @@ use crew_terms::Name;
 use day_terms::Entry;
 use std::alloc::{AllocError, Global};
 use std::marker::Model;
-use work_laws::first_fault_is_told;
 
 /// A day's state: its places, teams and tasks in the order in which they came, the travel times, what is left of the last
 /// plan, and the frozen jobs. Each entry that is not refused changes it.

@@ -7,12 +7,12 @@ ghost use Rattle.day_terms.specs.State.{has_team};
 ghost use Rattle.day_terms.specs.Work.{faulty_job, first_by_task, lesser_by_task, needs_team, with_frozen};
 ghost use Rattle.flight_changes.specs.Limits.{AreDoable, AreTeamsKnown};
 
+use crate::job_laws::first_fault_is_told;
 use crate::jobs::{NamedJob, first_job_of, has_job_of};
 use crate::lists::Lists;
 use crew_instance::{Instance, Plan, feasibility, task_of_verdict};
 use crew_terms::Name;
 use std::alloc::AllocError;
-use work_laws::first_fault_is_told;
 
 impl Lists {
     /// The number of the team that has the name.

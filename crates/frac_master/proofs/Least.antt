@@ -14,7 +14,7 @@ use Rattle.frac_master.specs.Choosing.{IsBefore, IsBehind, IsBest, IsRatioFault}
 use Rattle.crew_num.specs.declared.Overflow.{Overflow}
 use Rattle.crew_num.specs.Ratios.{IsFirstProduct}
 use Rattle.crew_num.specs.Ratios.IsFirstProduct.{Left, Right}
-use Rattle.ring_laws.specs.Ring.{assoc, times_up_to, cancel_up_to}
+use Rattle.crew_num.specs.Ring.{assoc, times_up_to, cancel_up_to}
 
 -- a/b <= c/d and c/d <= e/f give a/e <= e/f
 pub ratio_trans : (a b c d e f : ℤ) → pos 0 <ℤ b → pos 0 <ℤ d → pos 0 <ℤ f

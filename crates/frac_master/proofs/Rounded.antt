@@ -8,8 +8,8 @@ use Rattle.std.proofs.Math.IntN.{*ℤ_comm}
 use Rattle.crew_num.specs.Ratios.{IsFloor}
 use Rattle.crew_terms.specs.declared.TheConstants.{D, MOST_PRICE}
 use Rattle.search_terms.specs.Earned.{rounded}
-use Rattle.ring_laws.specs.Quotients.{at_most, division, rest_below, rest_low}
-use Rattle.ring_laws.specs.Ring.{cancel_positive, not_negative, scale_diff}
+use Rattle.crew_num.specs.Quotients.{at_most, division, rest_below, rest_low}
+use Rattle.crew_num.specs.Ring.{cancel_positive, not_negative, scale_diff}
 
 -- the floor is the quotient
 floor_is : (floor n : ℤ) (d : ℕ) → 0 < d → IsFloor floor n (pos d) → floor ≡ int_div_euclid n (pos d)

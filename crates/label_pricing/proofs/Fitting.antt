@@ -7,7 +7,7 @@ use Rattle.crew_terms.specs.Instance.{no_team}
 use Rattle.crew_terms.specs.Rules.{IsInstance}
 use Rattle.crew_terms.specs.Limits.{Limits, IsPermittedVisit, IsRoute, teams_in}
 use Rattle.crew_terms.specs.Leaf.{rewards, IsWorth}
-use Rattle.crew_terms.specs.declared.TheConstants.{MOST_PRICE}
+use Rattle.crew_terms.specs.declared.TheConstants.{MOST_PRICE, LAST_MINUTE}
 use Rattle.crew_terms.specs.declared.Visit.{Visit}
 use Rattle.crew_laws.specs.Visits.{visit}
 use Rattle.potentials.specs.Sums.{AreBoundedBy}
@@ -15,21 +15,21 @@ use Rattle.label_pricing.specs.Best.{IsBest}
 use Rattle.label_pricing.specs.Turns.{IsEnd}
 use Rattle.label_pricing.proofs.Onward.{short}
 
-signed : (v : ℤ) → neg_ℤ (pos (2 * MOST_PRICE)) ≤ℤ v → v ≤ℤ pos (2881 * (2 * MOST_PRICE)) → FitsSigned w64 v
+signed : (v : ℤ) → neg_ℤ (pos (2 * MOST_PRICE)) ≤ℤ v → v ≤ℤ pos ((LAST_MINUTE + 1) * (2 * MOST_PRICE)) → FitsSigned w64 v
 signed v a b = omega (arith, ints)
 
 pub worth_least : (n : Limits) (k : ℕ) (w : ℕ → ℕ → ℤ) (v : ℤ) → IsWorth n k w v → pos 0 ≤ℤ v
 worth_least n k w v is = is.greatest [] tt
 
 module _ (n : Limits) (k : ℕ) (w : ℕ → ℕ → ℤ) (instance : IsInstance n.instance) (range : AreBoundedBy (2 * MOST_PRICE) w) (known : k < teams_in n) where
-  ends : IsEnd n k 2881
+  ends : IsEnd n k (LAST_MINUTE + 1)
   ends j t here =
       let day = (instance.parts.teams k no_team known).shift.day in
       let home = here.in_shift.returns in
       omega arith
 
-  below : (j t : ℕ) (r : List Visit) → IsRoute n k (visit j t ∷ r) → rewards w (visit j t ∷ r) ≤ℤ pos (2881 * (2 * MOST_PRICE))
-  below j t r is = let a = short n k w range instance 2881 ends (omega arith) j t r is in omega (arith, ints)
+  below : (j t : ℕ) (r : List Visit) → IsRoute n k (visit j t ∷ r) → rewards w (visit j t ∷ r) ≤ℤ pos ((LAST_MINUTE + 1) * (2 * MOST_PRICE))
+  below j t r is = let a = short n k w range instance (LAST_MINUTE + 1) ends (omega arith) j t r is in omega (arith, ints)
 
   pub best_fits : (j t : ℕ) (v : ℤ) → IsPermittedVisit n k j t → IsBest n k w j t v → FitsSigned w64 v
   best_fits j t v here is =

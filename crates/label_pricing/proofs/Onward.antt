@@ -8,7 +8,7 @@ use Rattle.crew_terms.specs.Instance.{Instance, task_of, no_task, minutes_betwee
 use Rattle.crew_terms.specs.Rules.{IsInstance, IsTask}
 use Rattle.crew_terms.specs.Limits.{Limits, IsPermittedStep, IsRoute, tasks_in}
 use Rattle.crew_terms.specs.Leaf.{rewards}
-use Rattle.crew_terms.specs.declared.TheConstants.{MOST_PRICE}
+use Rattle.crew_terms.specs.declared.TheConstants.{MOST_PRICE, LAST_MINUTE}
 use Rattle.crew_terms.specs.declared.Visit.{Visit}
 use Rattle.crew_laws.specs.Visits.{visit}
 use Rattle.potentials.specs.Sums.{AreBoundedBy}
@@ -109,9 +109,9 @@ module _ (n : Limits) (k : ℕ) (w : ℕ → ℕ → ℤ) where
     most = λ h u r (here, on). is.most h u (let a = (task_is n.instance h instance here.known).place in omega arith) r (here, on);
   }
 
-  module _ (range : AreBoundedBy (2 * MOST_PRICE) w) (instance : IsInstance n.instance) (end : ℕ) (ends : IsEnd n k end) (day : end ≤ 2881) where
+  module _ (range : AreBoundedBy (2 * MOST_PRICE) w) (instance : IsInstance n.instance) (end : ℕ) (ends : IsEnd n k end) (day : end ≤ LAST_MINUTE + 1) where
     -- each visit of a route earns so much at most, and takes a minute
-    pub short : (j t : ℕ) (r : List Visit) → IsRoute n k (visit j t ∷ r) → rewards w (visit j t ∷ r) ≤ℤ pos ((2881 - t) * (2 * MOST_PRICE))
+    pub short : (j t : ℕ) (r : List Visit) → IsRoute n k (visit j t ∷ r) → rewards w (visit j t ∷ r) ≤ℤ pos ((LAST_MINUTE + 1 - t) * (2 * MOST_PRICE))
     short j t [] (here, on) =
         let a = (range j t).most in
         let c = ends j t here in

@@ -2,6 +2,7 @@
 ghost use Rattle.std.specs.Prelude.{◌≡◌, ◌≤◌, ◌<◌, ◌+◌, ℕ, ℤ, length};
 ghost use Rattle.crew_terms.specs.Rules.{IsInstance};
 ghost use Rattle.crew_terms.specs.Limits.{IsPermittedVisit, Limits as NodeLimits, tasks_in, teams_in};
+ghost use Rattle.crew_terms.specs.declared.TheConstants.{LAST_MINUTE};
 ghost use Rattle.label_pricing.specs.Best.{IsAfter, IsBest, IsFirst};
 ghost use Rattle.label_pricing.specs.Cells.{AreCells, IsGrid};
 ghost use Rattle.label_pricing.specs.Turns.{IsEnd, IsStart, IsTurn};
@@ -26,7 +27,7 @@ pub(crate) fn after(
     requires some_minutes { 1 ≤ turn.minutes }
     requires minutes { turn.minutes ≤ 2880 }
     requires minute { t ≤ 2880 }
-    requires end { end ≤ 2881 }
+    requires end { end ≤ LAST_MINUTE + 1 }
     requires grid { IsGrid (length instance.now.places) grid.now }
     ensures { (n : NodeLimits) (k : ℕ) (w : ℕ → ℕ → ℤ) → n.instance ≡ instance.now
         → IsTurn n k j turn → IsEnd n k end
@@ -89,7 +90,7 @@ pub(crate) fn label_at<R: Rewards>(
     requires visit { IsPermittedVisit limits.now.limits k j t }
     requires turn { IsTurn limits.now.limits k j turn }
     requires end { IsEnd limits.now.limits k end }
-    requires day { end ≤ 2881 }
+    requires day { end ≤ LAST_MINUTE + 1 }
     requires grid { IsGrid (length limits.now.limits.instance.places) grid.now }
     requires cells { AreCells limits.now.limits k (R.earned limits.now.limits prices.now k) (t + 1) end grid.now }
     ensures task { result.task ≡ j }

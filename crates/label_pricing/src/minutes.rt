@@ -1,6 +1,7 @@
 // The potentials of a team, by the cells, where rewards may change with the minute.
-ghost use Rattle.std.specs.Prelude.{◌≡◌, ◌≤◌, ◌<◌, ℕ, length};
+ghost use Rattle.std.specs.Prelude.{◌≡◌, ◌≤◌, ◌<◌, ℕ, length, ◌+◌};
 ghost use Rattle.crew_terms.specs.Limits.{IsPermittedVisit, tasks_in, teams_in};
+ghost use Rattle.crew_terms.specs.declared.TheConstants.{LAST_MINUTE};
 ghost use Rattle.label_pricing.specs.Best.{IsBest};
 ghost use Rattle.label_pricing.specs.Cells.{AreCells, IsGrid};
 ghost use Rattle.label_pricing.specs.Turns.{AreTurns, IsEnd, IsStart, IsTurn};
@@ -31,7 +32,7 @@ fn fill_task_minutes<R: Rewards>(
     requires turn { IsTurn limits.now.limits k j turn }
     requires start { IsStart limits.now.limits k start }
     requires end { IsEnd limits.now.limits k end }
-    requires day { end ≤ 2881 }
+    requires day { end ≤ LAST_MINUTE + 1 }
     requires grid { IsGrid (length limits.now.limits.instance.places) grid.now }
     requires cells { AreCells limits.now.limits k (R.earned limits.now.limits prices.now k) start
         end grid.now }
@@ -66,7 +67,7 @@ pub(crate) fn fill_minutes<R: Rewards>(
     requires turns { AreTurns limits.now.limits k turns.now }
     requires start { IsStart limits.now.limits k start }
     requires end { IsEnd limits.now.limits k end }
-    requires day { end ≤ 2881 }
+    requires day { end ≤ LAST_MINUTE + 1 }
     requires grid { IsGrid (length limits.now.limits.instance.places) grid.now }
     requires cells { AreCells limits.now.limits k (R.earned limits.now.limits prices.now k) start
         end grid.now }

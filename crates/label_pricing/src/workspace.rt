@@ -17,7 +17,7 @@ use crate::sweep::sweep;
 use crate::tables::fill;
 use crate::turns::{Turn, end_of, find_turns, start_of};
 use crew_instance::Instance;
-use crew_terms::Visit;
+use crew_terms::{LAST_MINUTE, Visit};
 use node_limits::Limits;
 use potentials::{Prices, Table};
 use std::alloc::{AllocError, Global};
@@ -26,7 +26,7 @@ use visit_rewards::Rewards;
 // The most tasks of an instance, and the most visits of a route.
 const TASKS: usize = 400;
 
-const VISITS: usize = 2881;
+const VISITS: usize = LAST_MINUTE as usize + 1;
 
 /// Room for the pricing of teams, and what it found for the last one.
 #[derive(Drop)]

@@ -1,23 +1,12 @@
 // The plan of the required pairs.
-ghost use Rattle.std.specs.Prelude.{◌≡◌, ◌<◌, ◌↔◌, IfOk, IsTrue};
-ghost use Rattle.crew_terms.specs.Limits.{is_required as required_pair, tasks_in};
+ghost use Rattle.std.specs.Prelude.{◌≡◌, ◌<◌, IfOk};
+ghost use Rattle.crew_terms.specs.Limits.{tasks_in};
 ghost use Rattle.crew_terms.specs.Minutes.{required_teams as teams_required};
 ghost use Rattle.search_terms.specs.Closing.{required_plan as plan_required};
 
-use crew_terms::Pair;
-use node_limits::Limits;
+use node_limits::{Limits, is_required};
 use plan_check::Plan;
 use std::alloc::{AllocError, Global};
-
-/// Whether the node requires the pair.
-pub(crate) fn is_required(pair: Pair) -> bool
-    ensures { result ≡ required_pair pair }
-{
-    match pair {
-        Pair::Required => true,
-        Pair::Free | Pair::Forbidden => false,
-    }
-}
 
 /// The teams that the node requires at task `j`.
 fn required_teams(alloc: Global, limits: &Limits<'_>, j: u32) -> Result<Vec<u32>, AllocError>

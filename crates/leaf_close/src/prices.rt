@@ -7,9 +7,8 @@ ghost use Rattle.potentials.specs.Prices.{ArePricesOf};
 ghost use Rattle.leaf_close.specs.Faults.{AreFaultPrices, IsFirstNodeFault};
 
 use crate::faults::Fault;
-use crate::plans::is_required;
 use crew_terms::D;
-use node_limits::Limits;
+use node_limits::{Limits, is_required};
 use potentials::Prices;
 use std::alloc::{AllocError, Global};
 

@@ -11,7 +11,7 @@ use Rattle.search_terms.specs.declared.Place.{Place}
 use Rattle.search_terms.specs.declared.Place.TheVariants.{Right, Value, Unused, Unassigned, Shortage, Excess, Missed, Repeated}
 use Rattle.search_terms.specs.Rows.{Rows, IsSolution}
 use Rattle.search_terms.specs.Opening.{variables, places, place_at, basic_number, visit_number, cost, one_if, less_one_if, teams_for}
-use Rattle.ring_laws.specs.Ring.{minus_times, scale_diff, assoc, sum_times, difference_times}
+use Rattle.crew_num.specs.Ring.{minus_times, scale_diff, assoc, sum_times, difference_times}
 use Rattle.crew_terms.specs.Totals.{total-same, total-zero, total-one, total-front, total-plus, total-swap}
 use Rattle.master_laws.proofs.Totals.{total-minus, total-scale}
 use Rattle.master_laws.proofs.Apart.{not_same, same, and_false, basic_value}

@@ -6,7 +6,7 @@ use Rattle.std.proofs.lemmas.Int.{ints}
 use Rattle.std.proofs.Math.IntN.{*ℤ_comm, zero-*ℤ}
 use Rattle.crew_terms.specs.Limits.{Limits}
 use Rattle.search_terms.specs.Rows.{Rows, number, row_of, basic_of, last, value_row, IsSolution, AreBasic, AreFeasible}
-use Rattle.ring_laws.specs.Ring.{minus_times, swap, not_negative, cancel_not_negative}
+use Rattle.crew_num.specs.Ring.{minus_times, swap, not_negative, cancel_not_negative}
 use Rattle.crew_terms.specs.Totals.{total-one, total-zero}
 use Rattle.master_laws.proofs.Entering.{spread_at, spike, spike-same, spike-other, product_plus, product_spread, product_spike}
 use Rattle.master_laws.proofs.Costs.{IsCosted}

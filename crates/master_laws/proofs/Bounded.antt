@@ -13,7 +13,7 @@ use Rattle.search_terms.specs.declared.Place.TheVariants.{Right, Unused, Unassig
 use Rattle.search_terms.specs.Rows.{Rows, number, row_of, basic_of, last, IsSolution, AreBasic}
 use Rattle.search_terms.specs.Opening.{required_pairs, variables, places, place_at, cost}
 use Rattle.search_terms.specs.Pivot.{IsImproving, IsBounding}
-use Rattle.ring_laws.specs.Ring.{minus_times, assoc, swap, positive, not_negative}
+use Rattle.crew_num.specs.Ring.{minus_times, assoc, swap, positive, not_negative}
 use Rattle.crew_terms.specs.Totals.{total-one, total-front}
 use Rattle.master_laws.proofs.Entering.{spread_at, spike, spike-same, spike-other, product_plus, product_spread, product_spike}
 use Rattle.master_laws.proofs.Costs.{IsCosted}

@@ -14,7 +14,7 @@ use Rattle.search_terms.specs.declared.Place.TheVariants.{Right, Value, Unused, 
 use Rattle.search_terms.specs.Rows.{Rows, number, row_of, basic_of, last, AreBasic}
 use Rattle.search_terms.specs.Opening.{variables, places, places_where, one_if}
 use Rattle.share_terms.specs.Shares.{Share, distance}
-use Rattle.ring_laws.specs.Ring.{assoc, swap, scale_sum, scale_diff, cancel_zero, not_negative, cancel_up_to, difference_times}
+use Rattle.crew_num.specs.Ring.{assoc, swap, scale_sum, scale_diff, cancel_zero, not_negative, cancel_up_to, difference_times}
 use Rattle.crew_terms.specs.Totals.{total-same, total-front}
 use Rattle.master_laws.proofs.Totals.{total-scale}
 use Rattle.master_laws.proofs.Duals.{no_route}

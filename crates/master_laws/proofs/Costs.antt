@@ -12,7 +12,7 @@ use Rattle.search_terms.specs.Rows.{Row, Rows, number, row_of, width, product, I
 use Rattle.search_terms.specs.Opening.{places, openers, opener, basic_at, place_at, opening_basis, opening, basic_number, cost, cost_sum, route_number, visit_number, entered, opens}
 use Rattle.search_terms.specs.MasterRun.{MasterRun}
 use Rattle.search_terms.specs.MasterRun.MasterRun.{Opens, Pivots, Enters}
-use Rattle.ring_laws.specs.Ring.{minus_times, swap, scale_diff}
+use Rattle.crew_num.specs.Ring.{minus_times, swap, scale_diff}
 use Rattle.crew_terms.specs.Totals.{total-same, total-zero, total-swap, lt_or_last}
 use Rattle.master_laws.specs.Opening.{wide_opening}
 use Rattle.master_laws.proofs.Totals.{total-scale, total-minus}

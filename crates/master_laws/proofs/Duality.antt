@@ -15,7 +15,7 @@ use Rattle.search_terms.specs.Pivot.{IsOptimal}
 use Rattle.search_terms.specs.MasterRun.{IsMasterRun}
 use Rattle.search_terms.specs.Duals.{AreDuals, AreUpToPenalty, IsUpTo, best_reward, term_over, extras}
 use Rattle.share_terms.specs.Shares.{IsRouteIn, IsFractional, choice_value}
-use Rattle.ring_laws.specs.Ring.{positive}
+use Rattle.crew_num.specs.Ring.{positive}
 use Rattle.master_laws.proofs.Opened.{basic_opening}
 use Rattle.crew_terms.specs.Totals.{lt_or_last}
 use Rattle.master_laws.proofs.Positions.{count, openers_count, opener_basic, opener_last, basic_position}

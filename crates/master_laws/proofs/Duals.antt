@@ -12,7 +12,7 @@ use Rattle.search_terms.specs.Pivot.{IsPivot, IsReplaced, IsOptimal}
 use Rattle.search_terms.specs.Opening.{places, basic_at, openers, opener, opening, opening_basis, entered, entry, times, cost, route_number, visit_number, dual, dual_sum}
 use Rattle.search_terms.specs.MasterRun.{MasterRun}
 use Rattle.search_terms.specs.MasterRun.MasterRun.{Opens, Pivots, Enters}
-use Rattle.ring_laws.specs.Ring.{assoc, scale_sum}
+use Rattle.crew_num.specs.Ring.{assoc, scale_sum}
 use Rattle.crew_terms.specs.Totals.{total-same, total-plus, lt_or_last}
 use Rattle.master_laws.proofs.Totals.{total-scale, total-minus}
 use Rattle.master_laws.proofs.Solutions.{by_row, spread}

@@ -11,7 +11,7 @@ use Rattle.crew_terms.specs.Limits.{Limits, Route}
 use Rattle.crew_terms.specs.Total.{total}
 use Rattle.search_terms.specs.Rows.{Row, Rows, number, row_of, basic_of, last, width, product, IsSolution, AreBasic, AreFeasible}
 use Rattle.search_terms.specs.Opening.{places, openers, opener, opening_basis, route_number, entry, entered}
-use Rattle.ring_laws.specs.Ring.{swap, scale_sum}
+use Rattle.crew_num.specs.Ring.{swap, scale_sum}
 use Rattle.crew_terms.specs.Totals.{total-same, total-plus, total-zero, total-one}
 use Rattle.master_laws.proofs.Totals.{total-scale}
 use Rattle.search_terms.specs.declared.TheConstants.{RIGHT}

@@ -7,7 +7,7 @@ use Rattle.std.proofs.lemmas.Bool.{cases_eq}
 use Rattle.std.proofs.Math.IntN.{*ℤ_comm}
 use Rattle.search_terms.specs.Rows.{Row, Rows, number, row_of, basic_of, last, width, AreBasic, AreFeasible}
 use Rattle.search_terms.specs.Pivot.{IsPivot, IsPivotAt, IsReplaced}
-use Rattle.ring_laws.specs.Ring.{minus_times, positive, not_negative, cancel_zero, cancel_positive, cancel_not_negative}
+use Rattle.crew_num.specs.Ring.{minus_times, positive, not_negative, cancel_zero, cancel_positive, cancel_not_negative}
 use Rattle.master_laws.proofs.Solutions.{by_row}
 use Rattle.search_terms.specs.declared.TheConstants.{RIGHT, VALUE}
 

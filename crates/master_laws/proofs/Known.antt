@@ -9,7 +9,7 @@ use Rattle.crew_terms.specs.Total.{total}
 use Rattle.search_terms.specs.declared.Place.{Place}
 use Rattle.search_terms.specs.declared.Place.TheVariants.{Right, Value, Unused, Unassigned, Shortage, Excess, Missed, Repeated}
 use Rattle.search_terms.specs.Opening.{required_pairs, variables, places, place_at}
-use Rattle.ring_laws.specs.Ring.{not_negative}
+use Rattle.crew_num.specs.Ring.{not_negative}
 use Rattle.crew_terms.specs.Totals.{total-same, total-zero}
 use Rattle.master_laws.proofs.Bounded.{total-not_negative}
 use Rattle.master_laws.proofs.Stands.{Stands}

@@ -29,3 +29,6 @@ pub mod Duality
 pub mod Within
 pub mod Lowest
 pub mod Placed
+pub mod Loose
+pub mod Rounding
+pub mod Losing

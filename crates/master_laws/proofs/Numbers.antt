@@ -11,7 +11,7 @@ use Rattle.search_terms.specs.Pivot.{IsReplaced}
 use Rattle.search_terms.specs.Opening.{places, place_at, basic_at, openers, opener, opening, opening_basis, opening_number, basic_number, entered, times, cost, cost_sum, dual}
 use Rattle.search_terms.specs.MasterRun.{MasterRun}
 use Rattle.search_terms.specs.MasterRun.MasterRun.{Opens, Pivots, Enters}
-use Rattle.ring_laws.specs.Ring.{assoc, scale_sum, scale_diff}
+use Rattle.crew_num.specs.Ring.{assoc, scale_sum, scale_diff}
 use Rattle.crew_terms.specs.Totals.{total-same, total-plus, total-one}
 use Rattle.master_laws.proofs.Totals.{total-scale, total-minus}
 use Rattle.master_laws.proofs.Solutions.{by_row, spread}

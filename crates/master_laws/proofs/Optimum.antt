@@ -16,7 +16,7 @@ use Rattle.search_terms.specs.Pivot.{IsOptimal}
 use Rattle.search_terms.specs.Opening.{places, place_at, basic_at, openers, opener, opening, opens, basic_number, visit_number, cost, dual, teams_for, one_if, less_one_if}
 use Rattle.search_terms.specs.Duals.{AreDuals, AreDualWorths, extras}
 use Rattle.search_terms.specs.MasterRun.{MasterRun}
-use Rattle.ring_laws.specs.Ring.{minus_times}
+use Rattle.crew_num.specs.Ring.{minus_times}
 use Rattle.crew_terms.specs.Totals.{total-same, total-zero, total-one, total-swap}
 use Rattle.master_laws.proofs.Totals.{total-minus}
 use Rattle.master_laws.proofs.Runs.{of_run}

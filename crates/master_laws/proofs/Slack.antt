@@ -18,7 +18,7 @@ use Rattle.search_terms.specs.Rows.{Row, Rows, number, last, value_row}
 use Rattle.search_terms.specs.Opening.{places, visit_number, one_if}
 use Rattle.search_terms.specs.Duals.{AreDuals, best_reward, term_over, extras}
 use Rattle.share_terms.specs.Shares.{IsRouteIn, visits_to}
-use Rattle.ring_laws.specs.Ring.{scale_sum}
+use Rattle.crew_num.specs.Ring.{scale_sum}
 use Rattle.crew_terms.specs.Totals.{total-same, total-zero, total-one, total-plus}
 use Rattle.crew_terms.specs.Greater.{max_left, max_right}
 use Rattle.master_laws.proofs.Apart.{not_same, same}

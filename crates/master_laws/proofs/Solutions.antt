@@ -7,7 +7,7 @@ use Rattle.std.proofs.Math.IntN.{*ℤ_comm}
 use Rattle.crew_terms.specs.Total.{total}
 use Rattle.search_terms.specs.Rows.{Row, Rows, number, row_of, product, IsSolution, AreBasic}
 use Rattle.search_terms.specs.Pivot.{IsPivot, IsPivotAt, IsReplaced}
-use Rattle.ring_laws.specs.Ring.{assoc, scale_diff, cancel_zero}
+use Rattle.crew_num.specs.Ring.{assoc, scale_diff, cancel_zero}
 use Rattle.crew_terms.specs.Totals.{total-same}
 use Rattle.master_laws.proofs.Totals.{total-scale, total-minus}
 

@@ -15,7 +15,7 @@ use Rattle.search_terms.specs.declared.Place.TheVariants.{Unused, Unassigned, Sh
 use Rattle.search_terms.specs.Rows.{Rows, number, last, value_row}
 use Rattle.search_terms.specs.Opening.{places, one_if, teams_for}
 use Rattle.share_terms.specs.Shares.{Share, FractionalChoice, IsRouteIn, IsFractional, choice_value, shares_of, parts_of, weighed_visits, distance, task_gap, pair_gap, unassigned_of, visits_to}
-use Rattle.ring_laws.specs.Ring.{assoc, swap, scale_sum, scale_diff, positive, not_negative, times_up_to, cancel_up_to, cancel_positive, sum_times, difference_times}
+use Rattle.crew_num.specs.Ring.{assoc, swap, scale_sum, scale_diff, positive, not_negative, times_up_to, cancel_up_to, cancel_positive, sum_times, difference_times}
 use Rattle.crew_terms.specs.Totals.{total-same}
 use Rattle.master_laws.proofs.Totals.{total-scale}
 use Rattle.master_laws.proofs.Bounded.{total-not_negative}

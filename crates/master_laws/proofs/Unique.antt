@@ -14,7 +14,7 @@ use Rattle.search_terms.specs.Pivot.{IsPivot, IsPivotAt, IsReplaced, IsEntering,
 use Rattle.search_terms.specs.Opening.{places, opening, entered}
 use Rattle.search_terms.specs.MasterRun.{MasterRun, IsRunOver}
 use Rattle.search_terms.specs.MasterRun.MasterRun.{Opens, Pivots, Enters}
-use Rattle.ring_laws.specs.Ring.{scale_diff, cancel_zero}
+use Rattle.crew_num.specs.Ring.{scale_diff, cancel_zero}
 use Rattle.master_laws.proofs.Solutions.{by_row}
 use Rattle.master_laws.proofs.Feasible.{basic_next}
 use Rattle.master_laws.proofs.Entering.{basic_entered}

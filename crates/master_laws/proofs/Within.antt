@@ -22,7 +22,7 @@ use Rattle.share_terms.specs.Shares.{unassigned_of}
 use Rattle.search_terms.specs.BasicChoice.{AreWholeParts, choice_of}
 use Rattle.search_terms.specs.declared.TheConstants.{VALUE}
 use Rattle.master_laws.proofs.Below.{below}
-use Rattle.ring_laws.specs.Ring.{not_negative, cancel_up_to, times_up_to}
+use Rattle.crew_num.specs.Ring.{not_negative, cancel_up_to, times_up_to}
 use Rattle.crew_terms.specs.Totals.{total-same, lt_or_last}
 use Rattle.master_laws.specs.Opening.{wide_opening}
 use Rattle.master_laws.proofs.Solutions.{solves_next}

@@ -1,2 +1,3 @@
 pub mod Rewards
 pub mod Opening
+pub mod Loss

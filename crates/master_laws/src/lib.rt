@@ -1,5 +1,5 @@
-// The laws of the rows of the master problem: what pivots and runs keep, and what the rows say at an optimum. Each law is
-// the contract of a function with nothing to do.
+// The laws of the rows of the master problem: what pivots and runs keep, what the rows say at an optimum, and what a bound
+// loses where prices are rounded down. Each law is the contract of a function with nothing to do.
 #![tactic(auto)]
 
 ghost use Rattle.std.specs.Prelude.{◌≡◌, ◌≤◌, ◌+◌, ◌<◌, ◌↔◌, ◌++◌, ◌≤ℤ◌, ◌+ℤ◌, ◌-ℤ◌, ◌*ℤ◌, pos, length, List, ℕ, ℤ, slice_index_or, unsigned_abs, All, Contains};
@@ -17,7 +17,13 @@ ghost use Rattle.search_terms.specs.declared.TheConstants.{RIGHT, VALUE};
 ghost use Rattle.search_terms.specs.BasicChoice.{AreWholeParts, choice_of};
 ghost use Rattle.search_terms.specs.declared.Place.{Place};
 
+mod losses;
+
 use crew_terms::Pair;
+pub use losses::{
+    MOST_LOSS, little_is_lost, rounded_prices_are_near, rounding_loses_little,
+    unproved_shares_are_loose,
+};
 use search_terms::Place;
 
 /// A pivot keeps the vectors that solve the rows.

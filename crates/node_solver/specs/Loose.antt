@@ -6,7 +6,7 @@ use Rattle.crew_terms.specs.Limits.{Limits, Route}
 use Rattle.crew_terms.specs.declared.TheConstants.{D}
 use Rattle.frac_master.specs.declared.shares.Share.{Share}
 use Rattle.label_pricing.specs.Worths.{AreWorths}
-use Rattle.rounding_laws.specs.declared.TheConstants.{MOST_LOSS}
+use Rattle.master_laws.specs.declared.losses.TheConstants.{MOST_LOSS}
 use Rattle.share_terms.specs.Shares.{FractionalChoice, IsFractional, IsLoose, choice_value}
 use Rattle.master_run.specs.Shares.{ArePositive, fractional_of}
 use Rattle.master_run.specs.State.{Rise}

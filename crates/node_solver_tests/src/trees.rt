@@ -1,7 +1,7 @@
 // Trees whose nodes have numbers.
 use crate::asserts::same;
 use crew_terms::{Choice, MOST_NODES, Side};
-use search_tree::{Content, Node, NumberedTree, Turn};
+use search_tree::{Branch, Content, Node, NumberedTree};
 use std::alloc::{AllocError, Global};
 use std::process::Abort;
 use std::test::Fail;
@@ -68,7 +68,7 @@ fn same_turns(
     alloc: Global,
     tree: &NumberedTree,
     n: u32,
-    wanted: &[Turn],
+    wanted: &[Branch],
 ) -> Result<(), Fail> {
     assert!(rt; (n as usize) < tree.len());
     same(rt, &tree.turns(alloc, n)?.as_slice(), &wanted);
@@ -116,7 +116,7 @@ fn ways_have_turns(rt: HostRuntime) -> Result<(), Fail> {
     same(&rt, &split_open(&mut tree, 0, CUT, 0)?, &Some(1));
     same(&rt, &split_open(&mut tree, 2, PAIR, 0)?, &Some(3));
     let side = Side::Second;
-    let turns = [Turn { choice: CUT, side }, Turn { choice: PAIR, side }];
+    let turns = [Branch { choice: CUT, side }, Branch { choice: PAIR, side }];
     same_turns(&rt, rt.alloc(), &tree, 4, &turns)?;
     same_turns(&rt, rt.alloc(), &tree, 2, &turns[..1])?;
     same_turns(&rt, rt.alloc(), &tree, 0, &[])

@@ -9,13 +9,13 @@ use Rattle.crew_io.specs.declared.sink.Sink.{Ghosts as SinkTells}
 use Rattle.crew_io.specs.declared.source.Source.{Ghosts as SourceTells}
 use Rattle.dossier_commands.specs.declared.read.Ended.{Ended}
 use Rattle.dossier_commands.specs.declared.read.Ended.TheVariants as check
-use Rattle.bundle_command.specs.Says.{WritesBundles, SaysNo as SaysNotWritten}
-use Rattle.bundle_command.specs.declared.command.BundlesEnded.{BundlesEnded}
-use Rattle.bundle_command.specs.declared.command.BundlesEnded.TheVariants as bundles
+use Rattle.bundle_command.specs.Says.{WritesPieces, SaysNo as SaysNotWritten}
+use Rattle.bundle_command.specs.declared.command.PiecesEnded.{PiecesEnded}
+use Rattle.bundle_command.specs.declared.command.PiecesEnded.TheVariants as pieces
 use Rattle.parts_command.specs.Says.{ReadsBundles, SaysNo}
-use Rattle.parts_cli.specs.Run.{Answers, AreDossiers, AreSomeBundles, of_check, of_parts}
-use Rattle.parts_cli.specs.Status.{bundles_status, check_status}
-use Rattle.parts_cli.specs.declared.words.Parts.{Parts as PartsWords}
+use Rattle.parts_cli.specs.Run.{Answers, AreDossiers, AreSomeBundles, of_check, of_pieces}
+use Rattle.parts_cli.specs.Status.{pieces_status, check_status}
+use Rattle.bundle_write.specs.declared.piece.Job.{Job}
 
 pub if_some : {X : Type 0} (o : Option X) (P : X → Type 0) → ((x : X) → P x) → IfSome o P
 if_some None P h = tt
@@ -26,9 +26,9 @@ refused_is_no_bundles : (left got later : Option (List ℕ)) (A B C : Type 0) �
 refused_is_no_bundles None got later A B C says = tt
 refused_is_no_bundles (Some input) got later A B C says = λ fine a b. absurd (says.2.not_accepted fine.0 fine.1)
 
-no_dossiers_is_not_fine : (nodes : ℕ) (left got later : Option (List ℕ)) (A B C : Type 0) → OfBytes left got later (SaysNotWritten nodes) → IfSome left (λ input. AreDossiers input → A → B → C)
-no_dossiers_is_not_fine nodes None got later A B C says = tt
-no_dossiers_is_not_fine nodes (Some input) got later A B C says = λ fine a b. absurd (says.2.not_accepted fine.0 fine.1)
+no_dossiers_is_not_fine : (job : Job) (left got later : Option (List ℕ)) (A B C : Type 0) → OfBytes left got later (SaysNotWritten job) → IfSome left (λ input. AreDossiers input → A → B → C)
+no_dossiers_is_not_fine job None got later A B C says = tt
+no_dossiers_is_not_fine job (Some input) got later A B C says = λ fine a b. absurd (says.2.not_accepted fine.0 fine.1)
 
 module _ {S K : Type 0} (source : SourceTells S) (sink : SinkTells K) (src later : S) (out new : K) where
   -- the same fault by another name
@@ -91,10 +91,10 @@ module _ {S K : Type 0} (source : SourceTells S) (sink : SinkTells K) (src later
     complete = if_some (source.left src) _ (λ input fine nr nw. inr refl);
   }
 
-  -- the command `parts` answers by the status of its end
-  pub parts_answer : {E : Type 0} (p : PartsWords) (ended : Result BundlesEnded E) → WritesBundles source sink p.nodes src later out new ended
-      → Answers source sink (of_parts p) src later out new (bundles_status ended)
-  parts_answer p (Ok bundles.Proved) r = record {
+  -- a command that writes a text for each dossier answers by the status of its end
+  pub pieces_answer : {E : Type 0} (words : List (List ℕ)) (in_range : Type 0) (job : Job) (ended : Result PiecesEnded E) → WritesPieces source sink job src later out new ended
+      → Answers source sink (of_pieces words in_range job) src later out new (pieces_status ended)
+  pieces_answer words in_range job (Ok pieces.Proved) r = record {
     says = r.says;
     part = r.front;
     ends = refl;
@@ -104,7 +104,7 @@ module _ {S K : Type 0} (source : SourceTells S) (sink : SinkTells K) (src later
     writes = tells_write r.writes (λ e. absurd (cc)) (λ e. absurd (cc));
     complete = if_some (source.left src) _ (λ input fine nr nw. inl refl);
   }
-  parts_answer p (Ok bundles.Open) r = record {
+  pieces_answer words in_range job (Ok pieces.Open) r = record {
     says = r.says;
     part = r.front;
     ends = refl;
@@ -114,7 +114,7 @@ module _ {S K : Type 0} (source : SourceTells S) (sink : SinkTells K) (src later
     writes = tells_write r.writes (λ e. absurd (cc)) (λ e. absurd (cc));
     complete = if_some (source.left src) _ (λ input fine nr nw. inl refl);
   }
-  parts_answer p (Ok bundles.No) r = record {
+  pieces_answer words in_range job (Ok pieces.No) r = record {
     says = r.says;
     part = r.front;
     ends = refl;
@@ -122,9 +122,9 @@ module _ {S K : Type 0} (source : SourceTells S) (sink : SinkTells K) (src later
     ended = λ e. absurd (cc);
     reads = tells_read r.reads (λ e. absurd (cc)) (λ e. absurd (cc));
     writes = tells_write r.writes (λ e. absurd (cc)) (λ e. absurd (cc));
-    complete = no_dossiers_is_not_fine p.nodes (source.left src) (sink.got out) (sink.got new) _ _ _ r.says;
+    complete = no_dossiers_is_not_fine job (source.left src) (sink.got out) (sink.got new) _ _ _ r.says;
   }
-  parts_answer p (Ok bundles.ReadFault) r = record {
+  pieces_answer words in_range job (Ok pieces.ReadFault) r = record {
     says = r.says;
     part = r.front;
     ends = refl;
@@ -134,7 +134,7 @@ module _ {S K : Type 0} (source : SourceTells S) (sink : SinkTells K) (src later
     writes = tells_write r.writes (λ e. absurd (cc)) (λ e. absurd (cc));
     complete = if_some (source.left src) _ (λ input fine nr nw. absurd (nr (r.reads.cause refl)));
   }
-  parts_answer p (Ok bundles.WriteFault) r = record {
+  pieces_answer words in_range job (Ok pieces.WriteFault) r = record {
     says = r.says;
     part = r.front;
     ends = refl;
@@ -144,7 +144,7 @@ module _ {S K : Type 0} (source : SourceTells S) (sink : SinkTells K) (src later
     writes = tells_write r.writes (λ _. refl) (λ _. refl);
     complete = if_some (source.left src) _ (λ input fine nr nw. absurd (nw (r.writes.cause refl)));
   }
-  parts_answer p (Err fault) r = record {
+  pieces_answer words in_range job (Err fault) r = record {
     says = r.front;
     part = r.front;
     ends = refl;

@@ -1,5 +1,5 @@
 -- the commands, and what each status says
-use Rattle.std.specs.Prelude.{◌≡◌, ◌⊎◌, ℕ, Bool, true, false, List, [], ◌∷◌, All, Option, codes, IfSome, IsTrue}
+use Rattle.std.specs.Prelude.{◌≡◌, ◌-◌, ◌⊎◌, ℕ, Bool, true, false, List, [], ◌∷◌, All, Option, codes, IfSome, IsTrue}
 use Rattle.crew_io.specs.Io.{HasEnded, Rose}
 use Rattle.crew_io.specs.Bytes.{OfBytes}
 use Rattle.crew_io.specs.Puts.{TellsWrites}
@@ -11,13 +11,14 @@ use Rattle.dossier_terms.specs.Accepted.{IsAccepted}
 use Rattle.part_texts.specs.Accepted.{AreBundles}
 use Rattle.part_texts.specs.Bundle.{Bundle}
 use Rattle.parts_command.specs.Says.{SaysYes, SaysNo, SaysFront, SaysReadFault, SaysLines}
-use Rattle.bundle_command.specs.Bundles.{IsProved}
-use Rattle.bundle_command.specs.Says.{SaysYes as SaysWritten, SaysNo as SaysNotWritten, SaysFront as SaysBundlesFront, SaysReadFault as SaysDossiersCutOff}
+use Rattle.bundle_write.specs.declared.piece.Job.{Job}
+use Rattle.bundle_write.specs.declared.piece.Job.TheVariants.{Bundle as BundleJob, Count as CountJob, Part as PartJob}
+use Rattle.bundle_command.specs.Pieces.{HasNoneOpen}
+use Rattle.bundle_command.specs.Says.{SaysYes as SaysWritten, SaysNo as SaysNotWritten, SaysFront as SaysPiecesFront, SaysReadFault as SaysDossiersCutOff}
 use Rattle.parts_cli.specs.Status.{is_done}
-use Rattle.parts_cli.specs.Words.{IsParts, parts_words}
-use Rattle.parts_cli.specs.declared.words.Parts.{Parts as PartsWords}
+use Rattle.parts_cli.specs.Words.{IsOnePart, IsParts, part_words, parts_words}
 use Rattle.parts_cli.specs.declared.run.Command.{Command}
-use Rattle.parts_cli.specs.declared.run.Command.TheVariants.{PartsCheck, Parts}
+use Rattle.parts_cli.specs.declared.run.Command.TheVariants.{PartsCheck, PartsCut, Parts, Part}
 use Rattle.parts_cli.specs.declared.status.Status.{Status}
 use Rattle.parts_cli.specs.declared.status.Status.TheVariants.{Done, No, Words, ReadFault, WriteFault, Memory, Unproved}
 
@@ -30,16 +31,16 @@ PartsCheckSays WriteFault unseen input written = SaysFront input written
 PartsCheckSays Memory unseen input written = SaysLines input written
 PartsCheckSays _ unseen input written = ⊥
 
--- what a status says of the command `parts`, which writes a bundle for each good dossier, whose parts are planned with so many nodes:
--- done where each bundle proves that no legal plan leaves fewer tasks unassigned than the day's; no other status comes
-abbrev pub PartsSays : ℕ → Status → Option (List ℕ) → List ℕ → List ℕ → Type 0
-PartsSays nodes Done unseen input written = SaysWritten nodes (All IsProved) input written
-PartsSays nodes Unproved unseen input written = SaysWritten nodes (λ bundles. All IsProved bundles → ⊥) input written
-PartsSays nodes No unseen input written = SaysNotWritten nodes input written
-PartsSays nodes ReadFault unseen input written = SaysDossiersCutOff nodes unseen input written
-PartsSays nodes WriteFault unseen input written = SaysBundlesFront nodes input written
-PartsSays nodes Memory unseen input written = SaysBundlesFront nodes input written
-PartsSays nodes Words unseen input written = ⊥
+-- what a status says of a command that writes a text for each good dossier: done where none of these leaves open whether another plan
+-- does more tasks; no other status comes
+abbrev pub PiecesSay : Job → Status → Option (List ℕ) → List ℕ → List ℕ → Type 0
+PiecesSay job Done unseen input written = SaysWritten job (All HasNoneOpen) input written
+PiecesSay job Unproved unseen input written = SaysWritten job (λ pieces. All HasNoneOpen pieces → ⊥) input written
+PiecesSay job No unseen input written = SaysNotWritten job input written
+PiecesSay job ReadFault unseen input written = SaysDossiersCutOff job unseen input written
+PiecesSay job WriteFault unseen input written = SaysPiecesFront job input written
+PiecesSay job Memory unseen input written = SaysPiecesFront job input written
+PiecesSay job Words unseen input written = ⊥
 
 -- the statuses that a check of bundles can end with
 abbrev pub check_ends_with : Status → Bool
@@ -47,10 +48,10 @@ check_ends_with Words = false
 check_ends_with Unproved = false
 check_ends_with _ = true
 
--- the statuses that the command `parts` can end with
-abbrev pub parts_end_with : Status → Bool
-parts_end_with Words = false
-parts_end_with _ = true
+-- the statuses that such a command can end with
+abbrev pub pieces_end_with : Status → Bool
+pieces_end_with Words = false
+pieces_end_with _ = true
 
 -- the bytes are accepted as some bundles
 abbrev pub AreSomeBundles : List ℕ → Type 0
@@ -79,20 +80,22 @@ of_check = record {
   fine = AreSomeBundles;
 }
 
--- the command `parts`: it takes bytes that are accepted as dossiers
-abbrev pub of_parts : PartsWords → Promises
-of_parts parts = record {
-  words = parts_words parts;
-  in_range = IsParts parts;
-  says = PartsSays parts.nodes;
-  ends_with = parts_end_with;
+-- a command that writes a text for each good dossier: it takes bytes that are accepted as dossiers
+abbrev pub of_pieces : List (List ℕ) → Type 0 → Job → Promises
+of_pieces words in_range job = record {
+  words = words;
+  in_range = in_range;
+  says = PiecesSay job;
+  ends_with = pieces_end_with;
   fine = AreDossiers;
 }
 
 -- the commands, with what is promised of each
 abbrev pub promises_of : Command → Promises
 promises_of PartsCheck = of_check
-promises_of (Parts parts) = of_parts parts
+promises_of PartsCut = of_pieces (codes "parts-cut" ∷ []) (Unit {0}) CountJob
+promises_of (Parts parts) = of_pieces (parts_words parts) (IsParts parts) (BundleJob parts.nodes)
+promises_of (Part part) = of_pieces (part_words part) (IsOnePart part) (PartJob part.nodes (part.number - 1))
 
 -- the words ask for the command: they are its words, and its number is in its range
 abbrev pub AskFor : Command → List (List ℕ) → Type 0

@@ -2,8 +2,8 @@
 use Rattle.std.specs.Prelude.{ℕ, Bool, true, false, Result, Ok, Err}
 use Rattle.dossier_commands.specs.declared.read.Ended.{Ended}
 use Rattle.dossier_commands.specs.declared.read.Ended.TheVariants as check
-use Rattle.bundle_command.specs.declared.command.BundlesEnded.{BundlesEnded}
-use Rattle.bundle_command.specs.declared.command.BundlesEnded.TheVariants as bundles
+use Rattle.bundle_command.specs.declared.command.PiecesEnded.{PiecesEnded}
+use Rattle.bundle_command.specs.declared.command.PiecesEnded.TheVariants as pieces
 use Rattle.parts_cli.specs.declared.status.Status.{Status}
 use Rattle.parts_cli.specs.declared.status.Status.TheVariants.{Done, No, Words, ReadFault, WriteFault, Memory, Unproved}
 
@@ -31,11 +31,11 @@ check_status (Ok check.ReadFault) = ReadFault
 check_status (Ok check.WriteFault) = WriteFault
 check_status (Err fault) = Memory
 
--- the status of a command that writes bundles and ended so, or for which memory was wanting
-abbrev pub bundles_status : {E : Type 0} → Result BundlesEnded E → Status
-bundles_status (Ok bundles.Proved) = Done
-bundles_status (Ok bundles.Open) = Unproved
-bundles_status (Ok bundles.No) = No
-bundles_status (Ok bundles.ReadFault) = ReadFault
-bundles_status (Ok bundles.WriteFault) = WriteFault
-bundles_status (Err fault) = Memory
+-- the status of a command that writes a text for each dossier and ended so, or for which memory was wanting
+abbrev pub pieces_status : {E : Type 0} → Result PiecesEnded E → Status
+pieces_status (Ok pieces.Proved) = Done
+pieces_status (Ok pieces.Open) = Unproved
+pieces_status (Ok pieces.No) = No
+pieces_status (Ok pieces.ReadFault) = ReadFault
+pieces_status (Ok pieces.WriteFault) = WriteFault
+pieces_status (Err fault) = Memory

@@ -2,12 +2,12 @@
 ghost use Rattle.std.specs.Prelude.{◌≡◌, ◌≢◌, ◌≤◌, ◌↔◌, ◌⊎◌, ℕ, List, [], ◌∷◌, map, string_bytes, IfSome, IsTrue, MatchOption};
 ghost use Rattle.crew_io.specs.Io.{HasEnded, Rose};
 ghost use Rattle.crew_io.specs.Bytes.{OfBytes};
-ghost use Rattle.parts_cli.specs.Status.{bundles_status, check_status, is_done};
+ghost use Rattle.parts_cli.specs.Status.{pieces_status, check_status, is_done};
 ghost use Rattle.parts_cli.specs.Run.{Answers, AskFor, promises_of};
 
 pub use crate::status::Status;
-use crate::words::Parts;
-use bundle_command::{BundlesEnded, write_bundles};
+use crate::words::{OnePart, Parts};
+use bundle_command::{Job, PiecesEnded, write_pieces};
 use crew_io::sink::Sink;
 use crew_io::source::Source;
 use dossier_commands::Ended;
@@ -19,8 +19,12 @@ use std::alloc::{AllocError, Global};
 pub enum Command {
     /// `parts-check`: read bundles, and write a yes line for each good one.
     PartsCheck,
+    /// `parts-cut`: read dossiers, and write for each good one how many parts its day has.
+    PartsCut,
     /// `parts`: read dossiers, and write for each good one a bundle, whose parts are planned on their own.
     Parts(Parts),
+    /// `part`: read dossiers, and write for each good one the dossier of one part of its day.
+    Part(OnePart),
 }
 
 /// Whether the words are the one word.
@@ -40,7 +44,13 @@ impl Command {
         if asks_for(words, "parts-check") {
             return Some(Command::PartsCheck);
         }
-        Some(Command::Parts(Parts::of(words)?))
+        if asks_for(words, "parts-cut") {
+            return Some(Command::PartsCut);
+        }
+        if let Some(parts) = Parts::of(words) {
+            return Some(Command::Parts(parts));
+        }
+        Some(Command::Part(OnePart::of(words)?))
     }
 }
 
@@ -57,16 +67,16 @@ fn of_check(ended: Result<Ended, AllocError>) -> Status
     }
 }
 
-/// The status of bundles that are written.
-fn of_bundles(ended: Result<BundlesEnded, AllocError>) -> Status
-    ensures { result ≡ bundles_status ended }
+/// The status of pieces that are written.
+fn of_pieces(ended: Result<PiecesEnded, AllocError>) -> Status
+    ensures { result ≡ pieces_status ended }
 {
     match ended {
-        Ok(BundlesEnded::Proved) => Status::Done,
-        Ok(BundlesEnded::Open) => Status::Unproved,
-        Ok(BundlesEnded::No) => Status::No,
-        Ok(BundlesEnded::ReadFault) => Status::ReadFault,
-        Ok(BundlesEnded::WriteFault) => Status::WriteFault,
+        Ok(PiecesEnded::Proved) => Status::Done,
+        Ok(PiecesEnded::Open) => Status::Unproved,
+        Ok(PiecesEnded::No) => Status::No,
+        Ok(PiecesEnded::ReadFault) => Status::ReadFault,
+        Ok(PiecesEnded::WriteFault) => Status::WriteFault,
         Err(AllocError) => Status::Memory,
     }
 }
@@ -79,15 +89,27 @@ fn answer<S: Source, K: Sink>(alloc: Global, command: Command, src: &mut S, out:
 {
     match command {
         Command::PartsCheck => of_check(read_bundles(alloc, src, out)),
-        Command::Parts(parts) => of_bundles(write_bundles(alloc, parts.nodes, src, out)),
+        Command::PartsCut => of_pieces(write_pieces(alloc, Job::Count, src, out)),
+        Command::Parts(parts) => {
+            let job = Job::Bundle { nodes: parts.nodes };
+            of_pieces(write_pieces(alloc, job, src, out))
+        }
+        Command::Part(part) => {
+            let job = Job::Part {
+                nodes: part.nodes,
+                number: part.number - 1,
+            };
+            of_pieces(write_pieces(alloc, job, src, out))
+        }
     }
 }
 
 /// Does what the words ask for. With `parts-check` it reads one bundle after another, and writes a line `yes` with its counts for
 /// each good one; at the first line that is refused it writes a line `no` with its number and the reason, and ends. With `parts` it
 /// reads one dossier after another, divides the day of each good one into parts, plans each of these on its own with a budget of so
-/// many nodes, and writes a bundle, which `parts-check` says yes to, or the line `no` of the first line that is refused. Other words
-/// have no form: nothing is read or written.
+/// many nodes, and writes a bundle, which `parts-check` says yes to, or the line `no` of the first line that is refused. With
+/// `parts-cut` it writes for each good dossier a line `parts` with the number of parts that its day has, and with `part` the dossier of
+/// one of them. Other words have no form: nothing is read or written.
 pub fn run<S: Source, K: Sink>(alloc: Global, words: &[String], src: &mut S, out: &mut K) -> Status
     // Each status tells what the input is and what was written, also at a fault.
     ensures says { (command : Command) → AskFor command (map (λ w. string_bytes w) words.now)

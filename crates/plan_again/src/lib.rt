@@ -2,7 +2,6 @@
 #![tactic(auto)]
 
 mod begun;
-mod judge;
 mod near;
 mod repaired;
 

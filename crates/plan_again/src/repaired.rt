@@ -4,9 +4,9 @@ ghost use Rattle.crew_terms.specs.Legal.{IsLegal, IsPacked};
 ghost use Rattle.crew_terms.specs.Plan.{unassigned_count};
 ghost use Rattle.team_days.specs.Adding.{Keeps};
 
-use crate::judge::is_legal;
 use crew_instance::{Instance, Plan};
 use plan_builder::{greedy, pack};
+use plan_check::is_legal;
 use std::alloc::{AllocError, Global};
 
 /// The frozen jobs, as a plan.

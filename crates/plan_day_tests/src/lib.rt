@@ -13,4 +13,8 @@ mod few_pivots;
 #[cfg(test)]
 mod frozen;
 #[cfg(test)]
+mod passed_on;
+#[cfg(test)]
 mod rounds;
+#[cfg(test)]
+mod stays;

@@ -226,19 +226,29 @@ fn a_flight_that_comes_earlier(rt: HostRuntime) -> Result<(), Fail> {
 
 // ---- what a round keeps
 
-/// The lines of routes of the nth dossier of a text, from 0.
-fn routes_of(alloc: Global, text: &[u8], n: usize) -> Result<Vec<&[u8]>, Fail> {
-    let mut routes = Vec::new(alloc);
+/// The lines of the nth dossier of a text, from 0, that begin so.
+pub fn lines_of<'a>(
+    alloc: Global,
+    text: &'a [u8],
+    n: usize,
+    head: &[u8],
+) -> Result<Vec<&'a [u8]>, Fail> {
+    let mut lines = Vec::new(alloc);
     let mut seen: usize = 0;
     for line in text.split(|b| *b == b'\n') {
         if line.starts_with(b"crew dossier") {
             seen = seen.saturating_add(1);
         }
-        if seen == n.saturating_add(1) && line.starts_with(b"route ") {
-            routes.push(line)?;
+        if seen == n.saturating_add(1) && line.starts_with(head) {
+            lines.push(line)?;
         }
     }
-    Ok(routes)
+    Ok(lines)
+}
+
+/// The lines of routes of the nth dossier of a text, from 0.
+fn routes_of(alloc: Global, text: &[u8], n: usize) -> Result<Vec<&[u8]>, Fail> {
+    lines_of(alloc, text, n, b"route ")
 }
 
 /// Whether the second dossier keeps all routes of the first, in order, as its `pool` line tells.

@@ -1,10 +1,10 @@
 // Jobs that stay as they are in an old plan.
 
-use crate::judge::is_as_good;
 use crate::orders::Orders;
 use crate::search::Search;
 use crate::weights::ONE;
 use crew_instance::Plan;
+use plan_check::is_as_good;
 use std::alloc::AllocError;
 
 // What a job is worth that stays with its teams.

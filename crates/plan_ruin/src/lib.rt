@@ -6,7 +6,6 @@ mod draws;
 mod effort;
 mod facts;
 mod holes;
-mod judge;
 mod kept;
 mod moves;
 mod orders;

@@ -5,11 +5,11 @@ ghost use Rattle.crew_terms.specs.Plan.{unassigned_count};
 ghost use Rattle.team_days.specs.Adding.{Keeps};
 
 use crate::effort::Effort;
-use crate::judge::is_as_good;
 use crate::kept::Old;
 use crate::search::Search;
 use crew_instance::{Instance, Plan, unassigned};
 use plan_builder::pack;
+use plan_check::is_as_good;
 use std::alloc::{AllocError, Global};
 
 /// The plan that is found, packed, if it is legal and leaves no more tasks unassigned than the one that is given; else that one.

@@ -2,13 +2,13 @@
 
 use crate::draws::Draws;
 use crate::facts::Facts;
-use crate::judge::is_as_good;
 use crate::kept::Old;
 use crate::orders::Orders;
 use crate::places::Place;
 use crate::queue::Due;
 use crate::weights::Weights;
 use crew_instance::{Instance, Plan, unassigned};
+use plan_check::is_as_good;
 use std::alloc::{AllocError, Global};
 
 // What a trial does besides its looks takes as long as so many of them.

@@ -4,10 +4,10 @@ ghost use Rattle.crew_terms.specs.Legal.{IsLegal, IsPacked};
 ghost use Rattle.crew_terms.specs.Plan.{unassigned_count};
 ghost use Rattle.team_days.specs.Adding.{Keeps};
 
-use crate::judge::is_as_good;
 use crate::search::Search;
 use crew_instance::{Instance, Plan, unassigned};
 use plan_builder::pack;
+use plan_check::is_as_good;
 use std::alloc::{AllocError, Global};
 
 /// How much a search does: so many iterations at most, and none after it has found a plan that leaves only `enough` tasks

@@ -4,7 +4,6 @@
 mod bettered;
 mod draws;
 mod facts;
-mod judge;
 mod memory;
 mod moves;
 mod orders;

@@ -3,12 +3,12 @@
 use crate::bettered::Effort;
 use crate::draws::Draws;
 use crate::facts::Facts;
-use crate::judge::is_as_good;
 use crate::memory::Memory;
 use crate::orders::Orders;
 use crate::picks::{Picks, cheapest};
 use crate::places::Place;
 use crew_instance::{Instance, Plan, unassigned};
+use plan_check::is_as_good;
 use std::alloc::{AllocError, Global};
 
 // A task that was put in by taking others out stays for so many iterations at least, and at most for so many more.

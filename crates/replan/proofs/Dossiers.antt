@@ -1,6 +1,6 @@
 -- what is written of an outcome of the search is a dossier of the round
 use Rattle.std.specs.Result.{IsErr, IsErrAnd}
-use Rattle.std.proofs.Common.{◌≡◌, ◌≤◌, ◌∙◌, ℕ, List, Result, Ok, Err, length, map, ap, subst, sym, refl, arith}
+use Rattle.std.proofs.Common.{◌≡◌, ◌≤◌, ◌∙◌, ℕ, List, Option, Result, Ok, Err, length, map, ap, subst, sym, refl, arith}
 use Rattle.std.specs.Prelude.{All, take}
 use Rattle.crew_io.specs.Puts.{TellsWrites}
 use Rattle.crew_laws.specs.Faultless.{legal_is_plan}
@@ -18,13 +18,14 @@ use Rattle.crew_terms.specs.Limits.{Route, root_limits}
 use Rattle.crew_terms.specs.Plan.{Plan, unassigned_count}
 use Rattle.crew_terms.specs.Rules.{IsInstance}
 use Rattle.crew_terms.specs.Tree.{Tree}
-use Rattle.crew_terms.specs.declared.TheConstants.{MOST_NODES}
+use Rattle.crew_terms.specs.declared.TheConstants.{MOST_NODES, MOST_NUMBER}
 use Rattle.column_arena.specs.Columns.{AreColumns}
 use Rattle.dossier_terms.specs.Causes.{Cause}
 use Rattle.dossier_terms.specs.Dossier.{Dossier, IsGood, IsPooled, tree_of}
 use Rattle.replan.specs.Counts.{counts_of}
 use Rattle.replan.specs.Given.{IsOfOutcome, kept_in, parts_of}
 use Rattle.replan.specs.Planning.{IsRoundPut, fault_of_put}
+use Rattle.replan.specs.Staying.{LosesNoTask}
 use Rattle.replan.specs.declared.faults.SessionFault.{SessionFault}
 use Rattle.replan.specs.declared.faults.SessionFault.TheVariants as session
 use Rattle.replan.specs.declared.round.Planned.{Planned}
@@ -70,7 +71,7 @@ abbrev pub AreProved : Type 0
 AreProved = (i : Instance) (nodes : ℕ) (kept pool : List Route) (o : Outcome) → IsSolved i nodes kept pool o → IsProvedOutcome i nodes o
 
 abbrev pub MayBeTold : Type 0
-MayBeTold = (i : Instance) (nodes : ℕ) (kept pool : List Route) (o : Outcome) (tree : BranchTree) (told : List Cause) → IsSolved i nodes kept pool o → length pool ≤ 9223372036854775807
+MayBeTold = (i : Instance) (nodes : ℕ) (kept pool : List Route) (o : Outcome) (tree : BranchTree) (told : List Cause) → IsSolved i nodes kept pool o → length pool ≤ MOST_NUMBER
     → o.tree ≡ preorder tree → AreTold o.causes.items told → AreCauses pool (unassigned_count o.plan) (root_limits i) tree told
 
 abbrev pub ToldCount : Type 0
@@ -82,7 +83,7 @@ AreGood = (g : Given) (d : Dossier) → IsDossierOf g d → IsProvedGiven g → 
 -- ---- the parts
 
 pub of_outcome : (i : Instance) (nodes kept : ℕ) (columns : List Route) (o : Outcome) (told : List Cause) → IsInstance i → nodes ≤ MOST_NODES → kept ≤ length columns → AreColumns columns
-    → length columns ≤ 9223372036854775807 → All (IsPooled i) (take kept columns) → IsSolved i nodes (take kept columns) columns o → AreTold o.causes.items told
+    → length columns ≤ MOST_NUMBER → All (IsPooled i) (take kept columns) → IsSolved i nodes (take kept columns) columns o → AreTold o.causes.items told
     → IsOfOutcome (parts_of i nodes kept columns o told) o
 of_outcome i nodes kept columns o told is budget known are few pooled solved causes = record {
   instance = is;
@@ -256,17 +257,18 @@ abbrev pub IsRoundOf : List NamedRoute → Given → Dossier → Type 0
 IsRoundOf handed g d = IsRoundDossier handed (record { instance = g.instance; nodes = g.nodes }) d
 
 -- the dossier was not written whole
-pub put_failed : {K : Type 0} (sink : Ghosts K) (handed : List NamedRoute) (g : Given) (old new : K) (fault : PutFault) → ((d : Dossier) → IsDossierOf g d → IsRoundOf handed g d)
-    → WritesDossier sink g old new (Err fault) → IsRoundPut handed (record { instance = g.instance; nodes = g.nodes }) (Err (fault_of_put fault)) (sink.got old) (sink.got new)
-put_failed sink handed g old new WriteFault rounds w = (w.dossier, rounds w.dossier w.parts, w.puts.part)
-put_failed sink handed g old new OutOfMemory rounds w = ap sink.got w
+pub put_failed : {K : Type 0} (sink : Ghosts K) (handed : List NamedRoute) (last : Option Plan) (g : Given) (old new : K) (fault : PutFault) → ((d : Dossier) → IsDossierOf g d → IsRoundOf handed g d)
+    → LosesNoTask g.instance last g.plan → WritesDossier sink g old new (Err fault)
+    → IsRoundPut handed last (record { instance = g.instance; nodes = g.nodes }) (Err (fault_of_put fault)) (sink.got old) (sink.got new)
+put_failed sink handed last g old new WriteFault rounds loses w = (w.dossier, rounds w.dossier w.parts, w.puts.part, subst (LosesNoTask g.instance last) (sym w.parts.plan) loses)
+put_failed sink handed last g old new OutOfMemory rounds loses w = ap sink.got w
 
 -- it was written
-pub put_whole : {K : Type 0} (sink : Ghosts K) (handed : List NamedRoute) (g : Given) (old new : K) (planned : Planned) → ((d : Dossier) → IsDossierOf g d → IsRoundOf handed g d)
+pub put_whole : {K : Type 0} (sink : Ghosts K) (handed : List NamedRoute) (last : Option Plan) (g : Given) (old new : K) (planned : Planned) → ((d : Dossier) → IsDossierOf g d → IsRoundOf handed g d)
     → ((d : Dossier) → IsDossierOf g d → planned.counts ≡ counts_of d) → planned.carry ≡ map (by_names g.instance) g.columns
-    → planned.jobs ≡ jobs_by_names g.instance g.plan → WritesDossier sink g old new (Ok tt)
-    → IsRoundPut handed (record { instance = g.instance; nodes = g.nodes }) (Ok planned) (sink.got old) (sink.got new)
-put_whole sink handed g old new planned rounds counts carry jobs w =
+    → planned.jobs ≡ jobs_by_names g.instance g.plan → LosesNoTask g.instance last g.plan → WritesDossier sink g old new (Ok tt)
+    → IsRoundPut handed last (record { instance = g.instance; nodes = g.nodes }) (Ok planned) (sink.got old) (sink.got new)
+put_whole sink handed last g old new planned rounds counts carry jobs loses w =
     let of = w.parts in (
       w.dossier,
       rounds w.dossier of,
@@ -274,6 +276,7 @@ put_whole sink handed g old new planned rounds counts carry jobs w =
       carry ∙ ap (λ (i : Instance). map (by_names i) g.columns) (sym of.instance) ∙ ap (map (by_names w.dossier.instance)) (sym of.pool),
       jobs ∙ ap (λ (i : Instance). jobs_by_names i g.plan) (sym of.instance) ∙ ap (jobs_by_names w.dossier.instance) (sym of.plan),
       w.puts.all,
+      subst (LosesNoTask g.instance last) (sym of.plan) loses,
     )
 
 -- ---- what is told of faults

@@ -1,5 +1,5 @@
 -- plans that are no worse than those before them
-use Rattle.std.proofs.Common.{◌≡◌, ◌≤◌, ◌+◌, ◌∙◌, ◌∷◌, [], ℕ, Option, None, Some, Result, Ok, Err, length, zero, suc, ap, cond, refl, subst, sym, arith}
+use Rattle.std.proofs.Common.{◌≡◌, ◌≤◌, ◌+◌, ◌∙◌, ◌∷◌, [], ℕ, Option, None, Some, Result, Ok, length, zero, suc, cond, refl, subst, arith}
 use Rattle.std.specs.Prelude.{IfOk, IfSome, is_none}
 use Rattle.std.proofs.lemmas.List.Recursion.{is_count_by}
 use Rattle.std.proofs.lemmas.List.Sums.{count_by-le-length}
@@ -9,14 +9,8 @@ use Rattle.crew_terms.specs.Plan.{Plan, job_of, unassigned_count}
 use Rattle.crew_terms.specs.Verdict.{IsPlanOf}
 use Rattle.day_terms.specs.Instances.{day_instance}
 use Rattle.day_terms.specs.State.{DayState}
-use Rattle.day_terms.specs.Work.{jobs_by_names}
 use Rattle.plan_again.specs.Stays.{IsNoWorse, StaysOrBetters}
-use Rattle.replan.specs.Planning.{Planning}
-use Rattle.replan.specs.Staying.{BeginsFrom, IsPlanned, IsPlannedFrom, LosesNoTask, StaysFrom, last_plan_of}
-use Rattle.replan.specs.declared.faults.SessionFault.{SessionFault}
-use Rattle.replan.specs.declared.round.Planned.{Planned}
-use Rattle.replan.specs.declared.session.Done.{Done}
-use Rattle.replan.specs.declared.session.Done.TheVariants.{Changed, Round as HasRound}
+use Rattle.replan.specs.Staying.{BeginsFrom, LosesNoTask, StaysIn, last_plan_of}
 
 -- no worse than a plan that is no worse
 no_worse_then : (a b d : Plan) → IsNoWorse a b → IsNoWorse b d → IsNoWorse a d
@@ -62,34 +56,18 @@ pub begun_no_worse : (i : Instance) (old p : Plan) (begin : Option Plan) → Beg
 begun_no_worse i old p None begins stays was is = nothing_to_lose i old p begins was is
 begun_no_worse i old p (Some b) begins stays was is = no_worse_then old b p begins stays
 
--- what a round comes to that begins so, from the last plan if there is one
-pub round_stays : (i : Instance) (last begin : Option Plan) (p : Plan) (r : Result Planned SessionFault) → IfSome last (λ old. IsLegal i old → BeginsFrom old begin)
-    → StaysOrBetters begin p → IfOk r (IsPlanned i p) → IfSome last (λ old. IsLegal i old → IfOk r (IsPlannedFrom i old))
-round_stays i None begin p r begins stays are = tt
-round_stays i (Some old) begin p (Err fault) begins stays are = λ legal. tt
-round_stays i (Some old) begin p (Ok planned) begins stays are =
-    λ legal. record { plan = p; are = are; stays = begun_no_worse i old p begin (begins legal) stays legal.feasible.whole are.plan }
+-- the plan of a round that begins so loses no task of the last plan, if there is one
+pub begun_loses : (i : Instance) (last begin : Option Plan) (p : Plan) → IfSome last (λ old. IsLegal i old → BeginsFrom old begin) → StaysOrBetters begin p → IsPlanOf i p → LosesNoTask i last p
+begun_loses i None begin p begins stays is = tt
+begun_loses i (Some old) begin p begins stays is = λ legal. begun_no_worse i old p begin (begins legal) stays legal.feasible.whole is
 
--- nothing is said of a round that came to nothing
-pub none_stays : (i : Instance) (last : Option Plan) (r : Result Planned SessionFault) (fault : SessionFault) → r ≡ Err fault
-    → IfSome last (λ old. IsLegal i old → IfOk r (IsPlannedFrom i old))
-none_stays i None r fault is = tt
-none_stays i (Some old) r fault is = λ legal. subst (λ x. IfOk x (IsPlannedFrom i old)) (sym is) tt
+-- what begins a round is known where its memory was there
+pub begin_known : {E : Type 0} (i : Instance) (last : Option Plan) (r : Result (Option Plan) E) (begin : Option Plan) → r ≡ Ok begin → IfSome last (λ old. IsLegal i old → IfOk r (BeginsFrom old))
+    → IfSome last (λ old. IsLegal i old → BeginsFrom old begin)
+begin_known i None r begin is stays = tt
+begin_known i (Some old) r begin is stays = λ legal. subst (λ x. IfOk x (BeginsFrom old)) is (stays legal)
 
--- the round of an entry loses no task
-pub round_loses : (s behind : DayState) (i : Instance) (last : Plan) (planned : Planned) → i ≡ day_instance s → behind ≡ record s { last_plan = planned.jobs }
-    → last ≡ last_plan_of s → (IsLegal i last → IsPlannedFrom i last planned) → IsLegal (day_instance s) (last_plan_of s) → StaysFrom s planned.counts behind
-round_loses s behind i last planned is has old from legal =
-    let f = from (subst (λ x. IsLegal x last) (sym is) (subst (IsLegal (day_instance s)) (sym old) legal)) in
-    record {
-      plan = f.plan;
-      last = ap (λ (x : DayState). x.last_plan) has ∙ f.are.jobs ∙ ap (λ x. jobs_by_names x f.plan) is;
-      unassigned = f.are.unassigned;
-      stays = subst (λ x. IsNoWorse x f.plan) old f.stays;
-    }
-
--- it is said of the state behind the round alone
-pub same_day : (s new later : Planning) (answer : Result Done SessionFault) → later.day ≡ new.day → LosesNoTask s answer new → LosesNoTask s answer later
-same_day s new later (Ok (HasRound counts)) same loses = λ legal. subst (StaysFrom s.day counts) (sym same) (loses legal)
-same_day s new later (Ok Changed) same loses = tt
-same_day s new later (Err fault) same loses = tt
+-- where it is the state's, with what is left of the state's last plan, the plan stays in the state
+pub stays_in : (s day : DayState) (i : Instance) (last p : Plan) → day ≡ s → i ≡ day_instance day → last ≡ last_plan_of day → LosesNoTask i (Some last) p → StaysIn s p
+stays_in s day i last p same is has loses =
+    subst (λ x. StaysIn x p) same (subst (λ l. LosesNoTask (day_instance day) (Some l) p) has (subst (λ x. LosesNoTask x (Some last) p) is loses))

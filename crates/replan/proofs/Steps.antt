@@ -3,6 +3,7 @@ use Rattle.std.proofs.Common.{◌≡◌, ◌⊎◌, inl, inr, ◌∷◌, [], ℕ
 use Rattle.std.specs.Prelude.{option_map}
 use Rattle.std.specs.Option.{option_or}
 use Rattle.crew_terms.specs.Instance.{Instance}
+use Rattle.crew_terms.specs.Plan.{Plan as Jobs}
 use Rattle.route_terms.specs.Named.{NamedRoute}
 use Rattle.day_terms.specs.declared.Entry.{Entry}
 use Rattle.day_terms.specs.declared.Entry.TheVariants.{Plan}
@@ -18,6 +19,8 @@ use Rattle.flight_changes.specs.declared.faults.ChangeFault.TheVariants as chang
 use Rattle.replan.specs.Entries.{told_is_no_want}
 use Rattle.replan.specs.Planning.{Planning, IsEntered, IsRoundPut, failure_of, refusal_told}
 use Rattle.replan.specs.Rounds.{handed_on}
+use Rattle.replan.specs.Staying.{last_plan_of}
+use Rattle.replan.proofs.Staying.{stays_in}
 use Rattle.replan.specs.declared.faults.Failure.{Failure}
 use Rattle.replan.specs.declared.faults.SessionFault.{SessionFault}
 use Rattle.replan.specs.declared.faults.SessionFault.TheVariants.{Change, WriteFault, OutOfMemory}
@@ -98,14 +101,19 @@ module _ (s : Planning) (entry : Entry) (day : DayState) (got later : Option (Li
     at_round instance i = ap (round_at s.day) is ∙ ap (λ x. record { instance = x; nodes = nodes } ∷ []) (sym (i ∙ ap day_instance state_stays))
 
     -- and a dossier of it was written
-    pub round_entered : (instance : Instance) (planned : Planned) (behind : DayState) → instance ≡ day_instance day → behind ≡ record day { last_plan = planned.jobs }
-        → IsRoundPut s.handed (record { instance = instance; nodes = nodes }) (Ok planned) got later
+    pub round_entered : (instance : Instance) (last : Jobs) (planned : Planned) (behind : DayState) → instance ≡ day_instance day → last ≡ last_plan_of day → behind ≡ record day { last_plan = planned.jobs }
+        → IsRoundPut s.handed (Some last) (record { instance = instance; nodes = nodes }) (Ok planned) got later
         → IsEntered s entry (Ok (HasRound planned.counts)) (with_day behind planned.carry (Ok (HasRound planned.counts))) got later
-    round_entered instance planned behind i has put = (
+    round_entered instance last planned behind i left has put = (
       none,
       (
         put.0,
-        record { round = record { instance = instance; nodes = nodes }; begins = at_round instance i; dossier = put.1 },
+        record {
+          round = record { instance = instance; nodes = nodes };
+          begins = at_round instance i;
+          dossier = put.1;
+          stays = stays_in s.day day instance last put.0.plan state_stays i left put.6;
+        },
         put.2,
         planning_is (record s { day = after_plan s.day put.0.plan; handed = handed_on put.0 }) behind planned.carry None
             (has ∙ ap (λ (x : DayState). record x { last_plan = planned.jobs }) state_stays ∙ ap (λ jobs. record s.day { last_plan = jobs })
@@ -116,17 +124,22 @@ module _ (s : Planning) (entry : Entry) (day : DayState) (got later : Option (Li
     )
 
     -- or it was not
-    pub fault_entered : (instance : Instance) (fault : SessionFault) → instance ≡ day_instance day
-        → IsRoundPut s.handed (record { instance = instance; nodes = nodes }) (Err fault) got later
+    pub fault_entered : (instance : Instance) (last : Jobs) (fault : SessionFault) → instance ≡ day_instance day → last ≡ last_plan_of day
+        → IsRoundPut s.handed (Some last) (record { instance = instance; nodes = nodes }) (Err fault) got later
         → IsEntered s entry (Err fault) (with_day day s.handed (Err fault)) got later
-    fault_entered instance (Change fault) i put = absurd put
-    fault_entered instance WriteFault i put = (
+    fault_entered instance last (Change fault) i left put = absurd put
+    fault_entered instance last WriteFault i left put = (
       none,
       planning_is (record s { failed = failure_of (Err WriteFault) }) day s.handed _ state_stays refl refl,
       (
         put.0,
-        record { round = record { instance = instance; nodes = nodes }; begins = at_round instance i; dossier = put.1 },
+        record {
+          round = record { instance = instance; nodes = nodes };
+          begins = at_round instance i;
+          dossier = put.1;
+          stays = stays_in s.day day instance last put.0.plan state_stays i left put.3;
+        },
         put.2,
       ),
     )
-    fault_entered instance OutOfMemory i put = (none_first _ _ none, planning_is (record s { failed = failure_of (Err OutOfMemory) }) day s.handed _ state_stays refl refl, put)
+    fault_entered instance last OutOfMemory i left put = (none_first _ _ none, planning_is (record s { failed = failure_of (Err OutOfMemory) }) day s.handed _ state_stays refl refl, put)

@@ -7,7 +7,7 @@ use Rattle.crew_terms.specs.Plan.{unassigned_count}
 use Rattle.crew_terms.specs.Instance.{Instance}
 use Rattle.crew_terms.specs.Limits.{Route}
 use Rattle.crew_terms.specs.Rules.{IsInstance}
-use Rattle.crew_terms.specs.declared.TheConstants.{MOST_NODES}
+use Rattle.crew_terms.specs.declared.TheConstants.{MOST_NODES, MOST_NUMBER}
 use Rattle.dossier_terms.specs.Causes.{Cause, unshown_in}
 use Rattle.dossier_terms.specs.Dossier.{IsPooled}
 use Rattle.cert_write.specs.Given.{Given}
@@ -27,7 +27,7 @@ pub record IsOfOutcome (g : Given) (o : Outcome) : Type 0 where
   pub nodes : g.nodes ≤ MOST_NODES
   pub kept : g.kept ≤ length g.columns
   pub columns : AreColumns g.columns
-  pub few : length g.columns ≤ 9223372036854775807
+  pub few : length g.columns ≤ MOST_NUMBER
   pub pooled : All (IsPooled g.instance) (kept_in g)
   pub solved : IsSolved g.instance g.nodes (kept_in g) g.columns o
   pub plan : g.plan ≡ o.plan

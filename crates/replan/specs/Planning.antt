@@ -1,6 +1,7 @@
 -- what a session keeps, and what an entry comes to
 use Rattle.std.specs.Prelude.{◌≡◌, ℕ, List, [], ◌∷◌, Option, None, Some, Result, Ok, Err}
 use Rattle.crew_io.specs.Io.{Appended, AppendedPart}
+use Rattle.crew_terms.specs.Plan.{Plan}
 use Rattle.dossier_terms.specs.Dossier.{Dossier}
 use Rattle.dossier_terms.specs.Lines.{text_of}
 use Rattle.route_terms.specs.Named.{NamedRoute}
@@ -17,6 +18,7 @@ use Rattle.flight_changes.specs.declared.faults.ChangeFault.{ChangeFault}
 use Rattle.flight_changes.specs.declared.faults.ChangeFault.TheVariants as changes
 use Rattle.replan.specs.Counts.{counts_of}
 use Rattle.replan.specs.Rounds.{IsRoundDossier, handed_on}
+use Rattle.replan.specs.Staying.{LosesNoTask, StaysIn}
 use Rattle.replan.specs.declared.faults.Failure.{Failure}
 use Rattle.replan.specs.declared.faults.Failure.TheVariants as failures
 use Rattle.replan.specs.declared.faults.SessionFault.{SessionFault}
@@ -50,11 +52,12 @@ abbrev pub fault_of_put : PutFault → SessionFault
 fault_of_put puts.WriteFault = WriteFault
 fault_of_put puts.OutOfMemory = OutOfMemory
 
--- the entry begins a round, and this is a dossier of it
+-- the entry begins a round, and this is a dossier of it; its plan stays as it was, unless it does more tasks
 pub record IsDossierAt (s : Planning) (entry : Entry) (d : Dossier) : Type 0 where
   pub round : Round
   pub begins : round_at s.day entry ≡ round ∷ []
   pub dossier : IsRoundDossier s.handed round d
+  pub stays : StaysIn s.day d.plan
 
 -- a front of a dossier of the round that the entry begins was written
 abbrev pub IsFrontAt : Planning → Entry → Option (List ℕ) → Option (List ℕ) → Type 0
@@ -87,10 +90,12 @@ failure_of (Err (Change fault)) = None
 abbrev pub IsNewWriteFault : Planning → Result Done SessionFault → Type 0
 IsNewWriteFault s result = (s.failed ≡ None) × (result ≡ Err WriteFault)
 
--- what the answer to a round says of what was written, of the routes that it hands on, and of its plan by names
-abbrev pub IsRoundPut : List NamedRoute → Round → Result Planned SessionFault → Option (List ℕ) → Option (List ℕ) → Type 0
-IsRoundPut handed round (Ok planned) got later = (d : Dossier) × IsRoundDossier handed round d × (planned.counts ≡ counts_of d)
-    × (planned.carry ≡ handed_on d) × (planned.jobs ≡ jobs_by_names d.instance d.plan) × Appended got later (text_of d)
-IsRoundPut handed round (Err WriteFault) got later = (d : Dossier) × IsRoundDossier handed round d × AppendedPart got later (text_of d)
-IsRoundPut handed round (Err OutOfMemory) got later = later ≡ got
-IsRoundPut handed round (Err (Change fault)) got later = ⊥
+-- what the answer to a round, which begins with the last plan if there is one, says of what was written, of the routes that it
+-- hands on, and of its plan by names
+abbrev pub IsRoundPut : List NamedRoute → Option Plan → Round → Result Planned SessionFault → Option (List ℕ) → Option (List ℕ) → Type 0
+IsRoundPut handed last round (Ok planned) got later = (d : Dossier) × IsRoundDossier handed round d × (planned.counts ≡ counts_of d)
+    × (planned.carry ≡ handed_on d) × (planned.jobs ≡ jobs_by_names d.instance d.plan) × Appended got later (text_of d) × LosesNoTask round.instance last d.plan
+IsRoundPut handed last round (Err WriteFault) got later = (d : Dossier) × IsRoundDossier handed round d × AppendedPart got later (text_of d)
+    × LosesNoTask round.instance last d.plan
+IsRoundPut handed last round (Err OutOfMemory) got later = later ≡ got
+IsRoundPut handed last round (Err (Change fault)) got later = ⊥

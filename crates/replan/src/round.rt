@@ -1,18 +1,20 @@
 // One round: a plan of an instance, and a dossier of it.
-ghost use Rattle.std.specs.Prelude.{◌≡◌, ◌≤◌, [], All, Err, IfOk, IfSome, List, OnOk, length, map, option_copied, take};
+ghost use Rattle.std.specs.Prelude.{◌≡◌, ◌≤◌, [], All, Err, IfOk, IfSome, List, OnOk, Option, length, map, option_copied, take};
 ghost use Rattle.std.specs.List.{sum_by};
 ghost use Rattle.cert_write.specs.Causes.{cause_of};
 ghost use Rattle.cert_write.specs.Given.{Given};
 ghost use Rattle.crew_io.specs.Puts.{TellsWrites};
 ghost use Rattle.crew_terms.specs.Legal.{IsLegal};
 ghost use Rattle.crew_terms.specs.Limits.{root_limits};
+ghost use Rattle.crew_terms.specs.Plan.{Plan as Jobs};
 ghost use Rattle.crew_terms.specs.declared.TheConstants.{MOST_NODES};
 ghost use Rattle.dossier_terms.specs.Causes.{unshown_in};
 ghost use Rattle.dossier_terms.specs.Dossier.{IsPooled};
 ghost use Rattle.replan.specs.Given.{AreNumbersOf};
 ghost use Rattle.replan.specs.Kept.{handed_in};
 ghost use Rattle.replan.specs.Planning.{IsRoundPut};
-ghost use Rattle.replan.specs.Staying.{BeginsFrom, IsPlanned, IsPlannedFrom};
+ghost use Rattle.plan_again.specs.Stays.{StaysOrBetters};
+ghost use Rattle.replan.specs.Staying.{BeginsFrom};
 ghost use Rattle.route_terms.specs.Kept.{AreKeptIn};
 ghost use Rattle.route_terms.specs.Named.{NamedRoute};
 ghost use Rattle.search_core.specs.Steps.{IsSolved};
@@ -25,6 +27,7 @@ use cert_write::{Cause, Parts, write_dossier};
 use column_arena::{ArenaColumns, Carry, Columns};
 use crew_instance::{Instance, Plan, unassigned};
 use crew_io::sink::Sink;
+use crew_terms::MOST_NUMBER;
 use flight_changes::PlannedJobs;
 use node_limits::Limits;
 use plan_again::repair;
@@ -33,7 +36,7 @@ use std::alloc::{AllocError, Global};
 use written_laws::{solved_pools_are_of_the_instance, told_causes};
 
 /// The most routes that a pool may have.
-const MOST_ROUTES: usize = 9_223_372_036_854_775_807;
+const MOST_ROUTES: usize = MOST_NUMBER as usize;
 
 /// What a round comes to: the numbers of its dossier, and its pool and its plan by names.
 #[derive(Drop)]
@@ -117,12 +120,13 @@ fn put_outcome<K: Sink, C: Columns>(
     requires pooled { All (IsPooled instance.now) (take kept (C.columns columns.now)) }
     requires solved { IsSolved instance.now nodes (take kept (C.columns columns.now))
         (C.columns columns.now) outcome.now }
-    ensures put { (handed : List NamedRoute) → AreKeptIn (root_limits instance.now) handed
-        (take kept (C.columns columns.now)) →
-        IsRoundPut handed (record { instance = instance.now; nodes = nodes }) result
+    ensures put { (handed : List NamedRoute) (last begin : Option Jobs) →
+        AreKeptIn (root_limits instance.now) handed (take kept (C.columns columns.now)) →
+        IfSome last (λ old. IsLegal instance.now old → BeginsFrom old begin) →
+        StaysOrBetters begin outcome.now.plan →
+        IsRoundPut handed last (record { instance = instance.now; nodes = nodes }) result
         (K.got sink.old) (K.got sink.new) }
     ensures tells { TellsWrites K.Sink sink.old sink.new (result ≡ Err SessionFault.WriteFault) }
-    ensures planned { IfOk result (IsPlanned instance.now outcome.now.plan) }
 {
     outcomes_are_rounds();
     pools_are_of_instances();
@@ -184,12 +188,10 @@ pub(crate) fn put_round<K: Sink>(
     sink: &mut K,
 ) -> Result<Planned, SessionFault>
     requires { nodes ≤ MOST_NODES }
-    ensures put { IsRoundPut (handed_in carry.now)
+    ensures put { IsRoundPut (handed_in carry.now) (option_copied last.entry)
         (record { instance = instance.now; nodes = nodes }) result
         (K.got sink.old) (K.got sink.new) }
     ensures tells { TellsWrites K.Sink sink.old sink.new (result ≡ Err SessionFault.WriteFault) }
-    ensures stays { IfSome (option_copied last.entry) (λ old. IsLegal instance.now old →
-        IfOk result (IsPlannedFrom instance.now old)) }
 {
     pools_are_of_instances();
     let arena = Bump::new(alloc);

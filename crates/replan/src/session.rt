@@ -3,7 +3,6 @@ ghost use Rattle.std.specs.Prelude.{◌≡◌, None, Some, Err};
 ghost use Rattle.crew_io.specs.Puts.{TellsWrites};
 ghost use Rattle.day_terms.specs.Ranges.{IsInRange};
 ghost use Rattle.replan.specs.Planning.{IsEntered, IsNewWriteFault, failure_of, fault_told, no_entry_yet, refusal_told};
-ghost use Rattle.replan.specs.Staying.{LosesNoTask};
 
 use crate::counts::Counts;
 use crate::faults::{Failure, SessionFault};
@@ -83,8 +82,8 @@ impl Session {
     /// Takes an entry. One of a plan begins a round: the instance as it stands is searched, with as many steps as the entry says
     /// and from those routes of the round before that are routes still and from what is left of the last plan, and a dossier of
     /// what it comes to is written; its plan is then the day's last plan. Where what is left of the last plan is legal, the new
-    /// one leaves no more tasks unassigned, and where it leaves as many it has each of those jobs. What the state refuses leaves all as before. Where a write fails or memory runs out the session
-    /// ends: it answers the same to each later entry.
+    /// one leaves no more tasks unassigned, and where it leaves as many it has each of those jobs. What the state refuses leaves all
+    /// as before. Where a write fails or memory runs out the session ends: it answers the same to each later entry.
     pub fn entry<K: Sink>(&mut self, entry: &Entry, sink: &mut K) -> Result<Done, SessionFault>
         requires { IsInRange entry.now }
         ensures failed { (failure : Failure) → self.old.failed ≡ Some failure
@@ -94,7 +93,6 @@ impl Session {
             (K.got sink.old) (K.got sink.new) }
         // A write fault comes only where the sink's count of faults rose, or after an earlier one.
         ensures tells { TellsWrites K.Sink sink.old sink.new (IsNewWriteFault self.old result) }
-        ensures loses { LosesNoTask self.old result self.new }
     {
         if let Some(failure) = self.failed {
             return Err(fault_of(failure));
@@ -112,7 +110,6 @@ impl Session {
             (record self.new { failed = failure_of result }) (K.got sink.old) (K.got sink.new) }
         ensures tells { TellsWrites K.Sink sink.old sink.new
             (result ≡ Err SessionFault.WriteFault) }
-        ensures loses { LosesNoTask self.old result self.new }
     {
         if let Err(fault) = self.desk.apply(entry) {
             return Err(refusal(fault));

@@ -11,29 +11,28 @@ use Rattle.node_solver.specs.Steps.{KeepsProved}
 use Rattle.node_solver.specs.declared.step.NodeEnd.TheVariants as ends
 use Rattle.node_solver.specs.declared.step.Why.{Why}
 use Rattle.node_solver.specs.declared.step.Why.TheVariants.{Loose, Overflow, Spent}
-use Rattle.node_walk.specs.Walks.{walked}
+use Rattle.node_limits.specs.Walks.{walked, limits_after}
 use Rattle.search_terms.specs.Earned.{IsEarned}
 use Rattle.search_terms.specs.Proven.{PricesProve}
-use Rattle.search_tree.specs.Ways.{limits_after}
-use Rattle.search_tree.specs.declared.trees.Turn.{Turn}
+use Rattle.node_limits.specs.declared.walks.Branch.{Branch}
 
 -- where a walk comes to
-pub walked_limits : (t : Trail) (turns : List Turn) → (walked t turns).limits ≡ limits_after t.limits turns
+pub walked_limits : (t : Trail) (turns : List Branch) → (walked t turns).limits ≡ limits_after t.limits turns
 walked_limits t [] = refl
 walked_limits t (turn ∷ turns) = walked_limits (changed t (child t.limits turn.choice turn.side)) turns
 
 -- a change for each turn
-pub walked_past : (t : Trail) (turns : List Turn) → length (walked t turns).past ≡ length turns + length t.past
+pub walked_past : (t : Trail) (turns : List Branch) → length (walked t turns).past ≡ length turns + length t.past
 walked_past t [] = omega arith
 walked_past t (turn ∷ turns) = let e = walked_past (changed t (child t.limits turn.choice turn.side)) turns in omega arith
 
 -- each change takes room for one
-pub walked_spare : (t : Trail) (turns : List Turn) → t.spare ≤ (walked t turns).spare + length turns
+pub walked_spare : (t : Trail) (turns : List Branch) → t.spare ≤ (walked t turns).spare + length turns
 walked_spare t [] = omega arith
 walked_spare t (turn ∷ turns) = let e = walked_spare (changed t (child t.limits turn.choice turn.side)) turns in omega arith
 
 -- a node's limits are of the same instance
-pub after_instance : (n : Limits) (turns : List Turn) → (limits_after n turns).instance ≡ n.instance
+pub after_instance : (n : Limits) (turns : List Branch) → (limits_after n turns).instance ≡ n.instance
 after_instance n [] = refl
 after_instance n (turn ∷ turns) = after_instance (child n turn.choice turn.side) turns ∙ child_instance n turn.choice turn.side
 

@@ -6,7 +6,7 @@ use Rattle.crew_terms.specs.Limits.{Limits, root_limits}
 use Rattle.crew_terms.specs.Plan.{Plan}
 use Rattle.search_tree.specs.Keyed.{Keyed}
 use Rattle.label_pricing.specs.Pricing.{HasRoom}
-use Rattle.node_walk.specs.Walks.{IsBack}
+use Rattle.node_limits.specs.Walks.{IsBack}
 use Rattle.search_core.specs.Kept.{IsKept, IsKeptSearch, searching}
 use Rattle.search_core.specs.Searching.{Searching}
 use Rattle.search_core.specs.declared.causes.Cause.{Cause}

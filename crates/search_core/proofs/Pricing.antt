@@ -17,8 +17,8 @@ use Rattle.node_solver.specs.declared.step.Why.{Why}
 use Rattle.node_solver.specs.declared.step.Why.TheVariants.{Loose, Overflow, Spent}
 use Rattle.crew_terms.specs.declared.Choice.{Choice}
 use Rattle.label_pricing.specs.Worths.{AreWorths}
-use Rattle.ring_laws.specs.Ring.{times_up_to}
-use Rattle.rounding_laws.specs.declared.TheConstants.{MOST_LOSS}
+use Rattle.crew_num.specs.Ring.{times_up_to}
+use Rattle.master_laws.specs.declared.losses.TheConstants.{MOST_LOSS}
 use Rattle.search_core.specs.Shown.{IsShownWhy}
 use Rattle.search_terms.specs.Caused.{LooseProves, ProveNearly}
 use Rattle.search_terms.specs.Proven.{PricesProve}

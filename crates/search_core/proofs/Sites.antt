@@ -18,10 +18,11 @@ use Rattle.search_terms.specs.Inside.{IsNode}
 use Rattle.search_terms.specs.Search.{IsKeepable}
 use Rattle.search_tree.specs.declared.nodes.Content.{Content}
 use Rattle.search_tree.specs.declared.nodes.Content.TheVariants as content
-use Rattle.search_tree.specs.declared.trees.Turn.{Turn}
+use Rattle.node_limits.specs.declared.walks.Branch.{Branch}
 use Rattle.search_terms.specs.Ways.{prices_at}
 use Rattle.search_tree.specs.Numbered.{node_of, tree_of, way_of}
-use Rattle.search_tree.specs.Ways.{CanTurns, limits_after, turns_of}
+use Rattle.node_limits.specs.Walks.{CanBranch, limits_after}
+use Rattle.search_tree.specs.Ways.{turns_of}
 use Rattle.search_core.proofs.Exploring.{after_instance}
 use Rattle.search_core.proofs.StepLemmas.{same_shape}
 
@@ -38,17 +39,17 @@ pub own_known : (a : Inside) (n own : ℕ) → IsKept a → (node_of a.keyed.nod
 own_known a n own kept is =
     subst (λ (k : Content). HasNumber (length a.prices.items) (length a.causes.items) k) is (kept.search.fitting.numbers n)
 
-pub site_limits : (a : Inside) (n : ℕ) (turns : List Turn) → IsKept a → turns ≡ turns_of a.keyed.nodes n
+pub site_limits : (a : Inside) (n : ℕ) (turns : List Branch) → IsKept a → turns ≡ turns_of a.keyed.nodes n
     → limits_after a.limits.limits turns ≡ limits_of a.limits.limits.instance a.keyed n
 site_limits a n turns kept is =
-    ap (λ (ts : List Turn). limits_after a.limits.limits ts) is
+    ap (λ (ts : List Branch). limits_after a.limits.limits ts) is
     ∙ ap (λ (m : Limits). limits_after m (turns_of a.keyed.nodes n)) kept.root
 
-pub site_turns : (a : Inside) (n own : ℕ) (turns : List Turn) → IsKept a → turns ≡ turns_of a.keyed.nodes n
-    → HasLeaf a.limits.limits.instance (price_at a.prices.items) (cause_at [] a.causes.items) a.keyed n own → CanTurns a.limits.limits turns
+pub site_turns : (a : Inside) (n own : ℕ) (turns : List Branch) → IsKept a → turns ≡ turns_of a.keyed.nodes n
+    → HasLeaf a.limits.limits.instance (price_at a.prices.items) (cause_at [] a.causes.items) a.keyed n own → CanBranch a.limits.limits turns
 site_turns a n own turns kept is leaf =
-    subst (λ (ts : List Turn). CanTurns a.limits.limits ts) (sym is)
-    (subst (λ (m : Limits). CanTurns m (turns_of a.keyed.nodes n)) (sym kept.root) leaf.can)
+    subst (λ (ts : List Branch). CanBranch a.limits.limits ts) (sym is)
+    (subst (λ (m : Limits). CanBranch m (turns_of a.keyed.nodes n)) (sym kept.root) leaf.can)
 
 pub site : (a : Inside) (key n own : ℕ) (bound : ℤ) (price : Prices) → IsKept a → IsWaiting a.keyed key n bound
     → HasLeaf a.limits.limits.instance (price_at a.prices.items) (cause_at [] a.causes.items) a.keyed n own

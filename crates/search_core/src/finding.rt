@@ -5,12 +5,11 @@ ghost use Rattle.crew_terms.specs.Limits.{Limits as NodeLimits, Route as TeamRou
 ghost use Rattle.crew_terms.specs.Plan.{unassigned_count};
 ghost use Rattle.search_tree.specs.States.{DecidesProved};
 ghost use Rattle.label_pricing.specs.Pricing.{HasRoom};
-ghost use Rattle.node_walk.specs.Walks.{IsBack};
+ghost use Rattle.node_limits.specs.Walks.{IsBack, CanBranch, limits_after};
 ghost use Rattle.potentials.specs.Prices.{ArePricesOf};
 ghost use Rattle.search_core.specs.Findings.{IsFinding};
 ghost use Rattle.search_terms.specs.Inside.{IsNode};
 ghost use Rattle.search_terms.specs.Search.{Extends, IsKeepable};
-ghost use Rattle.search_tree.specs.Ways.{CanTurns, limits_after};
 
 use crate::begun::Begun;
 use crate::handing::{Handed, hand_on};
@@ -19,9 +18,8 @@ use crew_instance::{Instance, Plan};
 use crew_terms::Choice;
 use kept_prices::KeptPrices;
 use label_pricing::{Pricer, worths_decide};
-use node_limits::Limits;
+use node_limits::{Branch, Limits, ascend, descend};
 use node_solver::{Effort as NodeEffort, NodeEnd, Step, Why, process};
-use node_walk::{Turn, ascend, descend};
 use std::alloc::{AllocError, Global};
 
 /// How a node ends: closed by prices, or split by a choice for a cause, with what is handed on to its children.
@@ -101,14 +99,14 @@ fn visit<C: Columns>(
     alloc: Global,
     limits: &mut Limits<'_>,
     pricer: &mut Pricer,
-    turns: &[Turn],
+    turns: &[Branch],
     own: &KeptPrices,
     bound: i128,
     best: &Plan,
     columns: &mut C,
     effort: &NodeEffort,
 ) -> Result<Finding, AllocError>
-    requires can { CanTurns limits.old.limits turns.now }
+    requires can { CanBranch limits.old.limits turns.now }
     requires node { IsNode (limits_after limits.old.limits turns.now) }
     requires own { ArePricesOf (limits_after limits.old.limits turns.now) own.now }
     requires required { IsOnRequired (limits_after limits.old.limits turns.now) own.now }
@@ -160,7 +158,7 @@ pub(crate) fn explore<C: Columns>(
     alloc: Global,
     limits: &mut Limits<'_>,
     pricer: &mut Pricer,
-    turns: &[Turn],
+    turns: &[Branch],
     own: &KeptPrices,
     bound: i128,
     best: &Plan,
@@ -168,7 +166,7 @@ pub(crate) fn explore<C: Columns>(
     effort: &NodeEffort,
     begun: &Begun,
 ) -> Result<Finding, AllocError>
-    requires can { CanTurns limits.old.limits turns.now }
+    requires can { CanBranch limits.old.limits turns.now }
     requires node { IsNode (limits_after limits.old.limits turns.now) }
     requires own { ArePricesOf (limits_after limits.old.limits turns.now) own.now }
     requires required { IsOnRequired (limits_after limits.old.limits turns.now) own.now }

@@ -12,8 +12,7 @@ ghost use Rattle.search_terms.specs.Proven.{PricesProve};
 use crew_terms::{Choice, Side};
 use kept_prices::KeptPrices;
 use label_pricing::{Pricer, most_proved};
-use node_limits::Limits;
-use node_walk::turn_to;
+use node_limits::{Branch, Limits, narrow};
 use potentials::Prices;
 use search_laws::{less_is_proved, prices_prove_inside};
 use std::alloc::{AllocError, Global};
@@ -46,7 +45,7 @@ fn side_bound(
     prices_prove_inside();
     // The limits are those of an instance.
     let _ = limits.instance();
-    turn_to(limits, choice, side);
+    narrow(limits, Branch { choice, side });
     let proved = pricer.proved(limits, prices);
     limits.undo();
     proved.bound

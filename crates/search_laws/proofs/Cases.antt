@@ -28,7 +28,7 @@ use Rattle.search_terms.specs.Closing.{minute_of, all_cost, IsStuck, ArePricedBy
 use Rattle.crew_terms.specs.Totals.{total-same, total-le, total-plus, total-zero, total-one, total-front}
 use Rattle.crew_terms.specs.Nodes.{not_required}
 use Rattle.crew_terms.specs.Below.{any_below-some}
-use Rattle.ring_laws.specs.Scales.{times, times-zero, times-suc, times-add, times-of-zero, times-more}
+use Rattle.crew_num.specs.Scales.{times, times-zero, times-suc, times-add, times-of-zero, times-more}
 use Rattle.share_terms.specs.Rewards.{known_route, rewards_total}
 use Rattle.search_laws.proofs.Worths.{EarnsAtMost, routes_prove}
 use Rattle.search_laws.proofs.Required.{IsRequiredPlan}

@@ -12,9 +12,10 @@ use Rattle.search_terms.specs.Ways.{IsOpenAt, limits_at, prices_at}
 use Rattle.search_tree.specs.declared.nodes.Content.{Content}
 use Rattle.search_tree.specs.declared.nodes.Content.TheVariants as content
 use Rattle.search_tree.specs.declared.nodes.Node.{Node}
-use Rattle.search_tree.specs.declared.trees.Turn.{Turn}
+use Rattle.node_limits.specs.declared.walks.Branch.{Branch}
 use Rattle.search_tree.specs.Numbered.{AreNumbered, IsOpenNode, node_of, child_of, grown, tree_at, tree_of, way_of, way_up}
-use Rattle.search_tree.specs.Ways.{Leads, Here, Along, AreSplits, CanTurns, choice_in, turn_to, turns_up, turns_of, limits_after}
+use Rattle.node_limits.specs.Walks.{CanBranch, limits_after}
+use Rattle.search_tree.specs.Ways.{Leads, Here, Along, AreSplits, choice_in, turn_to, turns_up, turns_of}
 use Rattle.search_tree.proofs.Leading.{leads_to, leads_way}
 
 -- ---- one turn
@@ -117,7 +118,7 @@ same_turns nodes a (suc f) zero (suc n) l e h = absurd (omega arith)
 same_turns nodes a (suc f) (suc g) (suc n) l e h =
     let k = a.parents (suc n) (omega arith) l in
     let b = k.behind in
-    ap (λ (w : List Turn). w ++ turn_to nodes (suc n) ∷ [])
+    ap (λ (w : List Branch). w ++ turn_to nodes (suc n) ∷ [])
     (same_turns nodes a f g (node_of nodes (suc n)).above (omega arith) (omega arith) (omega arith))
 
 -- the turns to a node go on from its split
@@ -128,7 +129,7 @@ last_turn nodes a zero some l = absurd (omega arith)
 last_turn nodes a (suc n) some l =
     let k = a.parents (suc n) some l in
     let b = k.behind in
-    ap (λ (w : List Turn). w ++ turn_to nodes (suc n) ∷ [])
+    ap (λ (w : List Branch). w ++ turn_to nodes (suc n) ∷ [])
     (same_turns nodes a n (node_of nodes (suc n)).above (node_of nodes (suc n)).above (omega arith) (omega arith) (omega arith))
 
 child_turns : (nodes : List Node) → AreNumbered nodes → (n m : ℕ) (side : Side) → n < length nodes
@@ -144,7 +145,7 @@ child_turns nodes a n m side l is =
 -- the limits at the end of a way are those after its turns
 limits_along : (p : ℕ → Prices) (c : ℕ → SplitCause) (nodes : List Node) → AreNumbered nodes → (f n j : ℕ) (way : List Side) (limits : Limits)
     → n < length nodes → length nodes ≤ n + f → Leads nodes n way j
-    → (turns : List Turn) × (turns_of nodes j ≡ turns_of nodes n ++ turns) × (limits_at limits (tree_at p c f nodes n) way ≡ limits_after limits turns)
+    → (turns : List Branch) × (turns_of nodes j ≡ turns_of nodes n ++ turns) × (limits_at limits (tree_at p c f nodes n) way ≡ limits_after limits turns)
 unfolding tree_at
 limits_along p c nodes a zero n j way limits l h leads = absurd (omega arith)
 limits_along p c nodes a (suc f) n j [] limits l h (Here n') =
@@ -156,10 +157,10 @@ limits_along p c nodes a (suc f) n j [] limits l h (Here n') =
 limits_along p c nodes a (suc f) n j (s ∷ w) limits l h (Along n' m j' side way step rest) =
     let k = a.children n m side l step in
     let b = k.behind in
-    let turn : Turn = record { choice = choice_in (node_of nodes n).content; side = side } in
+    let turn : Branch = record { choice = choice_in (node_of nodes n).content; side = side } in
     let r = limits_along p c nodes a f m j way (child limits turn.choice side) k.known (omega arith) rest in (
       turn ∷ r.0,
-      r.1 ∙ ap (λ (x : List Turn). x ++ r.0) (child_turns nodes a n m side l step) ∙ append_assoc (turns_of nodes n) (turn ∷ []) r.0,
+      r.1 ∙ ap (λ (x : List Branch). x ++ r.0) (child_turns nodes a n m side l step) ∙ append_assoc (turns_of nodes n) (turn ∷ []) r.0,
       limits_turn p c limits (node_of nodes n).content side m way (tree_at p c f nodes) step ∙ r.2,
     )
 
@@ -192,7 +193,7 @@ unfolding turns_up
 limits_of_nodes p c nodes n limits a l =
     let some = a.some in
     let r = limits_along p c nodes a (length nodes) zero n (way_of nodes n) limits (omega arith) (omega arith) (root_leads nodes a n l) in
-    r.2 ∙ ap (λ (x : List Turn). limits_after limits x) (sym r.1)
+    r.2 ∙ ap (λ (x : List Branch). limits_after limits x) (sym r.1)
 
 -- ---- turns that can be made
 
@@ -210,25 +211,25 @@ can_turn p c l (content.Split choice cause first) Second m below is can =
 
 can_along : (p : ℕ → Prices) (c : ℕ → SplitCause) (nodes : List Node) → AreNumbered nodes → (f n j : ℕ) (way : List Side) (limits : Limits)
     → n < length nodes → length nodes ≤ n + f → Leads nodes n way j → AreSplits limits (tree_at p c f nodes n)
-    → (turns : List Turn) × (turns_of nodes j ≡ turns_of nodes n ++ turns) × CanTurns limits turns
+    → (turns : List Branch) × (turns_of nodes j ≡ turns_of nodes n ++ turns) × CanBranch limits turns
 unfolding tree_at
 can_along p c nodes a zero n j way limits l h leads can = absurd (omega arith)
 can_along p c nodes a (suc f) n j [] limits l h (Here n') can = ([], sym (append-nil (turns_of nodes n)), tt)
 can_along p c nodes a (suc f) n j (s ∷ w) limits l h (Along n' m j' side way step rest) can =
     let k = a.children n m side l step in
     let b = k.behind in
-    let turn : Turn = record { choice = choice_in (node_of nodes n).content; side = side } in
+    let turn : Branch = record { choice = choice_in (node_of nodes n).content; side = side } in
     let d = can_turn p c limits (node_of nodes n).content side m (tree_at p c f nodes) step can in
     let r = can_along p c nodes a f m j way (child limits turn.choice side) k.known (omega arith) rest d.1 in (
       turn ∷ r.0,
-      r.1 ∙ ap (λ (x : List Turn). x ++ r.0) (child_turns nodes a n m side l step) ∙ append_assoc (turns_of nodes n) (turn ∷ []) r.0,
+      r.1 ∙ ap (λ (x : List Branch). x ++ r.0) (child_turns nodes a n m side l step) ∙ append_assoc (turns_of nodes n) (turn ∷ []) r.0,
       (d.0, r.2),
     )
 
 pub can_turns : (p : ℕ → Prices) (c : ℕ → SplitCause) (nodes : List Node) (n : ℕ) (limits : Limits) → AreNumbered nodes → n < length nodes
-    → AreSplits limits (tree_of p c nodes) → CanTurns limits (turns_of nodes n)
+    → AreSplits limits (tree_of p c nodes) → CanBranch limits (turns_of nodes n)
 unfolding turns_up
 can_turns p c nodes n limits a l can =
     let some = a.some in
     let r = can_along p c nodes a (length nodes) zero n (way_of nodes n) limits (omega arith) (omega arith) (root_leads nodes a n l) can in
-    subst (λ (x : List Turn). CanTurns limits x) (sym r.1) r.2
+    subst (λ (x : List Branch). CanBranch limits x) (sym r.1) r.2

@@ -11,7 +11,8 @@ use Rattle.search_terms.specs.Search.{SearchState}
 use Rattle.search_terms.specs.SearchTree.{SplitCause}
 use Rattle.search_terms.specs.Ways.{IsOpenAt, limits_at, prices_at}
 use Rattle.search_tree.specs.Numbered.{tree_of, way_of}
-use Rattle.search_tree.specs.Ways.{CanTurns, limits_after, turns_of}
+use Rattle.node_limits.specs.Walks.{CanBranch, limits_after}
+use Rattle.search_tree.specs.Ways.{turns_of}
 
 -- the state, where p are the prices and c the causes of their numbers
 abbrev pub state_in : (ℕ → Prices) → (ℕ → SplitCause) → Plan → ℕ → Keyed → SearchState
@@ -35,7 +36,7 @@ pub record HasLeaf (i : Instance) (p : ℕ → Prices) (c : ℕ → SplitCause) 
   pub leads : IsOpenAt (tree_of p c k.nodes) (way_of k.nodes n)
   pub prices : prices_at (tree_of p c k.nodes) (way_of k.nodes n) ≡ p number
   pub limits : limits_at (root_limits i) (tree_of p c k.nodes) (way_of k.nodes n) ≡ limits_of i k n
-  pub can : CanTurns (root_limits i) (turns_of k.nodes n)
+  pub can : CanBranch (root_limits i) (turns_of k.nodes n)
   pub node : IsNode (limits_of i k n)
   pub priced : IsOnRequired (limits_of i k n) (p number)
 

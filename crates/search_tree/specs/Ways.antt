@@ -11,7 +11,7 @@ use Rattle.search_terms.specs.SearchTree.{SearchTree}
 use Rattle.search_tree.specs.declared.nodes.Content.{Content}
 use Rattle.search_tree.specs.declared.nodes.Content.TheVariants as content
 use Rattle.search_tree.specs.declared.nodes.Node.{Node}
-use Rattle.search_tree.specs.declared.trees.Turn.{Turn}
+use Rattle.node_limits.specs.declared.walks.Branch.{Branch}
 use Rattle.search_tree.specs.Numbered.{node_of, child_of}
 
 -- the way leads from a node to another
@@ -31,28 +31,18 @@ abbrev pub IsSplitNode : Node → Type 0
 IsSplitNode node = (choice : Choice) × (cause : ℕ) × (first : ℕ) × (node.content ≡ content.Split choice cause first)
 
 -- how the split above the node divides it, and the side of the node
-abbrev pub turn_to : List Node → ℕ → Turn
+abbrev pub turn_to : List Node → ℕ → Branch
 turn_to nodes n = record { choice = choice_in (node_of nodes (node_of nodes n).above).content; side = (node_of nodes n).side }
 
 -- the turns from the root to a node, so many levels up
-unfoldable pub turns_up : ℕ → List Node → ℕ → List Turn
+unfoldable pub turns_up : ℕ → List Node → ℕ → List Branch
 turns_up zero nodes n = []
 turns_up (suc levels) nodes zero = []
 turns_up (suc levels) nodes (suc n) = turns_up levels nodes (node_of nodes (suc n)).above ++ turn_to nodes (suc n) ∷ []
 
 -- the turns from the root to the node of this number
-abbrev pub turns_of : List Node → ℕ → List Turn
+abbrev pub turns_of : List Node → ℕ → List Branch
 turns_of nodes n = turns_up n nodes n
-
--- the limits after these turns
-abbrev pub limits_after : Limits → List Turn → Limits
-limits_after n [] = n
-limits_after n (turn ∷ turns) = limits_after (child n turn.choice turn.side) turns
-
--- each turn is at a choice that can split its node
-abbrev pub CanTurns : Limits → List Turn → Type 0
-CanTurns n [] = Unit {0}
-CanTurns n (turn ∷ turns) = CanSplit n turn.choice × CanTurns (child n turn.choice turn.side) turns
 
 -- each split of the tree is by a choice that can split its node
 abbrev pub AreSplits : Limits → SearchTree → Type 0

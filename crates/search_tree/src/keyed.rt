@@ -8,8 +8,9 @@ ghost use Rattle.search_tree.specs.Keyed.{IsKey, IsKeyed, IsLeastKey, IsTaken, I
 
 use crate::laws::splits_are_put;
 use crate::nodes::{Content, Node};
-use crate::trees::{NumberedTree, Turn};
+use crate::trees::NumberedTree;
 use crew_terms::Choice;
+use node_limits::Branch;
 use node_queue::Queue;
 use std::alloc::{AllocError, Global};
 use std::marker::Model;
@@ -156,7 +157,7 @@ impl KeyedTree {
     }
 
     /// The turns from the root to the node of this number. AllocError where there is no memory.
-    pub fn turns(&self, alloc: Global, n: u32) -> Result<Vec<Turn>, AllocError>
+    pub fn turns(&self, alloc: Global, n: u32) -> Result<Vec<Branch>, AllocError>
         requires { n < length self.now.nodes }
         ensures { IfOk result (λ turns. turns.items ≡ turns_of self.now.nodes n) }
     {

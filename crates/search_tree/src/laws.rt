@@ -8,7 +8,8 @@ ghost use Rattle.crew_terms.specs.declared.Side.TheVariants.{First, Second};
 ghost use Rattle.search_terms.specs.SearchTree.{SplitCause};
 ghost use Rattle.search_terms.specs.Ways.{IsOpenAt, limits_at, prices_at};
 ghost use Rattle.search_tree.specs.Numbered.{AreNumbered, HasSplit, IsChild, IsOpenNode, child_of, grown, node_of, split_at, subtree, tree_of, way_of};
-ghost use Rattle.search_tree.specs.Ways.{AreSplits, CanTurns, limits_after, turns_of};
+ghost use Rattle.node_limits.specs.Walks.{CanBranch, limits_after};
+ghost use Rattle.search_tree.specs.Ways.{AreSplits, turns_of};
 ghost use Rattle.search_tree.specs.declared.nodes.Content.TheVariants as content;
 ghost use Rattle.search_tree.specs.declared.nodes.Node.{Node as TreeNode};
 
@@ -53,7 +54,7 @@ pub fn turns_are_splits()
     ensures { (p : ℕ → Prices) (c : ℕ → SplitCause) (nodes : List TreeNode) (n : ℕ)
         (limits : Limits) → AreNumbered nodes →
         n < length nodes → AreSplits limits (tree_of p c nodes)
-        → CanTurns limits (turns_of nodes n) }
+        → CanBranch limits (turns_of nodes n) }
 {}
 
 /// The tree from a node on is made of its content and of the trees from its children on; these come behind it.

@@ -15,6 +15,7 @@ pub use keyed::{KeyedTree, OpenLeaf};
 pub use laws::{
     split_ways, splits_are_put, subtrees_are_grown, turns_are_splits, ways_are_of_nodes,
 };
+pub use node_limits::Branch;
 pub use nodes::{Content, Node};
 pub use step_laws::{least_bounds, run_leaves, steps_at_closed, steps_at_split};
-pub use trees::{NumberedTree, Turn};
+pub use trees::NumberedTree;

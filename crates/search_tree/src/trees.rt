@@ -10,15 +10,9 @@ ghost use Rattle.search_tree.specs.Ways.{choice_in, turns_of, IsSplitNode};
 
 use crate::nodes::{Content, Node};
 use crew_terms::{Choice, MOST_NODES, Side};
+use node_limits::Branch;
 use std::alloc::{AllocError, Global};
 use std::marker::Model;
-
-/// A turn on the way to a node: how a split above it divides, and on which side of it the way goes on.
-#[derive(Clone, Copy, Debug, PartialEq, Eq)]
-pub struct Turn {
-    pub choice: Choice,
-    pub side: Side,
-}
 
 /// How the split divides its node.
 fn choice_of(node: &Node) -> Choice
@@ -161,7 +155,7 @@ impl NumberedTree {
     }
 
     /// The turns from the root to the node of this number. AllocError where there is no memory.
-    pub fn turns(&self, alloc: Global, n: u32) -> Result<Vec<Turn>, AllocError>
+    pub fn turns(&self, alloc: Global, n: u32) -> Result<Vec<Branch>, AllocError>
         requires { n < length self.now }
         ensures { IfOk result (λ turns. turns.items ≡ turns_of self.now n) }
     {
@@ -170,7 +164,7 @@ impl NumberedTree {
         while at > 0 {
             let node = self.nodes[at];
             let above = node.above as usize;
-            turns.push(Turn {
+            turns.push(Branch {
                 choice: choice_of(&self.nodes[above]),
                 side: node.side,
             })?;

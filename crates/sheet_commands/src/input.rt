@@ -2,7 +2,6 @@
 ghost use Rattle.std.specs.Prelude.{◌≡◌, ℕ, List, Ok, IfOk, OnErr};
 ghost use Rattle.crew_io.specs.Draws.{TellsReads};
 ghost use Rattle.crew_io.specs.Io.{HasEnded};
-ghost use Rattle.dossier_commands.specs.Input.{told_of};
 ghost use Rattle.sheet_terms.specs.Sheet.{Sheet};
 ghost use Rattle.sheet_checker.specs.Checked.{IsOpen as IsDue};
 ghost use Rattle.sheet_checker.specs.declared.checker.State.TheVariants as state;
@@ -11,8 +10,9 @@ ghost use Rattle.sheet_commands.specs.Input.{IsBetween, CanGoOn, IsOutcome, IsOu
 use crate::laws::whole_is_true;
 use crew_io::lines::{LineReader, Progress};
 use crew_io::source::Source;
+use dossier_commands::input::stop_of;
 use dossier_terms::Reason;
-use sheet_checker::{SheetChecker, SheetSaid, Stop};
+use sheet_checker::{SheetChecker, SheetSaid};
 use sheet_texts::first_sheet_line_is_first;
 use std::alloc::AllocError;
 
@@ -27,18 +27,6 @@ pub enum Outcome {
     No { line: u64, reason: Reason },
     /// A read failed.
     ReadFault,
-}
-
-/// Why no line comes, as the checker is told it; None where a line comes, or where a read failed.
-fn stop_of(progress: Progress) -> Option<Stop>
-    ensures { result ≡ told_of progress }
-{
-    match progress {
-        Progress::End { partial } => Some(Stop::End { partial }),
-        Progress::TooLong => Some(Stop::TooLong),
-        Progress::TooMuch => Some(Stop::TooMuch),
-        Progress::Line | Progress::ReadFault => None,
-    }
 }
 
 /// The outcome where no line comes whole.

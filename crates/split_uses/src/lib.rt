@@ -2,6 +2,7 @@
 #![tactic(auto)]
 
 mod averages;
+mod favours;
 mod pairs;
 mod picking;
 mod picks;
@@ -12,5 +13,6 @@ mod windows;
 
 pub use averages::{Averages, average_spans};
 pub use branch_choice::Use;
-pub use picking::split_uses;
+pub use favours::Favours;
+pub use picking::{favoured_uses, split_uses};
 pub use spans::{Span, add_spans};

@@ -5,6 +5,7 @@ ghost use Rattle.crew_terms.specs.Limits.{Limits as NodeLimits};
 ghost use Rattle.potentials.specs.Prices.{ArePricesOf};
 ghost use Rattle.split_uses.specs.Permitted.{IsPermittedScored, IsPermittedSpan};
 
+use crate::favours::{Favours, favoured};
 use crate::pairs::{Classes, best_pair, nearest_half};
 use crate::picks::{Scored, better, gain_of};
 use crate::scale::{ONE, Scale};
@@ -77,6 +78,23 @@ pub fn split_uses(
     requires spans { All (IsPermittedSpan limits.now.limits) spans.now }
     ensures { IfOk result (λ picked. All (IsPermittedUse limits.now.limits) picked.items) }
 {
+    let favours = Favours::none(alloc, 0)?;
+    favoured_uses(alloc, limits, prices, spans, whole, &favours)
+}
+
+/// The same, where splits of some tasks count more.
+pub fn favoured_uses(
+    alloc: Global,
+    limits: &Limits<'_>,
+    prices: &Prices,
+    spans: &[Span],
+    whole: i128,
+    favours: &Favours,
+) -> Result<Vec<Use>, AllocError>
+    requires prices { ArePricesOf limits.now.limits prices.now }
+    requires spans { All (IsPermittedSpan limits.now.limits) spans.now }
+    ensures { IfOk result (λ picked. All (IsPermittedUse limits.now.limits) picked.items) }
+{
     let scale = Scale::of(whole);
     let firsts = find_firsts(alloc, limits)?;
     let classes = Classes { firsts: &firsts };
@@ -85,8 +103,10 @@ pub fn split_uses(
     for task in 0..limits.instance().tasks() as u32 {
         let own = spans_of(alloc, spans, task)?;
         let value = value_of(limits, prices, task);
-        best = better(best, best_window(limits, scale, &own, task, value));
-        best = better(best, best_pair(limits, scale, classes, &own, task, value));
+        let window = best_window(limits, scale, &own, task, value);
+        best = better(best, favoured(window, favours.of_window(task)));
+        let pair = best_pair(limits, scale, classes, &own, task, value);
+        best = better(best, favoured(pair, favours.of_pair(task)));
         other = better(other, nearest_half(limits, scale, classes, &own, value));
     }
     match or_rather(best, other) {

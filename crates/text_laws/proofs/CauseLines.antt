@@ -10,7 +10,7 @@ use Rattle.crew_num.specs.declared.Op.TheVariants.{Add, Sub, Mul}
 use Rattle.crew_num.specs.declared.Overflow.{Overflow}
 use Rattle.crew_terms.specs.Limits.{Limits, Route, tasks_in}
 use Rattle.crew_terms.specs.Words.{Words}
-use Rattle.crew_terms.specs.declared.TheConstants.{MOST_TASKS}
+use Rattle.crew_terms.specs.declared.TheConstants.{MOST_TASKS, MOST_NUMBER}
 use Rattle.dossier_terms.specs.declared.DossierForm.TheVariants.{Two}
 use Rattle.dossier_terms.specs.Causes.{Cause, NoCause, Loose, Overflowed, Spent, Part, IsPartOf, IsCauseOf, IsCauseIn}
 use Rattle.dossier_terms.specs.Counted.{IsVast, vast}
@@ -42,7 +42,7 @@ why = fixed 40 (codes "why") refl (omega arith)
 loose_is_line : (now whole count : ℕ) → now < 18446744073709551616 → IsLong whole → count < 18446744073709551616 → AreLine (loose_line now whole count)
 loose_is_line now whole count a b c = wide_words 5 (codes "why") _ (omega arith) (omega arith) (why, (fixed 40 (codes "loose") refl (omega arith), (few now a, (long whole b, (few count c, tt)))))
 
-share_is_line : (columns whole : ℕ) → columns ≤ 9223372036854775807 → IsLong whole → (p : Part) → IsPartOf columns whole p → AreLine (share_line p)
+share_is_line : (columns whole : ℕ) → columns ≤ MOST_NUMBER → IsLong whole → (p : Part) → IsPartOf columns whole p → AreLine (share_line p)
 share_is_line columns whole a b p h = wide_words 3 (codes "share") _ (omega arith) (omega arith)
     (fixed 40 (codes "share") refl (omega arith), (few p.column (omega (arith, h.known)), (long p.parts (omega (arith, h.most)), tt)))
 
@@ -64,10 +64,10 @@ spent_is_line now l = wide_words 3 (codes "why") _ (omega arith) (omega arith) (
 
 -- ---- causes that may be told
 
-shares_good : (columns whole : ℕ) → columns ≤ 9223372036854775807 → IsLong whole → (parts : List Part) → AllByRecursion (IsPartOf columns whole) parts → AllByRecursion AreLine (map share_line parts)
+shares_good : (columns whole : ℕ) → columns ≤ MOST_NUMBER → IsLong whole → (parts : List Part) → AllByRecursion (IsPartOf columns whole) parts → AllByRecursion AreLine (map share_line parts)
 shares_good columns whole a b parts h = rec-map (IsPartOf columns whole) AreLine share_line (share_is_line columns whole a b) parts h
 
-cause_in_good : (pool : List Route) (n : Limits) (u : ℕ) (cause : Cause) → length pool ≤ 9223372036854775807 → tasks_in n ≤ MOST_TASKS → IsCauseIn pool n u cause → AllByRecursion AreLine (cause_lines cause)
+cause_in_good : (pool : List Route) (n : Limits) (u : ℕ) (cause : Cause) → length pool ≤ MOST_NUMBER → tasks_in n ≤ MOST_TASKS → IsCauseIn pool n u cause → AllByRecursion AreLine (cause_lines cause)
 cause_in_good pool n u NoCause many few_tasks h = (why_none_is_line, tt)
 cause_in_good pool n u (Loose now s) many few_tasks h =
     let known = h.0.known in
@@ -82,5 +82,5 @@ cause_in_good pool n u (Overflowed now fault) many few_tasks h = let known = h.0
 cause_in_good pool n u (Spent now) many few_tasks h = let known = h.known in (spent_is_line now (omega arith), tt)
 
 -- the same, where form 2 has it
-pub cause_good : (pool : List Route) (n : Limits) (u : ℕ) (cause : Cause) → length pool ≤ 9223372036854775807 → tasks_in n ≤ MOST_TASKS → IsCauseOf Two pool n u cause → AllByRecursion AreLine (cause_lines cause)
+pub cause_good : (pool : List Route) (n : Limits) (u : ℕ) (cause : Cause) → length pool ≤ MOST_NUMBER → tasks_in n ≤ MOST_TASKS → IsCauseOf Two pool n u cause → AllByRecursion AreLine (cause_lines cause)
 cause_good pool n u cause many few_tasks h = cause_in_good pool n u cause many few_tasks h

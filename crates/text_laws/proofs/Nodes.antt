@@ -15,7 +15,7 @@ use Rattle.crew_terms.specs.declared.Choice.{Choice}
 use Rattle.crew_terms.specs.declared.Choice.TheVariants as choices
 use Rattle.crew_terms.specs.declared.Side.{Side}
 use Rattle.crew_terms.specs.declared.Side.TheVariants.{First, Second}
-use Rattle.crew_terms.specs.declared.TheConstants.{LAST_MINUTE, MOST_NODES}
+use Rattle.crew_terms.specs.declared.TheConstants.{LAST_MINUTE, MOST_NODES, MOST_NUMBER}
 use Rattle.crew_terms.specs.Children.{child_is}
 use Rattle.dossier_terms.specs.declared.DossierForm.{DossierForm}
 use Rattle.dossier_terms.specs.declared.DossierForm.TheVariants.{One, Two}
@@ -109,12 +109,12 @@ choice_good : (n : Limits) (choice : Choice) → IsInstance n.instance → IsDay
 choice_good n (choices.Window j cut) h day can = let last = last_minute n j day in window_is_line j cut (omega (arith, can.task, h.parts.few_tasks)) (omega (arith, can.late))
 choice_good n (choices.Pair k j) h day can = pair_is_line k j (omega (arith, can.team, h.parts.few_teams)) (omega (arith, can.task, h.parts.few_tasks))
 
-split_good : (form : DossierForm) (pool : List Route) (n : Limits) (u : ℕ) (split : Split) → IsInstance n.instance → length pool ≤ 9223372036854775807 → IsCauseOf form pool n u split.cause
+split_good : (form : DossierForm) (pool : List Route) (n : Limits) (u : ℕ) (split : Split) → IsInstance n.instance → length pool ≤ MOST_NUMBER → IsCauseOf form pool n u split.cause
     → AreLine (choice_line split.choice) → AllByRecursion AreLine (split_lines form split)
 split_good One pool n u split h many told line = (line, tt)
 split_good Two pool n u split h many told line = (line, cause_good pool n u split.cause many h.parts.few_tasks told)
 
-nodes_good : (form : DossierForm) (pool : List Route) (n : Limits) (t : Written) (l u : ℕ) → IsInstance n.instance → IsDay n → length pool ≤ 9223372036854775807 → AreWritten n t → IsSound (tree_of n t) n l u
+nodes_good : (form : DossierForm) (pool : List Route) (n : Limits) (t : Written) (l u : ℕ) → IsInstance n.instance → IsDay n → length pool ≤ MOST_NUMBER → AreWritten n t → IsSound (tree_of n t) n l u
     → AreCaused form pool n u t → AllByRecursion AreLine (node_lines form n t)
 nodes_good form pool n (LeafNode claim) l u h day many w s told = claim_good form n claim h day w
 nodes_good form pool n (SplitNode split first second) l u h day many w s told =
@@ -127,7 +127,7 @@ nodes_good form pool n (SplitNode split first second) l u h day many w s told =
 
 -- ---- the numbers of a tree
 
-pub tree_good : (form : DossierForm) (pool : List Route) (i : Instance) (t : Written) (l u : ℕ) → IsInstance i → length pool ≤ 9223372036854775807 → AreWritten (root_limits i) t
+pub tree_good : (form : DossierForm) (pool : List Route) (i : Instance) (t : Written) (l u : ℕ) → IsInstance i → length pool ≤ MOST_NUMBER → AreWritten (root_limits i) t
     → IsSound (tree_of (root_limits i) t) (root_limits i) l u → AreCaused form pool (root_limits i) u t → splits t + closed t ≤ MOST_NODES → AllByRecursion AreLine (tree_lines form i t)
 tree_good form pool i t l u h many w s told few =
     let a = leaves_of t in

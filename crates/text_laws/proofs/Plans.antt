@@ -11,7 +11,7 @@ use Rattle.crew_terms.specs.Rules.{IsInstance}
 use Rattle.crew_terms.specs.Plan.{Plan, Job, job_of, unassigned_count}
 use Rattle.crew_terms.specs.Legal.{IsFeasible, IsLegal}
 use Rattle.crew_terms.specs.Limits.{Limits, IsPermittedVisit, GoesOn, IsRoute, root_limits, Route}
-use Rattle.crew_terms.specs.declared.TheConstants.{LAST_MINUTE, MOST_NODES}
+use Rattle.crew_terms.specs.declared.TheConstants.{LAST_MINUTE, MOST_NODES, MOST_NUMBER}
 use Rattle.crew_terms.specs.declared.Visit.{Visit}
 use Rattle.dossier_terms.specs.declared.DossierForm.{DossierForm}
 use Rattle.dossier_terms.specs.declared.DossierForm.TheVariants.{One, Two}
@@ -44,7 +44,7 @@ visits_few n k (v ∷ vs) h r = let a = visits_left n k v vs h r.0 r.1 in (omega
 route_good : (i : Instance) → IsInstance i → (r : Route) → IsPooled i r → AreLine (route_line r)
 route_good i h r p = let a = visits_few (root_limits i) r.team r.visits h p.route in route_is_line r (omega (arith, p.team, h.parts.few_teams)) a.0 a.1
 
-pub pool_good : (i : Instance) (kept : ℕ) (pool : List Route) → IsInstance i → kept ≤ length pool → length pool ≤ 9223372036854775807 → All (IsPooled i) pool
+pub pool_good : (i : Instance) (kept : ℕ) (pool : List Route) → IsInstance i → kept ≤ length pool → length pool ≤ MOST_NUMBER → All (IsPooled i) pool
     → AllByRecursion AreLine (pool_lines kept pool)
 pool_good i kept pool h few many p = (pool_is_line kept (length pool) (omega arith) (omega arith), rec-map (IsPooled i) AreLine route_line (route_good i h) pool (recursion_from_All (IsPooled i) pool p))
 

@@ -13,7 +13,7 @@ use Rattle.std.proofs.lemmas.List.Sums.{AllPass-from_list_all}
 use Rattle.dossier_terms.specs.Counted.{IsWide, IsVast}
 use Rattle.crew_terms.specs.Name.{IsName, name_byte}
 use Rattle.crew_terms.specs.Words.{Words, line_of}
-use Rattle.crew_terms.specs.declared.TheConstants.{LONGEST_LINE}
+use Rattle.crew_terms.specs.declared.TheConstants.{LONGEST_LINE, MOST_NUMBER}
 use Rattle.text_laws.specs.Texts.{IsWord, AreLine}
 use Rattle.text_laws.proofs.Lists.{rec_weaker}
 
@@ -80,9 +80,9 @@ pub small_number : (m n : ℕ) → 4 ≤ m → n < 10000 → IsShort m (decimal 
 small_number m n room l = let a = length-decimal-le 4 n (omega arith) (omega arith) (omega arith) in record { size = omega arith; high = high_digits n (omega arith) }
 
 pub signed_number : (z : ℤ) → IsWide z → IsShort 20 (signed_decimal z)
-signed_number (pos n) h = let p : pos n ≤ℤ pos 9223372036854775807 = h.most in let l : n < 18446744073709551616 = omega (arith, ints) in number 20 n (omega arith) l
+signed_number (pos n) h = let p : pos n ≤ℤ pos MOST_NUMBER = h.most in let l : n < 18446744073709551616 = omega (arith, ints) in number 20 n (omega arith) l
 signed_number (negsuc n) h =
-    let p : negsuc 9223372036854775807 ≤ℤ negsuc n = h.least in
+    let p : negsuc MOST_NUMBER ≤ℤ negsuc n = h.least in
     let l : suc n < 10000000000000000000 = omega (arith, ints) in
     let a = length-decimal-le 19 (suc n) (omega arith) (omega arith) (omega arith) in
     record { size = omega arith; high = All-cons IsHigh 45 (decimal (suc n)) (omega arith) (high_digits (suc n) (omega arith)) }

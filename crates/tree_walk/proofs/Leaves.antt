@@ -11,7 +11,7 @@ use Rattle.tree_walk.specs.Splits.{second_of}
 use Rattle.crew_terms.specs.Tree.{CanSplit}
 use Rattle.dossier_terms.specs.Counted.{instance_below}
 use Rattle.tree_walk.specs.Way.{Walked, IsWay, IsAt, IsAtEnd, IsSomewhere, IsLeaf, LeavesLeaf, counts_in, innermost, branch_of, with_leaf}
-use Rattle.tree_walk.specs.declared.split.Branch.{Branch}
+use Rattle.node_limits.specs.declared.walks.Branch.{Branch}
 use Rattle.tree_walk.proofs.Numbers.{leaf_counted, root_counted}
 use Rattle.tree_walk.proofs.Ways.{IsPast, limits_in, up, turned, risen, innermost_is, none_above}
 

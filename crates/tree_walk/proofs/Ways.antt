@@ -12,7 +12,7 @@ use Rattle.dossier_terms.specs.Reading.{Nodes, node_done, Begun, Above, limits_b
 use Rattle.node_limits.specs.Trail.{Trail, changed}
 use Rattle.tree_walk.specs.Splits.{second_child, second_of}
 use Rattle.tree_walk.specs.Way.{Walked, IsWay, IsAt, counts_in, innermost, branch_of}
-use Rattle.tree_walk.specs.declared.split.Branch.{Branch}
+use Rattle.node_limits.specs.declared.walks.Branch.{Branch}
 use Rattle.tree_walk.proofs.Numbers.{counts_past, first_counted, second_counted}
 
 -- the walk stands at a node whose tree is whole and counted

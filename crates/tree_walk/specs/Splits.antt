@@ -3,7 +3,7 @@ use Rattle.std.specs.Prelude.{Option, None, Some}
 use Rattle.crew_terms.specs.declared.Choice.{Choice}
 use Rattle.crew_terms.specs.declared.Side.{Side}
 use Rattle.crew_terms.specs.declared.Side.TheVariants.{First, Second}
-use Rattle.tree_walk.specs.declared.split.Branch.{Branch}
+use Rattle.node_limits.specs.declared.walks.Branch.{Branch}
 
 -- the second child of a split, behind its first
 abbrev pub second_child : Choice → Side → Option Branch

@@ -10,7 +10,7 @@ use Rattle.dossier_terms.specs.Dossier.{Written, Leaf}
 use Rattle.dossier_terms.specs.Lines.{counts_of}
 use Rattle.dossier_terms.specs.Reading.{Reading, Nodes, Ends, node_done, Begun, Above, limits_below}
 use Rattle.node_limits.specs.Trail.{Trail}
-use Rattle.tree_walk.specs.declared.split.Branch.{Branch}
+use Rattle.node_limits.specs.declared.walks.Branch.{Branch}
 use Rattle.tree_walk.specs.declared.walk.Walk.TheInside.{Inside}
 
 -- ---- what a walk keeps

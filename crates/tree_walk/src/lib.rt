@@ -5,6 +5,6 @@ mod split;
 mod walk;
 
 pub use crew_terms::TreeCounts;
-pub use node_limits::Limits;
-pub use split::{Branch, is_cut};
+pub use node_limits::{Branch, Limits};
+pub use split::is_cut;
 pub use walk::Walk;

@@ -4,9 +4,9 @@ ghost use Rattle.node_limits.specs.Trail.{Trail};
 ghost use Rattle.crew_terms.specs.Tree.{CanSplit};
 ghost use Rattle.tree_walk.specs.Way.{Enters, IsAt, IsSomewhere, LeavesLeaf, innermost, leaves_like, with_leaf};
 
-use crate::split::{Branch, narrow, second};
+use crate::split::second;
 use crew_terms::{Choice, Side, TreeCounts};
-use node_limits::Limits;
+use node_limits::{Branch, Limits, narrow};
 use std::alloc::{AllocError, Global};
 use std::marker::Model;
 

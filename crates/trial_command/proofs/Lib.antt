@@ -1,2 +1,4 @@
+pub mod DossierBytes
+pub mod LastEntry
 pub mod OneRound
 pub mod Runs

@@ -1,6 +1,8 @@
 -- what a trial comes to, by its dossier and by how its line was written
 use Rattle.std.proofs.Common.{◌≡◌, ◌≢◌, ◌≤◌, ◌<◌, ◌∷◌, [], ℕ, Bool, true, false, nat_eq, List, Result, Ok, Err, take, ap, subst, sym, refl, ◌∙◌, arith}
 use Rattle.std.proofs.lemmas.Bool.{eqb-true, eqb-false}
+use Rattle.cert_checker.specs.Checked.{verdict_of}
+use Rattle.cert_checker.specs.declared.checker.Verdict.{Verdict}
 use Rattle.crew_terms.specs.Plan.{unassigned_count}
 use Rattle.crew_io.specs.Appends.{appended_none}
 use Rattle.crew_io.specs.Bytes.{piece_front}
@@ -12,9 +14,7 @@ use Rattle.route_terms.specs.Named.{NamedRoute}
 use Rattle.day_terms.specs.Rounds.{Round, rounds_of}
 use Rattle.day_gen.specs.Day.{generated_day}
 use Rattle.day_commands.specs.Dossiers.{IsProved, IsUnproved}
-use Rattle.replan.specs.Counts.{counts_of}
 use Rattle.replan.specs.Rounds.{AreRoundDossiers}
-use Rattle.replan.specs.declared.counts.Counts.{Counts}
 use Rattle.trial_command.specs.Says.{RunsTrial, SaysAt, OfLine, end_of}
 use Rattle.trial_command.specs.Trials.{IsTrialDossier, trial_line}
 use Rattle.trial_command.specs.declared.trial.TrialEnded.{TrialEnded}
@@ -59,19 +59,19 @@ module _ {K : Type 0} (sink : SinkTells K) (t : Trial) (out : K) where
           writes = writes_then sink out out new (λ fault. fault) (writes_none sink out) (puts_tell sink (trial_line t d) out new (Err e) put) (λ _. refl) (λ _. refl);
         }
 
-    runs_so : {T F : Type 0} (counts : Counts) → counts ≡ counts_of d → (put : Result T F) → Puts sink (trial_line t d) out new put → (q : Bool) → nat_eq counts.bound counts.unassigned ≡ q
+    runs_so : {T F : Type 0} (verdict : Verdict) → verdict ≡ verdict_of d → (put : Result T F) → Puts sink (trial_line t d) out new put → (q : Bool) → nat_eq verdict.bound verdict.unassigned ≡ q
         → RunsTrial {E = E} sink t out new (Ok (end_of put q))
-    runs_so counts is (Err e) puts q same = runs_fault e puts
-    runs_so counts is (Ok x) puts true same =
-        let equal = eqb-true counts.bound counts.unassigned same in
-        let fact : IsProved d = sym (ap (λ (n : Counts). n.bound) is) ∙ equal ∙ ap (λ (n : Counts). n.unassigned) is in
+    runs_so verdict is (Err e) puts q same = runs_fault e puts
+    runs_so verdict is (Ok x) puts true same =
+        let equal = eqb-true verdict.bound verdict.unassigned same in
+        let fact : IsProved d = sym (ap (λ (n : Verdict). n.bound) is) ∙ equal ∙ ap (λ (n : Verdict). n.unassigned) is in
         runs_line Done x (λ e. absurd (cc)) puts (record { dossier = d; allowed = allowed; fact = fact; line = refl })
-    runs_so counts is (Ok x) puts false same =
-        let apart = eqb-false counts.bound counts.unassigned same in
+    runs_so verdict is (Ok x) puts false same =
+        let apart = eqb-false verdict.bound verdict.unassigned same in
         let fact : IsUnproved d =
-        less d.bound (unassigned_count d.plan) (dossier_at_most t d allowed) (λ e. apart (ap (λ (n : Counts). n.bound) is ∙ e ∙ sym (ap (λ (n : Counts). n.unassigned) is))) in
+        less d.bound (unassigned_count d.plan) (dossier_at_most t d allowed) (λ e. apart (ap (λ (n : Verdict). n.bound) is ∙ e ∙ sym (ap (λ (n : Verdict). n.unassigned) is))) in
         runs_line Unproved x (λ e. absurd (cc)) puts (record { dossier = d; allowed = allowed; fact = fact; line = refl })
 
-    pub runs_end : {T F : Type 0} (counts : Counts) → counts ≡ counts_of d → (put : Result T F) → Puts sink (trial_line t d) out new put → (ended : TrialEnded)
-        → ended ≡ end_of put (nat_eq counts.bound counts.unassigned) → RunsTrial {E = E} sink t out new (Ok ended)
-    runs_end counts is put puts ended e = subst (λ (x : TrialEnded). RunsTrial {E = E} sink t out new (Ok x)) (sym e) (runs_so counts is put puts (nat_eq counts.bound counts.unassigned) refl)
+    pub runs_end : {T F : Type 0} (verdict : Verdict) → verdict ≡ verdict_of d → (put : Result T F) → Puts sink (trial_line t d) out new put → (ended : TrialEnded)
+        → ended ≡ end_of put (nat_eq verdict.bound verdict.unassigned) → RunsTrial {E = E} sink t out new (Ok ended)
+    runs_end verdict is put puts ended e = subst (λ (x : TrialEnded). RunsTrial {E = E} sink t out new (Ok x)) (sym e) (runs_so verdict is put puts (nat_eq verdict.bound verdict.unassigned) refl)

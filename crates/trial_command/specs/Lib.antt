@@ -1,6 +1,9 @@
 pub mod Trials
 pub mod Asked
 pub mod Taken
+pub mod LastRound
 pub mod Says
 pub mod KeptFront
-pub mod Faults
+pub mod Findings
+pub mod Checking
+pub mod KeptCheck

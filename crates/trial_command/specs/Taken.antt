@@ -1,4 +1,4 @@
--- entries that a session has taken
+-- entries that a session takes
 use Rattle.std.specs.Prelude.{◌≡◌, List, [], fold}
 use Rattle.day_terms.specs.declared.Entry.{Entry}
 use Rattle.day_terms.specs.Entries.{after_entry}

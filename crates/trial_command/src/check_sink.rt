@@ -1,97 +1,78 @@
-// A sink that checks the dossiers that are written to it.
-ghost use Rattle.std.specs.Prelude.{◌≡◌, ◌≤◌, ◌<◌, [], length, None, Ok, IfOk, OnOk, IsErr};
+// A sink that checks the dossier that is written to it.
+ghost use Rattle.std.specs.Prelude.{◌≡◌, ◌≤◌, ◌<◌, [], Some, Ok, IfOk, IfSome, OnOk, OnErr, IsErr, length};
 ghost use Rattle.crew_io.specs.Io.{Rose, Took};
-ghost use Rattle.crew_io.specs.Lines.{IsLineLength};
-ghost use Rattle.trial_command.specs.Faults.{check_faults};
+ghost use Rattle.cert_checker.specs.Checked.{verdict_of};
+ghost use Rattle.dossier_terms.specs.Dossier.{Dossier, IsGood};
+ghost use Rattle.dossier_terms.specs.Lines.{text_of};
+ghost use Rattle.trial_command.specs.Checking.{fresh_check};
+ghost use Rattle.trial_command.specs.Findings.{AreDossier};
 
+use crate::feed::{Finding, take};
+use crate::laws::good_is_found;
 use crate::line_front::LineFront;
-use cert_checker::{Checker, Said, Verdict};
+use crate::written::Written;
+use cert_checker::{Checker, Verdict};
 use crew_io::sink::Sink;
 use crew_io::source::Failed;
-use crew_terms::LONGEST_INPUT;
-use memchr::memchr;
 use std::alloc::{AllocError, Global};
+use std::marker::Model;
 
-/// A line is not taken: the checker refuses it, or it would be too long, or memory is wanting.
-#[derive(Clone, Copy)]
-struct NotTaken;
-
-impl From<AllocError> for NotTaken {
-    fn from(_: AllocError) -> NotTaken {
-        NotTaken
-    }
-}
-
-/// A sink that gives what is written to a checker, line by line, and keeps none of it but the front of a line. It tells
-/// nothing of its bytes. Each line that the checker refuses is a fault, and so is want of memory. Faults are counted.
+/// A sink that gives the dossier that is written to it to a checker, line by line, and keeps none of it but the front of a line.
+/// A line that the checker refuses is taken like any other. A write fails for want of memory alone, or behind 2^62 lines.
 #[derive(Drop)]
 pub(crate) struct CheckSink {
     checker: Checker,
     front: LineFront,
-    /// What the last dossier says, where it is whole and nothing was written behind it.
-    verdict: Option<Verdict>,
+    finding: Finding,
     failed: u64,
+    written: Written,
 }
 
-/// How many bytes stand before the first LF, or all of them.
-fn first_feed(bytes: &[u8]) -> usize
-    ensures { IsLineLength bytes.now result }
-{
-    memchr(b'\n', bytes).unwrap_or(bytes.len())
+impl Model for CheckSink {
+    ghost use Rattle.trial_command.specs.Checking.{Checking};
+
+    ghost Value = { Checking };
+
+    ghost use Rattle.trial_command.specs.KeptCheck.{checking_of, IsChecking};
+
+    ghost view = { checking_of };
+
+    ghost invariant = { IsChecking };
 }
 
 impl CheckSink {
     /// A sink to which nothing was written.
-    pub(crate) fn open(alloc: Global) -> Result<CheckSink, AllocError> {
+    pub(crate) fn open(alloc: Global) -> Result<CheckSink, AllocError>
+        ensures { IfOk result (λ sink. sink ≡ fresh_check) }
+    {
         Ok(CheckSink {
             checker: Checker::open(alloc)?,
             front: LineFront::new(alloc),
-            verdict: None,
+            finding: Finding::Lines,
             failed: 0,
+            written: Written::none(),
         })
     }
 
-    /// What the last dossier says, where it is whole and nothing was written behind it.
-    pub(crate) fn verdict(&self) -> Option<Verdict> {
-        self.verdict
-    }
-
-    /// Judges the line that is whole, and begins the next one.
-    fn judge(&mut self) -> Result<(), NotTaken>
-        ensures { check_faults self.new ≡ check_faults self.old }
+    /// What the dossier says that was written, where no write has failed: None where the bytes are not a good one.
+    pub(crate) fn verdict(&self) -> Option<Verdict>
+        requires { self.now.faults ≡ 0 }
+        ensures some { IfSome result (AreDossier self.now.got) }
+        ensures good { (d : Dossier) → IsGood d → self.now.got ≡ text_of d
+            → result ≡ Some (verdict_of d) }
     {
-        if self.checker.lines() >= LONGEST_INPUT {
-            return Err(NotTaken);
+        good_is_found();
+        match self.finding {
+            Finding::Whole(verdict) => Some(verdict),
+            Finding::Lines | Finding::Refused => None,
         }
-        self.verdict = match self.checker.line(self.front.bytes())? {
-            Said::More => None,
-            Said::Whole(verdict) => Some(verdict),
-            Said::No { .. } => return Err(NotTaken),
-        };
-        self.front.clear();
-        Ok(())
-    }
-
-    /// Takes the front of the piece: up to its first LF, or all of it.
-    fn take(&mut self, piece: &[u8]) -> Result<usize, NotTaken>
-        ensures fits { IfOk result (λ n. n ≤ length piece.now) }
-        ensures some { IfOk result (λ n. 0 < length piece.now → 0 < n) }
-        ensures faults { check_faults self.new ≡ check_faults self.old }
-    {
-        let until = first_feed(piece);
-        self.front.add(&piece[..until])?;
-        if until == piece.len() {
-            return Ok(until);
-        }
-        self.judge()?;
-        Ok(until + 1)
     }
 }
 
 impl Sink for CheckSink {
-    ghost got = { λ _. None };
+    ghost got = { λ s. Some s.got };
 
-    ghost faults = { λ s. check_faults s };
+    ghost faults = { λ s. s.faults };
 
     ghost held = { λ _. [] };
 
@@ -102,18 +83,19 @@ impl Sink for CheckSink {
     fn write(&mut self, piece: &[u8]) -> Result<usize, Failed>
         ensures fits { IfOk result (λ n. n ≤ length piece.now) }
         ensures some { IfOk result (λ n. 0 < length piece.now → 0 < n) }
-        ensures took { IfOk result (λ n. Took None None n piece.now) }
-        ensures later { check_faults self.old ≤ check_faults self.new }
-        ensures cause { IsErr result → Rose (check_faults self.old) (check_faults self.new) }
-        ensures uncounted { OnOk result (check_faults self.new ≡ check_faults self.old) }
+        ensures took { IfOk result (λ n. Took (Some self.old.got) (Some self.new.got) n piece.now) }
+        ensures nothing { OnErr result (Some self.new.got ≡ Some self.old.got) }
+        ensures later { self.old.faults ≤ self.new.faults }
+        ensures cause { IsErr result → Rose self.old.faults self.new.faults }
+        ensures uncounted { OnOk result (self.new.faults ≡ self.old.faults) }
     {
-        match self.take(piece) {
-            Ok(n) => Ok(n),
-            Err(NotTaken) => {
-                self.failed = self.failed.saturating_add(1);
-                Err(Failed)
-            }
-        }
+        let Ok(fed) = take(&mut self.checker, &mut self.front, self.finding, piece) else {
+            self.failed = self.failed.saturating_add(1);
+            return Err(Failed);
+        };
+        self.finding = fed.finding;
+        self.written.add(&piece[..fed.taken]);
+        Ok(fed.taken)
     }
 
     fn flush(&mut self) -> Result<(), Failed>

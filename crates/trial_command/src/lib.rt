@@ -2,10 +2,13 @@
 #![tactic(auto)]
 
 mod check_sink;
+mod feed;
+mod laws;
 mod line_front;
 mod plan;
 mod trial;
 mod words;
+mod written;
 
 pub use trial::{TrialEnded, write_trial};
 pub use words::Trial;

@@ -1,6 +1,7 @@
 // The front of a line that is written piece by piece.
-ghost use Rattle.std.specs.Prelude.{◌≡◌, ◌≢◌, ◌++◌, [], All, OnOk, OnErr};
+ghost use Rattle.std.specs.Prelude.{◌≡◌, ◌≢◌, ◌≤◌, ◌+◌, ◌++◌, [], All, OnOk, OnErr, length};
 ghost use Rattle.crew_terms.specs.Words.{IsLine};
+ghost use Rattle.crew_terms.specs.declared.TheConstants.{LONGEST_LINE};
 
 use crew_terms::LONGEST_LINE;
 use std::alloc::{AllocError, Global};
@@ -42,16 +43,20 @@ impl LineFront {
         &self.bytes
     }
 
-    /// Adds bytes without an LF. AllocError where the line would be longer than a line may be, and for want of memory; then it
-    /// stays as it was.
+    /// How many more bytes the line may have.
+    pub(crate) fn room(&self) -> usize
+        ensures { result + length self.now ≡ LONGEST_LINE }
+    {
+        LONGEST_LINE - self.bytes.len()
+    }
+
+    /// Adds bytes without an LF, for which the line has room. AllocError for want of memory; then it stays as it was.
     pub(crate) fn add(&mut self, bytes: &[u8]) -> Result<(), AllocError>
-        requires { All (λ b. b ≢ 10) bytes.now }
+        requires plain { All (λ b. b ≢ 10) bytes.now }
+        requires room { length self.old + length bytes.now ≤ LONGEST_LINE }
         ensures ok { OnOk result (self.new ≡ self.old ++ bytes.now) }
         ensures err { OnErr result (self.new ≡ self.old) }
     {
-        if bytes.len() > LONGEST_LINE - self.bytes.len() {
-            return Err(AllocError);
-        }
         self.bytes.extend_from_slice(bytes)
     }
 

@@ -1,23 +1,47 @@
 // The day of a trial, planned.
-ghost use Rattle.std.specs.Prelude.{◌≡◌, [], ◌∷◌, None, IfOk, OnOk, All};
+ghost use Rattle.std.specs.Prelude.{◌≡◌, [], ◌∷◌, None, Some, Ok, IfOk, OnOk, All};
+ghost use Rattle.cert_checker.specs.Checked.{verdict_of};
 ghost use Rattle.dossier_terms.specs.Dossier.{Dossier};
 ghost use Rattle.day_terms.specs.Ranges.{IsInRange};
+ghost use Rattle.day_terms.specs.Refusal.{AreTaken, refusal_of};
 ghost use Rattle.day_terms.specs.Rounds.{rounds_of};
-ghost use Rattle.replan.specs.Counts.{counts_of};
-ghost use Rattle.replan.specs.Planning.{no_entry_yet};
+ghost use Rattle.day_terms.specs.State.{start};
+ghost use Rattle.replan.specs.Planning.{IsEntered, no_entry_yet};
 ghost use Rattle.replan.specs.Rounds.{AreRoundDossiers};
+ghost use Rattle.trial_command.specs.Checking.{fresh_check};
+ghost use Rattle.trial_command.specs.LastRound.{BeginsNoRound, EndsInRound};
 ghost use Rattle.trial_command.specs.Taken.{HasTaken};
 ghost use Rattle.trial_command.specs.Trials.{IsTrial, IsTrialDossier};
 
 use crate::check_sink::CheckSink;
+use crate::laws::generated_days_end_in_a_round;
 use crate::words::Trial;
 use cert_checker::Verdict;
 use day_gen::{Entry, make};
-use replan::{Counts, Done, Session};
+use replan::{Done, Session, SessionFault};
 use std::alloc::{AllocError, Global};
 
-/// Takes entries that begin no round. AllocError where the session does not take one, as memory is wanting, or begins a
-/// round with one.
+/// Takes an entry that the session does not refuse. AllocError for want of memory.
+fn take_entry(
+    session: &mut Session,
+    entry: &Entry,
+    sink: &mut CheckSink,
+) -> Result<Done, AllocError>
+    requires range { IsInRange entry.now }
+    requires open_yet { session.old.failed ≡ None }
+    requires taken { refusal_of session.old.day entry.now ≡ None }
+    ensures entered { IfOk result (λ done. IsEntered session.old entry.now (Ok done) session.new
+        (Some sink.old.got) (Some sink.new.got)) }
+    ensures faults { OnOk result (sink.new.faults ≡ sink.old.faults) }
+{
+    match session.entry(entry, sink) {
+        Ok(done) => Ok(done),
+        Err(SessionFault::Change(_)) => unreachable!(),
+        Err(SessionFault::WriteFault | SessionFault::OutOfMemory) => Err(AllocError),
+    }
+}
+
+/// Takes entries that are not refused and begin no round; nothing is written. AllocError for want of memory.
 fn take_entries(
     session: &mut Session,
     entries: &[Entry],
@@ -25,63 +49,56 @@ fn take_entries(
 ) -> Result<(), AllocError>
     requires range { All IsInRange entries.now }
     requires open_yet { session.old.failed ≡ None }
-    ensures { OnOk result (HasTaken session.old entries.now session.new) }
+    requires taken { AreTaken session.old.day entries.now }
+    requires no_round { All BeginsNoRound entries.now }
+    ensures taken { OnOk result (HasTaken session.old entries.now session.new) }
+    ensures sink { OnOk result (sink.new ≡ sink.old) }
 {
     for entry in entries {
-        let Ok(Done::Changed) = session.entry(entry, sink) else {
-            return Err(AllocError);
+        let Done::Changed = take_entry(session, entry, sink)? else {
+            unreachable!();
         };
     }
     Ok(())
 }
 
-/// Whether the checker says of the dossier that was written what the session says.
-fn is_checked(sink: &CheckSink, counts: &Counts) -> bool {
-    sink.verdict()
-        == Some(Verdict {
-            unassigned: counts.unassigned,
-            bound: counts.bound,
-            splits: counts.splits,
-            closed: counts.closed,
-            left_open: counts.left_open,
-            unshown: counts.unshown,
-        })
-}
-
-/// Plans a day whose last entry begins its one round, and gives the numbers of the dossier. AllocError where memory is
-/// wanting, or the day is another one. It is answered, too, where the checker does not say the same of what was written;
-/// that it always does is shown by tests.
+/// Plans a day whose last entry begins its one round, and gives what the checker says of the dossier: its numbers.
+/// AllocError for want of memory.
 fn plan_entries(
     session: &mut Session,
     entries: &[Entry],
     sink: &mut CheckSink,
-) -> Result<Counts, AllocError>
+) -> Result<Verdict, AllocError>
     requires range { All IsInRange entries.now }
     requires none_yet { session.old ≡ no_entry_yet }
-    ensures { IfOk result (λ counts. (d : Dossier)
+    requires unwritten { sink.old ≡ fresh_check }
+    requires taken { AreTaken start entries.now }
+    requires round { EndsInRound entries.now }
+    ensures { IfOk result (λ verdict. (d : Dossier)
         × AreRoundDossiers [] (rounds_of [] entries.now) (d ∷ [])
-        × (counts ≡ counts_of d)) }
+        × (verdict ≡ verdict_of d)) }
 {
     let Some((last, front)) = entries.split_last() else {
-        return Err(AllocError);
+        unreachable!();
     };
     take_entries(session, front, sink)?;
-    let Ok(Done::Round(counts)) = session.entry(last, sink) else {
-        return Err(AllocError);
+    let Done::Round(_) = take_entry(session, last, sink)? else {
+        unreachable!();
     };
-    if !is_checked(sink, &counts) {
-        return Err(AllocError);
-    }
-    Ok(counts)
+    let Some(verdict) = sink.verdict() else {
+        unreachable!();
+    };
+    Ok(verdict)
 }
 
-/// Plans the day of a trial, and gives the numbers of its dossier, which is checked as it is written, and not kept.
-/// AllocError where memory is wanting, or the checker does not agree.
-pub(crate) fn plan_trial(alloc: Global, trial: Trial) -> Result<Counts, AllocError>
+/// Plans the day of a trial, and gives what a checker says of its dossier, which it checks as it is written, and which is
+/// not kept: the numbers of the dossier. AllocError for want of memory.
+pub(crate) fn plan_trial(alloc: Global, trial: Trial) -> Result<Verdict, AllocError>
     requires { IsTrial trial }
-    ensures { IfOk result (λ counts. (d : Dossier) × IsTrialDossier trial d
-        × (counts ≡ counts_of d)) }
+    ensures { IfOk result (λ verdict. (d : Dossier) × IsTrialDossier trial d
+        × (verdict ≡ verdict_of d)) }
 {
+    generated_days_end_in_a_round();
     let entries = make(alloc, trial.number, trial.teams, trial.tasks, trial.nodes)?;
     let mut sink = CheckSink::open(alloc)?;
     let mut session = Session::new(alloc);

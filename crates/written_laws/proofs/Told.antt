@@ -16,6 +16,7 @@ use Rattle.crew_terms.specs.Branches.{LeafNode, SplitNode, splits}
 use Rattle.crew_terms.specs.Limits.{Limits, Route, tasks_in, teams_in}
 use Rattle.crew_terms.specs.Tree.{child}
 use Rattle.crew_terms.specs.declared.Side.TheVariants.{First, Second}
+use Rattle.crew_terms.specs.declared.TheConstants.{MOST_NUMBER}
 use Rattle.dossier_terms.specs.Causes.{AreShares, IsCauseIn, IsLooseAt, IsNow, IsPartOf, Part, PartsRise, Shares, choice_of, share_of as told_share}
 use Rattle.frac_master.specs.declared.shares.Share.{Share}
 use Rattle.master_run.specs.Shares.{fractional_of, share_of}
@@ -119,7 +120,7 @@ told_shares pool (s ∷ shares) = ap (λ (xs : List RouteShare). share_of pool s
 
 -- ---- causes
 
-module _ (pool : List Route) (u : ℕ) (few : length pool ≤ 9223372036854775807) where
+module _ (pool : List Route) (u : ℕ) (few : length pool ≤ MOST_NUMBER) where
   loose_may : (n : Limits) (now : ℕ) (den : ℤ) (shares : List Share) (left_open : List ℤ) → IsNow n u now → ShowsLoose pool n now den shares left_open
       → FitsSigned w128 den → IsCauseIn pool n u (told_why now (whys.Loose den shares left_open))
   loose_may n now den shares left_open is shown fits =

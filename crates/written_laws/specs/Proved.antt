@@ -8,7 +8,7 @@ use Rattle.crew_terms.specs.Plan.{unassigned_count}
 use Rattle.crew_terms.specs.Rules.{IsInstance}
 use Rattle.crew_terms.specs.Tree.{CanSplit, child}
 use Rattle.crew_terms.specs.declared.Side.TheVariants.{First, Second}
-use Rattle.crew_terms.specs.declared.TheConstants.{MOST_NODES}
+use Rattle.crew_terms.specs.declared.TheConstants.{MOST_NODES, MOST_NUMBER}
 use Rattle.dossier_terms.specs.Causes.{Cause, IsCauseIn}
 use Rattle.dossier_terms.specs.Dossier.{IsPooled}
 use Rattle.branch_tree.specs.Entries.{EachSplitOf}
@@ -45,7 +45,7 @@ pub record IsProvedGiven (g : Given) : Type 0 where
   pub instance : IsInstance g.instance
   pub budget : g.nodes ≤ MOST_NODES
   pub kept : g.kept ≤ length g.columns
-  pub pool_length : length g.columns ≤ 9223372036854775807
+  pub pool_length : length g.columns ≤ MOST_NUMBER
   pub pool : All (IsPooled g.instance) g.columns
   pub differ : AllPairs (λ (a b : Route). a ≢ b) g.columns
   pub plan : IsLegal g.instance g.plan

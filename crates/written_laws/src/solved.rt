@@ -7,6 +7,7 @@ ghost use Rattle.crew_terms.specs.Instance.{Instance};
 ghost use Rattle.crew_terms.specs.Limits.{Route, root_limits};
 ghost use Rattle.crew_terms.specs.Plan.{unassigned_count};
 ghost use Rattle.crew_terms.specs.Rules.{IsInstance};
+ghost use Rattle.crew_terms.specs.declared.TheConstants.{MOST_NUMBER};
 ghost use Rattle.dossier_terms.specs.Causes.{Cause as ToldCause};
 ghost use Rattle.dossier_terms.specs.Dossier.{IsPooled};
 ghost use Rattle.search_core.specs.Searching.{split_cause};
@@ -60,7 +61,7 @@ pub fn solved_pools_are_of_the_instance()
 pub fn solved_causes_may_be_told()
     ensures causes { (i : Instance) (nodes : ℕ) (kept pool : List Route) (o : Outcome)
         (tree : BranchTree) (told : List ToldCause) →
-        IsSolved i nodes kept pool o → length pool ≤ 9223372036854775807 → o.tree ≡ preorder tree
+        IsSolved i nodes kept pool o → length pool ≤ MOST_NUMBER → o.tree ≡ preorder tree
         → AreTold o.causes.items told →
         AreCauses pool (unassigned_count o.plan) (root_limits i) tree told }
     ensures count { (o : Outcome) (told : List ToldCause) → AreTold o.causes.items told

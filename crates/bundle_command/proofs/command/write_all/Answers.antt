@@ -1,19 +1,14 @@
-use Rattle.std.proofs.Common.{◌≡◌, ◌≤◌, Result, Ok, Err, ◌∙◌, subst, ap, refl, sym}
+use Rattle.std.proofs.Common.{◌≡◌, Result, Ok, Err, subst, ap, refl}
 use Rattle.std.proofs.lemmas.Result.{IfOk-from_err}
 use Rattle.crew_io.specs.Chains.{writes_none, writes_then, puts_tell}
 use Rattle.crew_io.specs.Draws.{reads_none, reads_then}
 use Rattle.crew_io.specs.Results.{err_is_not_ok}
-use Rattle.crew_io.specs.Bytes.{OfBytes}
-use Rattle.crew_io.specs.Puts.{TellsWrites}
-use Rattle.crew_terms.specs.declared.TheConstants.{MOST_NODES}
 use Rattle.dossier_commands.specs.Input.{IsOutcome, KeepsDossier, OpensNext}
 use Rattle.dossier_commands.specs.declared.input.Outcome.{Outcome}
 use Rattle.dossier_commands.specs.declared.input.Outcome.TheVariants as outcome
-use Rattle.cert_write.specs.declared.faults.PutFault.TheVariants as puts
-use Rattle.bundle_command.specs.declared.command.BundlesEnded.TheVariants.{ReadFault, WriteFault}
-use Rattle.dossier_terms.specs.Dossier.{Dossier, IsGood}
-use Rattle.bundle_command.specs.Says.{SaysFront}
-use Rattle.bundle_command.proofs.Said.{opens, begins, says_one_more, says_end, says_no, no_fault, says_read_fault, front_so_far, front_bundle, front_no, whole_no}
+use Rattle.bundle_command.specs.declared.command.PiecesEnded.TheVariants.{ReadFault, WriteFault}
+use Rattle.bundle_write.specs.Pieces.{IsPiecePut}
+use Rattle.bundle_command.proofs.Said.{is_day, opens, begins, says_one_more, says_end, says_no, no_fault, says_read_fault, front_so_far, front_piece, front_same, front_no, whole_no}
 use Rattle.bundle_command.proofs.command.write_all.Goals as goal
 
 not_fault : {E : Type 0} (x y : Outcome) → x ≡ y → (y ≡ outcome.ReadFault → ⊥) → ◌≡◌ {A = Result Outcome E} (Ok x) (Ok outcome.ReadFault) → ⊥
@@ -22,13 +17,13 @@ not_fault x y is apart e = apart (let f : x ≡ outcome.ReadFault = cc in cc)
 pub dossiers-init : goal.dossiers-init
 dossiers-init g c = record {
   going = opens c.args.reader.now c.args.checker.now c.requires.reader c.requires.checker;
-  so_far = begins c.args.nodes (g.S.Source.left c.args.src.now) (g.K.Sink.got c.args.out.now) c.args.reader.now c.args.checker.now c.requires.reader c.requires.checker;
+  so_far = begins c.args.job (g.S.Source.left c.args.src.now) (g.K.Sink.got c.args.out.now) c.args.reader.now c.args.checker.now c.requires.reader c.requires.checker;
   reads = reads_none g.S.Source c.args.src.now;
   writes = writes_none g.K.Sink c.args.out.now;
 }
 
-pub instance-requires : goal.instance-requires
-instance-requires g c =
+pub day_of-day-requires : goal.day_of-day-requires
+day_of-day-requires g c =
     let next = subst (OpensNext c.dossiers.reader c.next_kept.new.reader c.next_kept.new.checker) c.in-Yes.is c.in_ok-verdict.ensures.next in
     (next.2.dossier, next.2.whole)
 
@@ -38,12 +33,12 @@ dossiers-preserved g c =
     let i = c.dossiers.invariant in
     record {
       going = next.0;
-      so_far = says_one_more c.args.nodes (g.S.Source.left c.args.src.now) (g.K.Sink.got c.args.out.now) c.dossiers.proved c.dossiers.reader (g.S.Source.left c.dossiers.src) (g.K.Sink.got c.dossiers.out) c.dossiers.checker i.so_far
-          c.next_kept.new.reader (g.S.Source.left c.next_kept.new.src) (g.K.Sink.got c.put_bundle.new.sink) c.next_kept.new.checker c.in-Yes.verdict c.next_kept.new.kept.items c.in-Ok.bound c.is_still_proved-proved.result
+      so_far = says_one_more c.args.job (g.S.Source.left c.args.src.now) (g.K.Sink.got c.args.out.now) c.dossiers.proved c.dossiers.reader (g.S.Source.left c.dossiers.src) (g.K.Sink.got c.dossiers.out) c.dossiers.checker i.so_far
+          c.next_kept.new.reader (g.S.Source.left c.next_kept.new.src) (g.K.Sink.got c.put_piece.new.sink) c.next_kept.new.checker c.in-Yes.verdict c.next_kept.new.kept.items c.in-Ok.now c.are_both-proved.result
           (λ front input done b. subst (IsOutcome front input done c.next_kept.new.reader (g.S.Source.left c.next_kept.new.src) c.next_kept.new.checker) c.in-Yes.is (c.in_ok-verdict.ensures.outcome front input done b))
           (subst (KeepsDossier c.dossiers.reader (g.S.Source.left c.dossiers.src) c.next_kept.new.kept.items c.next_kept.new.reader (g.S.Source.left c.next_kept.new.src)) c.in-Yes.is c.in_ok-verdict.ensures.kept)
-          (λ d whole good t v. c.in-Ok.ensures.put d good (c.instance.ensures d whole) (c.deref.ensures.value ∙ t) (ap (λ x. x.bound) v))
-          c.is_still_proved-proved.ensures;
+          (λ d whole good t v. c.in-Ok.ensures.put d (is_day c.next_kept.new.checker c.in-Yes.verdict c.deref.result.now c.next_kept.new.kept.items c.day_of-day.result d c.day_of-day.ensures c.deref.ensures.value whole good t v))
+          c.are_both-proved.ensures;
       reads = reads_then g.S.Source _ _ _ (λ fault. fault) i.reads c.in_ok-verdict.ensures.tells (λ fault. absurd fault) (λ e. not_fault _ _ c.in-Yes.is (λ f. cc) e);
       writes = writes_then g.K.Sink _ _ _ (λ fault. fault) i.writes c.in-Ok.ensures.tells (λ fault. absurd fault) (λ e. cc);
     }
@@ -52,11 +47,11 @@ pub returns-in-Err-WriteFault : goal.returns-in-Err-WriteFault
 returns-in-Err-WriteFault g c =
     let i = c.dossiers.invariant in
     let front =
-    front_bundle c.args.nodes (g.S.Source.left c.args.src.now) (g.K.Sink.got c.args.out.now) c.dossiers.proved c.dossiers.reader (g.S.Source.left c.dossiers.src) (g.K.Sink.got c.dossiers.out) c.dossiers.checker i.so_far
-    c.next_kept.new.reader (g.S.Source.left c.next_kept.new.src) (g.K.Sink.got c.put_bundle.new.sink) c.next_kept.new.checker c.in-Yes.verdict c.next_kept.new.kept.items c.in-Err-WriteFault.field-0
+    front_piece c.args.job (g.S.Source.left c.args.src.now) (g.K.Sink.got c.args.out.now) c.dossiers.proved c.dossiers.reader (g.S.Source.left c.dossiers.src) (g.K.Sink.got c.dossiers.out) c.dossiers.checker i.so_far
+    c.next_kept.new.reader (g.S.Source.left c.next_kept.new.src) (g.K.Sink.got c.put_piece.new.sink) c.next_kept.new.checker c.in-Yes.verdict c.next_kept.new.kept.items
     (λ front input done b. subst (IsOutcome front input done c.next_kept.new.reader (g.S.Source.left c.next_kept.new.src) c.next_kept.new.checker) c.in-Yes.is (c.in_ok-verdict.ensures.outcome front input done b))
     (subst (KeepsDossier c.dossiers.reader (g.S.Source.left c.dossiers.src) c.next_kept.new.kept.items c.next_kept.new.reader (g.S.Source.left c.next_kept.new.src)) c.in-Yes.is c.in_ok-verdict.ensures.kept)
-    (λ d whole good t v. c.in-Err-WriteFault.ensures.put d good (c.instance.ensures d whole) (c.deref.ensures.value ∙ t) (ap (λ x. x.bound) v)) in
+    (λ d whole good t v. subst (λ f. IsPiecePut c.args.job d (Err f) (g.K.Sink.got c.dossiers.out) (g.K.Sink.got c.put_piece.new.sink)) c.in-Err-WriteFault.field-0-is (c.in-Err-WriteFault.ensures.put d (is_day c.next_kept.new.checker c.in-Yes.verdict c.deref.result.now c.next_kept.new.kept.items c.day_of-day.result d c.day_of-day.ensures c.deref.ensures.value whole good t v))) in
     record {
       says = front;
       front = front;
@@ -71,11 +66,11 @@ returns-in-Err-OutOfMemory g c =
     record {
       says = tt;
       front =
-          front_bundle c.args.nodes (g.S.Source.left c.args.src.now) (g.K.Sink.got c.args.out.now) c.dossiers.proved c.dossiers.reader (g.S.Source.left c.dossiers.src) (g.K.Sink.got c.dossiers.out) c.dossiers.checker i.so_far
-          c.next_kept.new.reader (g.S.Source.left c.next_kept.new.src) (g.K.Sink.got c.put_bundle.new.sink) c.next_kept.new.checker c.in-Yes.verdict c.next_kept.new.kept.items c.in-Err-OutOfMemory.field-0
+          front_same c.args.job (g.S.Source.left c.args.src.now) (g.K.Sink.got c.args.out.now) c.dossiers.proved c.dossiers.reader (g.S.Source.left c.dossiers.src) (g.K.Sink.got c.dossiers.out) c.dossiers.checker i.so_far
+          c.next_kept.new.reader (g.S.Source.left c.next_kept.new.src) (g.K.Sink.got c.put_piece.new.sink) c.next_kept.new.checker c.in-Yes.verdict c.next_kept.new.kept.items
           (λ front input done b. subst (IsOutcome front input done c.next_kept.new.reader (g.S.Source.left c.next_kept.new.src) c.next_kept.new.checker) c.in-Yes.is (c.in_ok-verdict.ensures.outcome front input done b))
           (subst (KeepsDossier c.dossiers.reader (g.S.Source.left c.dossiers.src) c.next_kept.new.kept.items c.next_kept.new.reader (g.S.Source.left c.next_kept.new.src)) c.in-Yes.is c.in_ok-verdict.ensures.kept)
-          (λ d whole good t v. c.in-Err-OutOfMemory.ensures.put d good (c.instance.ensures d whole) (c.deref.ensures.value ∙ t) (ap (λ x. x.bound) v));
+          (λ d whole good t v. subst (λ f. IsPiecePut c.args.job d (Err f) (g.K.Sink.got c.dossiers.out) (g.K.Sink.got c.put_piece.new.sink)) c.in-Err-OutOfMemory.field-0-is (c.in-Err-OutOfMemory.ensures.put d (is_day c.next_kept.new.checker c.in-Yes.verdict c.deref.result.now c.next_kept.new.kept.items c.day_of-day.result d c.day_of-day.ensures c.deref.ensures.value whole good t v)));
       ended = tt;
       reads = reads_then g.S.Source _ _ _ (λ fault. fault) i.reads c.in_ok-verdict.ensures.tells (λ e. absurd (cc)) (λ e. absurd (not_fault _ _ c.in-Yes.is (λ f. cc) e));
       writes = writes_then g.K.Sink _ _ _ (λ fault. fault) i.writes c.in-Err-OutOfMemory.ensures.tells (λ e. absurd (cc)) (λ e. absurd (let f = c.in-Err-OutOfMemory.field-0-is in cc));
@@ -86,10 +81,10 @@ returns-in-End g c =
     let i = c.dossiers.invariant in
     record {
       says =
-          says_end c.args.nodes (g.S.Source.left c.args.src.now) (g.K.Sink.got c.args.out.now) c.dossiers.proved c.dossiers.reader (g.S.Source.left c.dossiers.src) (g.K.Sink.got c.dossiers.out) c.dossiers.checker i.so_far
+          says_end c.args.job (g.S.Source.left c.args.src.now) (g.K.Sink.got c.args.out.now) c.dossiers.proved c.dossiers.reader (g.S.Source.left c.dossiers.src) (g.K.Sink.got c.dossiers.out) c.dossiers.checker i.so_far
           (g.S.Source.left c.next_kept.new.src) c.ended_where.result c.ended_where.ensures
           (λ front input done b. subst (IsOutcome front input done c.next_kept.new.reader (g.S.Source.left c.next_kept.new.src) c.next_kept.new.checker) c.in-End.is (c.in_ok-verdict.ensures.outcome front input done b));
-      front = front_so_far c.args.nodes (g.S.Source.left c.args.src.now) (g.K.Sink.got c.args.out.now) c.dossiers.proved c.dossiers.reader (g.S.Source.left c.dossiers.src) (g.K.Sink.got c.dossiers.out) c.dossiers.checker i.so_far;
+      front = front_so_far c.args.job (g.S.Source.left c.args.src.now) (g.K.Sink.got c.args.out.now) c.dossiers.proved c.dossiers.reader (g.S.Source.left c.dossiers.src) (g.K.Sink.got c.dossiers.out) c.dossiers.checker i.so_far;
       ended = λ _. c.in_ok-verdict.ensures.ended c.in-End.is;
       reads = reads_then g.S.Source _ _ _ (λ fault. fault) i.reads c.in_ok-verdict.ensures.tells (λ e. absurd (no_fault c.dossiers.proved c.ended_where.result ReadFault c.ended_where.ensures (λ f. cc) (λ f. cc) e))
           (λ e. absurd (not_fault _ _ c.in-End.is (λ f. cc) e));
@@ -102,10 +97,10 @@ returns-in-ReadFault g c =
     let i = c.dossiers.invariant in
     record {
       says =
-          says_read_fault c.args.nodes (g.S.Source.left c.args.src.now) (g.K.Sink.got c.args.out.now) c.dossiers.proved c.dossiers.reader (g.S.Source.left c.dossiers.src) (g.K.Sink.got c.dossiers.out) c.dossiers.checker i.so_far
+          says_read_fault c.args.job (g.S.Source.left c.args.src.now) (g.K.Sink.got c.args.out.now) c.dossiers.proved c.dossiers.reader (g.S.Source.left c.dossiers.src) (g.K.Sink.got c.dossiers.out) c.dossiers.checker i.so_far
           c.next_kept.new.reader (g.S.Source.left c.next_kept.new.src)
           (λ front input done b. subst (IsOutcome front input done c.next_kept.new.reader (g.S.Source.left c.next_kept.new.src) c.next_kept.new.checker) c.in-ReadFault.is (c.in_ok-verdict.ensures.outcome front input done b));
-      front = front_so_far c.args.nodes (g.S.Source.left c.args.src.now) (g.K.Sink.got c.args.out.now) c.dossiers.proved c.dossiers.reader (g.S.Source.left c.dossiers.src) (g.K.Sink.got c.dossiers.out) c.dossiers.checker i.so_far;
+      front = front_so_far c.args.job (g.S.Source.left c.args.src.now) (g.K.Sink.got c.args.out.now) c.dossiers.proved c.dossiers.reader (g.S.Source.left c.dossiers.src) (g.K.Sink.got c.dossiers.out) c.dossiers.checker i.so_far;
       ended = λ e. absurd e;
       reads = reads_then g.S.Source _ _ _ (λ fault. fault) i.reads c.in_ok-verdict.ensures.tells (λ _. ap Ok c.in-ReadFault.is) (λ _. refl);
       writes = writes_then g.K.Sink _ _ _ (λ fault. fault) i.writes (writes_none g.K.Sink c.dossiers.out) (λ e. absurd (cc)) (λ fault. absurd fault);
@@ -118,7 +113,7 @@ returns-in_err-verdict g c =
     let is = c.from_residual.ensures.0 in
     record {
       says = IfOk-from_err r _ is;
-      front = front_so_far c.args.nodes (g.S.Source.left c.args.src.now) (g.K.Sink.got c.args.out.now) c.dossiers.proved c.dossiers.reader (g.S.Source.left c.dossiers.src) (g.K.Sink.got c.dossiers.out) c.dossiers.checker i.so_far;
+      front = front_so_far c.args.job (g.S.Source.left c.args.src.now) (g.K.Sink.got c.args.out.now) c.dossiers.proved c.dossiers.reader (g.S.Source.left c.dossiers.src) (g.K.Sink.got c.dossiers.out) c.dossiers.checker i.so_far;
       ended = IfOk-from_err r _ is;
       reads = reads_then g.S.Source _ _ _ (λ fault. fault) i.reads c.in_err-verdict.ensures.tells (λ e. absurd (err_is_not_ok r _ is e)) (λ e. absurd (cc));
       writes = writes_then g.K.Sink _ _ _ (λ fault. fault) i.writes (writes_none g.K.Sink c.dossiers.out) (λ e. absurd (err_is_not_ok r _ is e)) (λ fault. absurd fault);
@@ -128,7 +123,7 @@ pub returns-in-Err : goal.returns-in-Err
 returns-in-Err g c =
     let i = c.dossiers.invariant in
     let front =
-    front_no c.args.nodes (g.S.Source.left c.args.src.now) (g.K.Sink.got c.args.out.now) c.dossiers.proved c.dossiers.reader (g.S.Source.left c.dossiers.src) (g.K.Sink.got c.dossiers.out) c.dossiers.checker i.so_far
+    front_no c.args.job (g.S.Source.left c.args.src.now) (g.K.Sink.got c.args.out.now) c.dossiers.proved c.dossiers.reader (g.S.Source.left c.dossiers.src) (g.K.Sink.got c.dossiers.out) c.dossiers.checker i.so_far
     (g.K.Sink.got c.put_no.new.out) c.in-No.line c.in-No.reason
     (λ front input done b. subst (IsOutcome front input done c.next_kept.new.reader (g.S.Source.left c.next_kept.new.src) c.next_kept.new.checker) c.in-No.is (c.in_ok-verdict.ensures.outcome front input done b))
     c.in-Err.ensures.part in
@@ -145,12 +140,12 @@ returns-in-No g c =
     let i = c.dossiers.invariant in
     record {
       says =
-          says_no c.args.nodes (g.S.Source.left c.args.src.now) (g.K.Sink.got c.args.out.now) c.dossiers.proved c.dossiers.reader (g.S.Source.left c.dossiers.src) (g.K.Sink.got c.dossiers.out) c.dossiers.checker i.so_far
+          says_no c.args.job (g.S.Source.left c.args.src.now) (g.K.Sink.got c.args.out.now) c.dossiers.proved c.dossiers.reader (g.S.Source.left c.dossiers.src) (g.K.Sink.got c.dossiers.out) c.dossiers.checker i.so_far
           (g.K.Sink.got c.put_no.new.out) c.in-No.line c.in-No.reason c.refused_is_not_accepted.ensures
           (λ front input done b. subst (IsOutcome front input done c.next_kept.new.reader (g.S.Source.left c.next_kept.new.src) c.next_kept.new.checker) c.in-No.is (c.in_ok-verdict.ensures.outcome front input done b))
           c.in_default.ensures.all;
       front =
-          whole_no c.args.nodes (g.S.Source.left c.args.src.now) (g.K.Sink.got c.args.out.now) c.dossiers.proved c.dossiers.reader (g.S.Source.left c.dossiers.src) (g.K.Sink.got c.dossiers.out) c.dossiers.checker i.so_far
+          whole_no c.args.job (g.S.Source.left c.args.src.now) (g.K.Sink.got c.args.out.now) c.dossiers.proved c.dossiers.reader (g.S.Source.left c.dossiers.src) (g.K.Sink.got c.dossiers.out) c.dossiers.checker i.so_far
           (g.K.Sink.got c.put_no.new.out) c.in-No.line c.in-No.reason
           (λ front input done b. subst (IsOutcome front input done c.next_kept.new.reader (g.S.Source.left c.next_kept.new.src) c.next_kept.new.checker) c.in-No.is (c.in_ok-verdict.ensures.outcome front input done b))
           c.in_default.ensures.all;

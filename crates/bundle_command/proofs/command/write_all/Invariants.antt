@@ -8,7 +8,7 @@ use Rattle.bundle_command.proofs.command.write_all.Given as goal
 abbrev pub invariant-dossiers : goal.invariant-dossiers
 invariant-dossiers g l = record {
   going : CanGoOn l.reader l.checker;
-  so_far : HasSaidOf l.nodes (g.S.Source.left l.fn.src) (g.K.Sink.got l.fn.out) l.proved l.reader (g.S.Source.left l.src) (g.K.Sink.got l.out) l.checker;
+  so_far : HasSaidOf l.job (g.S.Source.left l.fn.src) (g.K.Sink.got l.fn.out) l.proved l.reader (g.S.Source.left l.src) (g.K.Sink.got l.out) l.checker;
   reads : TellsReads g.S.Source l.fn.src l.src ⊥;
   writes : TellsWrites g.K.Sink l.fn.out l.out ⊥;
 }

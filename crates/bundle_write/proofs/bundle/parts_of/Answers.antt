@@ -1,4 +1,4 @@
-use Rattle.std.proofs.Common.{◌≡◌, ◌≤◌, ℕ, List, Vec, Global, length, arith}
+use Rattle.std.proofs.Common.{ℕ, Vec, Global, arith}
 use Rattle.std.proofs.lemmas.List.{length-map}
 use Rattle.crew_instance.specs.Draft.{rows_of}
 use Rattle.bundle_write.proofs.Division.{divided_apart}

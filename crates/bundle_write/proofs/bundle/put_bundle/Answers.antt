@@ -1,36 +1,36 @@
-use Rattle.std.proofs.Common.{◌≡◌, ◌≤◌, ℕ, List, Vec, Global, length, Result, Ok, Err, ap, subst, sym, ◌∙◌, arith, max}
-use Rattle.std.proofs.lemmas.List.{length-map}
+use Rattle.std.proofs.Common.{Err, ap, subst}
 use Rattle.crew_instance.specs.Draft.{rows_of}
-use Rattle.cert_write.specs.declared.faults.PutFault.{PutFault}
-use Rattle.cert_write.specs.declared.faults.PutFault.TheVariants.{WriteFault}
-use Rattle.bundle_write.specs.Bundles.{AreApart}
-use Rattle.bundle_write.specs.Parts.{ArePartsPut}
-use Rattle.bundle_write.proofs.Begun.{bundle_put, head_begun, none_begun, of_error, of_fault, stops_amid}
+use Rattle.bundle_join.specs.Joined.{IsJoinedPut}
+use Rattle.bundle_write.proofs.Made.{are_texts, bundle_of}
 use Rattle.bundle_write.proofs.bundle.put_bundle.Goals as goal
 
-pub returns-in_err-lists-clause-put : goal.returns-in_err-lists-clause-put
-returns-in_err-lists-clause-put g c d good i t b =
-    of_error d c.args.nodes c.from_residual.result (g.K.Sink.got c.args.sink.now) (g.K.Sink.got c.args.sink.now) c.from_residual.ensures.0 (none_begun d c.args.nodes (g.K.Sink.got c.args.sink.now))
+pub returns-in-Ok-clause-put : goal.returns-in-Ok-clause-put
+returns-in-Ok-clause-put g c = λ d day.
+    let i = c.args.day.now.instance.now in
+    let p = c.in_ok-texts.ensures in
+    let are = are_texts i c.args.nodes _ _ (rows_of c.deref-2.result.now) p.0 p.1 p.2 (ap rows_of c.deref-2.ensures.value) in
+    let w = c.in-Ok.ensures.put d p.0 day are in
+    (w.0, bundle_of d c.args.nodes i _ p.0 w.0 day.instance p.1 w.1, w.2, w.3)
 
-pub returns-in-Err-clause-put : goal.returns-in-Err-clause-put
-returns-in-Err-clause-put g c d good i t b =
-    let n : c.len.result ≡ length (rows_of c.in_ok-lists.lists.items) = (let e = c.len.ensures in let f = length-map c.in_ok-lists.lists.items (λ (r : Vec ℕ Global). r.items) in omega (arith, e, f)) in
-    head_begun d c.args.nodes (rows_of c.in_ok-lists.lists.items) c.len.result c.args.text.now (g.K.Sink.got c.args.sink.now) (g.K.Sink.got c.put_head.new.sink) n t c.in-Err.ensures.part WriteFault
+pub returns-in-Err-WriteFault-clause-put : goal.returns-in-Err-WriteFault-clause-put
+returns-in-Err-WriteFault-clause-put g c = λ d day.
+    let i = c.args.day.now.instance.now in
+    let p = c.in_ok-texts.ensures in
+    let are = are_texts i c.args.nodes _ _ (rows_of c.deref-2.result.now) p.0 p.1 p.2 (ap rows_of c.deref-2.ensures.value) in
+    let w =
+    subst (λ f. IsJoinedPut d p.0 (Err f) (g.K.Sink.got c.args.sink.now) (g.K.Sink.got c.put_joined.new.sink)) c.in-Err-WriteFault.field-0-is (c.in-Err-WriteFault.ensures.put d p.0 day are) in
+    (w.0, bundle_of d c.args.nodes i _ p.0 w.0 day.instance p.1 w.1, w.2)
 
-pub returns-in_err-sum-clause-put : goal.returns-in_err-sum-clause-put
-returns-in_err-sum-clause-put g c d good i t b =
-    let n : c.len.result ≡ length (rows_of c.in_ok-lists.lists.items) = (let e = c.len.ensures in let f = length-map c.in_ok-lists.lists.items (λ (r : Vec ℕ Global). r.items) in omega (arith, e, f)) in
-    of_fault d c.args.nodes c.in_err-sum.field-0.0 c.from_residual-in_err-sum.result (g.K.Sink.got c.args.sink.now) (g.K.Sink.got c.put_parts.new.sink) c.from_residual-in_err-sum.ensures.1
-    (stops_amid d c.args.nodes (rows_of c.in_ok-lists.lists.items) c.len.result c.args.text.now (g.K.Sink.got c.args.sink.now) (g.K.Sink.got c.put_head.new.sink) (g.K.Sink.got c.put_parts.new.sink) n t
-    c.in_default.ensures.all c.in_err-sum.field-0.0
-    (subst (λ x. ArePartsPut x c.args.nodes (rows_of c.in_ok-lists.lists.items) (Err c.in_err-sum.field-0.0) (g.K.Sink.got c.put_head.new.sink) (g.K.Sink.got c.put_parts.new.sink)) i
-    (subst (λ rows. ArePartsPut c.args.instance.now c.args.nodes (rows_of rows) (Err c.in_err-sum.field-0.0) (g.K.Sink.got c.put_head.new.sink) (g.K.Sink.got c.put_parts.new.sink)) c.deref.ensures.value c.in_err-sum.ensures.put)))
+pub returns-in-Err-OutOfMemory-clause-put : goal.returns-in-Err-OutOfMemory-clause-put
+returns-in-Err-OutOfMemory-clause-put g c = λ d day.
+    let i = c.args.day.now.instance.now in
+    let p = c.in_ok-texts.ensures in
+    let are = are_texts i c.args.nodes _ _ (rows_of c.deref-2.result.now) p.0 p.1 p.2 (ap rows_of c.deref-2.ensures.value) in
+    subst (λ f. IsJoinedPut d p.0 (Err f) (g.K.Sink.got c.args.sink.now) (g.K.Sink.got c.put_joined.new.sink)) c.in-Err-OutOfMemory.field-0-is (c.in-Err-OutOfMemory.ensures.put d p.0 day are)
 
 pub returns-clause-put : goal.returns-clause-put
-returns-clause-put g c d good i t b =
-    let n : c.len.result ≡ length (rows_of c.in_ok-lists.lists.items) = (let e = c.len.ensures in let f = length-map c.in_ok-lists.lists.items (λ (r : Vec ℕ Global). r.items) in omega (arith, e, f)) in
-    bundle_put d c.args.nodes (rows_of c.in_ok-lists.lists.items) c.len.result c.args.text.now (g.K.Sink.got c.args.sink.now) (g.K.Sink.got c.put_head.new.sink) (g.K.Sink.got c.put_parts.new.sink) n t
-    c.in_default.ensures.all c.in_ok-sum.sum c.max.result good (subst (λ x. AreApart x (rows_of c.in_ok-lists.lists.items)) i c.in_ok-lists.ensures)
-    (subst (λ x. ArePartsPut x c.args.nodes (rows_of c.in_ok-lists.lists.items) (Ok c.in_ok-sum.sum) (g.K.Sink.got c.put_head.new.sink) (g.K.Sink.got c.put_parts.new.sink)) i
-    (subst (λ rows. ArePartsPut c.args.instance.now c.args.nodes (rows_of rows) (Ok c.in_ok-sum.sum) (g.K.Sink.got c.put_head.new.sink) (g.K.Sink.got c.put_parts.new.sink)) c.deref.ensures.value c.in_ok-sum.ensures.put))
-    (c.max.ensures ∙ ap (λ x. max x c.in_ok-sum.sum) b)
+returns-clause-put g c = λ d day.
+    let i = c.args.day.now.instance.now in
+    let p = c.in_ok-texts.ensures in
+    let are = are_texts i c.args.nodes _ _ (rows_of c.deref-2.result.now) p.0 p.1 p.2 (ap rows_of c.deref-2.ensures.value) in
+    (subst (λ f. IsJoinedPut d p.0 (Err f) (g.K.Sink.got c.args.sink.now) (g.K.Sink.got c.put_joined.new.sink)) c.in-Err-NoPart.field-0-is (c.in-Err-NoPart.ensures.put d p.0 day are)).1

@@ -3,7 +3,7 @@ use Rattle.std.specs.Prelude.{ℤ, pos, ◌*ℤ◌, ◌≤ℤ◌}
 use Rattle.std.specs.Int.{w64}
 use Rattle.std.proofs.lemmas.Int.{ints}
 use Rattle.crew_num.specs.declared.mixed.TheConstants.{MOST_FACTOR, MOST_WHOLE}
-use Rattle.ring_laws.specs.Ring.{not_negative, sum_times}
+use Rattle.crew_num.specs.Ring.{not_negative, sum_times}
 use Rattle.crew_num.proofs.Parts.{carried}
 use Rattle.crew_num.proofs.Products.{product_at_most}
 use Rattle.crew_num.proofs.mixed.mixed_times.Goals as goal

@@ -3,7 +3,7 @@ use Rattle.std.specs.Prelude.{ℤ, pos, ◌+ℤ◌, ◌-ℤ◌, ◌*ℤ◌, Fits
 use Rattle.std.specs.Int.{w128}
 use Rattle.std.specs.Option.{SomeIff}
 use Rattle.std.proofs.lemmas.Int.{ints}
-use Rattle.ring_laws.specs.Ring.{sum_times}
+use Rattle.crew_num.specs.Ring.{sum_times}
 use Rattle.crew_num.proofs.ratios.scaled_sum.Goals as goal
 
 -- the next product, and what is taken from it

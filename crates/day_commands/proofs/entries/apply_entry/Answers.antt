@@ -30,6 +30,7 @@ returns-in_default-entry g c =
               (ap (λ (x : DayState). x.plans) c.in_default.ensures.ok ∙ plans_kept c.args.desk.now c.args.entry.now none_begins ∙ c.requires.unknown),
           ((refl, sym (ap rounds_text none_begins)), refl),
           appended_none got,
+          tt,
         ),
       );
       nothing = tt;

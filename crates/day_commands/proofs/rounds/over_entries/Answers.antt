@@ -6,7 +6,7 @@ use Rattle.crew_io.specs.Chains.{writes_none, writes_then}
 use Rattle.crew_io.specs.Puts.{TellsWrites}
 use Rattle.crew_io.specs.Results.{err_is_not_ok, on_err}
 use Rattle.day_commands.specs.Taken.{IsTakenSo, IsDay, Wrote, output_of, planning_of}
-use Rattle.day_commands.proofs.Said.{PlansToCome, at_refused, at_front, at_memory, at_taken, at_end, at_stop, nothing_yet, refused_is_no_want, refused_of_text, whole_of_text, whole_is_no_fault, refused_entry_is_no_fault, same_ok, whole_no_fault}
+use Rattle.day_commands.proofs.Said.{at_refused, at_front, at_memory, at_taken, at_end, at_stop, nothing_yet, refused_is_no_want, refused_of_text, whole_of_text, whole_is_no_fault, refused_entry_is_no_fault, same_ok, whole_no_fault}
 use Rattle.day_commands.proofs.rounds.over_entries.Goals as goal
 
 pub loop-n-init : goal.loop-n-init
@@ -22,7 +22,7 @@ returns-in_err-proved-clause-memory g c = λ text whole.
     let i = c.loop-n.invariant in
     on_err c.from_residual.result _
     (at_memory (output_of c.args.taker.now) text c.as_slice-entries.result.now c.loop-n.n c.args.day.now.stop c.loop-n.all_proved (planning_of c.loop-n.taker) (g.K.Sink.got c.args.out.now) (g.K.Sink.got c.loop-n.out)
-    (g.K.Sink.got c.take.new.out) day i.so_far c.in_err-proved.ensures.nothing)
+    c.plans_to_come.ensures (g.K.Sink.got c.take.new.out) day i.so_far c.in_err-proved.ensures.nothing)
 
 pub take-requires-clause-open_yet : goal.take-requires-clause-open_yet
 take-requires-clause-open_yet g c = c.loop-n.invariant.so_far.open_yet
@@ -45,7 +45,7 @@ returns-in-Refused-clause-says g c = λ text whole.
     let held = g.K.Sink.got c.take.new.out in
     let comes = subst (λ o. IsTakenSo o s c.index-entries-n.result c.in_ok-proved.field-0 new mid held) i.output c.in_ok-proved.ensures.taken in
     at_refused (output_of c.args.taker.now) text c.as_slice-entries.result.now c.loop-n.n c.args.day.now.stop c.loop-n.all_proved s (g.K.Sink.got c.args.out.now) mid
-    c.index-entries-n.result new c.in_ok-proved.field-0 c.in-Refused.fault held (g.K.Sink.got c.refuse.new.out) c.refuse.result day below i.so_far
+    c.plans_to_come.ensures c.index-entries-n.result new c.in_ok-proved.field-0 c.in-Refused.fault held (g.K.Sink.got c.refuse.new.out) c.refuse.result day below i.so_far
     (subst (λ e. IsTakenSo (output_of c.args.taker.now) s e c.in_ok-proved.field-0 new mid held) c.index-entries-n.is comes) c.in-Refused.is c.refuse.ensures.refused c.refuse.ensures.part c.refuse.ensures.others
 
 pub returns-in-Refused-clause-others : goal.returns-in-Refused-clause-others
@@ -61,16 +61,8 @@ returns-in-WriteFault-clause-says g c = λ text whole.
     let mid = g.K.Sink.got c.loop-n.out in
     let later = g.K.Sink.got c.take.new.out in
     let comes = subst (λ o. IsTakenSo o s c.index-entries-n.result c.in_ok-proved.field-0 new mid later) i.output c.in_ok-proved.ensures.taken in
-    let laws : PlansToCome = record {
-      state = c.state_goes_on.ensures.later;
-      rounds = c.state_goes_on.ensures.rounds;
-      taken = c.state_goes_on.ensures.taken;
-      count = c.rounds_are_of_plans.ensures.count;
-      refusal = c.plans_to_come_decide_nothing.ensures.refusal;
-      round = c.plans_to_come_decide_nothing.ensures.round;
-    } in
     at_front (output_of c.args.taker.now) text c.as_slice-entries.result.now c.loop-n.n c.args.day.now.stop c.loop-n.all_proved s (g.K.Sink.got c.args.out.now) mid
-    laws c.index-entries-n.result new c.in_ok-proved.field-0 later day below i.so_far
+    c.plans_to_come.ensures c.index-entries-n.result new c.in_ok-proved.field-0 later day below i.so_far
     (subst (λ e. IsTakenSo (output_of c.args.taker.now) s e c.in_ok-proved.field-0 new mid later) c.index-entries-n.is comes) c.in-WriteFault.is
 
 pub loop-n-preserved : goal.loop-n-preserved
@@ -82,18 +74,10 @@ loop-n-preserved g c =
     let mid = g.K.Sink.got c.loop-n.out in
     let later = g.K.Sink.got c.take.new.out in
     let comes = subst (λ o. IsTakenSo o s c.index-entries-n.result c.in_ok-proved.field-0 new mid later) i.output c.in_ok-proved.ensures.taken in
-    let laws : PlansToCome = record {
-      state = c.state_goes_on.ensures.later;
-      rounds = c.state_goes_on.ensures.rounds;
-      taken = c.state_goes_on.ensures.taken;
-      count = c.rounds_are_of_plans.ensures.count;
-      refusal = c.plans_to_come_decide_nothing.ensures.refusal;
-      round = c.plans_to_come_decide_nothing.ensures.round;
-    } in
     record {
       output = c.in_ok-proved.ensures.output ∙ i.output;
       so_far = at_taken (output_of c.args.taker.now) [] c.as_slice-entries.result.now c.loop-n.n c.args.day.now.stop c.loop-n.all_proved s (g.K.Sink.got c.args.out.now) mid
-          laws c.index-entries-n.result new c.in_ok-proved.field-0 c.in-Whole.proved later below i.so_far
+          c.plans_to_come.ensures c.index-entries-n.result new c.in_ok-proved.field-0 c.in-Whole.proved later below i.so_far
           (subst (λ e. IsTakenSo (output_of c.args.taker.now) s e c.in_ok-proved.field-0 new mid later) c.index-entries-n.is comes) c.in-Whole.is;
       tells = writes_then g.K.Sink _ _ _ (λ fault. fault) i.tells c.in_ok-proved.ensures.tells (λ fault. absurd fault)
           (λ e. whole_is_no_fault c.in_ok-proved.field-0 c.in-Whole.proved c.in-Whole.is e);
@@ -104,7 +88,7 @@ returns-in_default-clause-says g c = λ text whole.
     let day = subst (λ es. IsDay text es c.args.day.now.stop) (sym c.as_slice-entries.ensures) whole in
     subst (λ a. Wrote (g.K.Sink.got c.args.out.now) (g.K.Sink.got c.loop-n.out) (SaysAt (output_of c.args.taker.now) a None text)) (sym c.whole.ensures)
     (at_end (output_of c.args.taker.now) text c.as_slice-entries.result.now c.loop-n.n c.args.day.now.stop c.loop-n.all_proved (planning_of c.loop-n.taker) (g.K.Sink.got c.args.out.now) (g.K.Sink.got c.loop-n.out)
-    day (let t = c.loop-n-test.false in omega arith) c.loop-n.invariant.so_far c.in_default.is)
+    c.plans_to_come.ensures day (let t = c.loop-n-test.false in omega arith) c.loop-n.invariant.so_far c.in_default.is)
 
 pub returns-in_default-clause-others : goal.returns-in_default-clause-others
 returns-in_default-clause-others g c =
@@ -131,7 +115,7 @@ pub returns-clause-says : goal.returns-clause-says
 returns-clause-says g c = λ text whole.
     let day = subst (λ es. IsDay text es c.args.day.now.stop) (sym c.as_slice-entries.ensures) whole in
     at_stop (output_of c.args.taker.now) text c.as_slice-entries.result.now c.loop-n.n c.args.day.now.stop c.loop-n.all_proved (planning_of c.loop-n.taker) (g.K.Sink.got c.args.out.now) (g.K.Sink.got c.loop-n.out)
-    c.in-Some.stop (g.K.Sink.got c.refuse-2.new.out) c.refuse-2.result day (let t = c.loop-n-test.false in omega arith) c.loop-n.invariant.so_far c.in-Some.is
+    c.plans_to_come.ensures c.in-Some.stop (g.K.Sink.got c.refuse-2.new.out) c.refuse-2.result day (let t = c.loop-n-test.false in omega arith) c.loop-n.invariant.so_far c.in-Some.is
     c.refuse-2.ensures.refused c.refuse-2.ensures.part c.refuse-2.ensures.others
 
 pub returns-clause-others : goal.returns-clause-others

@@ -8,7 +8,7 @@ use Rattle.frac_master.specs.Shares.{parts_at}
 use Rattle.master_run.specs.Legal.{legal_are}
 use Rattle.master_run.specs.Shares.{fractional_of}
 use Rattle.master_run.specs.State.{routes_of}
-use Rattle.rounding_laws.specs.declared.TheConstants.{MOST_LOSS}
+use Rattle.master_laws.specs.declared.losses.TheConstants.{MOST_LOSS}
 use Rattle.search_terms.specs.Earned.{AreWorths as EarnedWorths, BeatsRoutes}
 use Rattle.share_terms.specs.Shares.{IsLoose, choice_value}
 use Rattle.node_solver.specs.Loose.{AreHeld, IsShownLoose}

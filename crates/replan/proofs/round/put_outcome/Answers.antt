@@ -1,5 +1,4 @@
 use Rattle.std.proofs.Common.{◌≡◌, Ok, Err, length, map, ap, subst, sym, arith}
-use Rattle.std.specs.Prelude.{IfOk}
 use Rattle.std.proofs.lemmas.List.{length-map}
 use Rattle.cert_write.specs.Causes.{cause_of}
 use Rattle.cert_write.specs.Dossiers.{IsDossierOf, WritesDossier}
@@ -9,7 +8,7 @@ use Rattle.replan.specs.Counts.{counts_of}
 use Rattle.replan.specs.Given.{parts_of}
 use Rattle.written_laws.specs.Told.{AreTold}
 use Rattle.replan.specs.Planning.{IsRoundPut, fault_of_put}
-use Rattle.replan.specs.Staying.{IsPlanned}
+use Rattle.replan.proofs.Staying.{begun_loses}
 use Rattle.replan.proofs.Dossiers.{IsRoundOf, err_is, of_outcome, put_failed, put_whole, tells_failed, tells_whole}
 use Rattle.replan.proofs.round.put_outcome.Goals as goal
 
@@ -65,7 +64,7 @@ write_dossier-requires g c =
     (c.outcomes_are_rounds.ensures.writable parts o of)
 
 pub returns-in_err-write_dossier-clause-put : goal.returns-in_err-write_dossier-clause-put
-returns-in_err-write_dossier-clause-put g c handed kept =
+returns-in_err-write_dossier-clause-put g c handed last begin kept begins stays =
     let columns = g.C.Columns.columns c.args.columns.now in
     let i = c.args.instance.now in
     let o = c.args.outcome.now in
@@ -76,14 +75,15 @@ returns-in_err-write_dossier-clause-put g c handed kept =
     (omega (arith, count, short)) c.requires.pooled c.requires.solved (subst (λ xs. AreTold xs told) c.deref.ensures.value c.in_ok-causes.ensures) in
     let parts = parts_of i c.args.nodes c.args.kept columns o told in
     let rounds : (d : Dossier) → IsDossierOf parts d → IsRoundOf handed parts d = λ d is. c.outcomes_are_rounds.ensures.dossier handed parts o d of kept is in
+    let loses = begun_loses i last begin o.plan begins stays (c.outcomes_are_rounds.ensures.plan parts o of) in
     let fault = c.in_err-write_dossier.field-0.0 in
     let w = subst (λ xs. WritesDossier g.K.Sink (parts_of i c.args.nodes c.args.kept columns o (map cause_of xs)) c.args.sink.now c.write_dossier.new.sink (Err fault)) c.deref-3.ensures.value c.in_err-write_dossier.ensures in
     let e = c.from_residual-in_err-write_dossier.ensures in
-    subst (λ r. IsRoundPut handed (record { instance = i; nodes = c.args.nodes }) r (g.K.Sink.got c.args.sink.now) (g.K.Sink.got c.write_dossier.new.sink)) (sym (err_is c.from_residual-in_err-write_dossier.result (fault_of_put fault) e.0 e.1))
-    (put_failed g.K.Sink handed parts c.args.sink.now c.write_dossier.new.sink fault rounds w)
+    subst (λ r. IsRoundPut handed last (record { instance = i; nodes = c.args.nodes }) r (g.K.Sink.got c.args.sink.now) (g.K.Sink.got c.write_dossier.new.sink)) (sym (err_is c.from_residual-in_err-write_dossier.result (fault_of_put fault) e.0 e.1))
+    (put_failed g.K.Sink handed last parts c.args.sink.now c.write_dossier.new.sink fault rounds loses w)
 
 pub returns-clause-put : goal.returns-clause-put
-returns-clause-put g c handed kept =
+returns-clause-put g c handed last begin kept begins stays =
     let columns = g.C.Columns.columns c.args.columns.now in
     let i = c.args.instance.now in
     let o = c.args.outcome.now in
@@ -96,7 +96,9 @@ returns-clause-put g c handed kept =
     let rounds : (d : Dossier) → IsDossierOf parts d → IsRoundOf handed parts d = λ d is. c.outcomes_are_rounds.ensures.dossier handed parts o d of kept is in
     let counts : (d : Dossier) → IsDossierOf parts d → c.counts_of-counts.result ≡ counts_of d = λ d is. c.outcomes_are_rounds.ensures.counts parts o d c.counts_of-counts.result of is (c.counts_of-counts.ensures parts (ap (map cause_of) (sym c.deref-2.ensures.value))) in
     let w = subst (λ xs. WritesDossier g.K.Sink (parts_of i c.args.nodes c.args.kept columns o (map cause_of xs)) c.args.sink.now c.write_dossier.new.sink (Ok tt)) c.deref-3.ensures.value c.in_ok-write_dossier.ensures in
-    put_whole g.K.Sink handed parts c.args.sink.now c.write_dossier.new.sink (record { counts = c.counts_of-counts.result; carry = c.in_ok-carry.carry; jobs = c.in_ok-jobs.jobs }) rounds counts c.in_ok-carry.ensures c.in_ok-jobs.ensures w
+    let loses = begun_loses i last begin o.plan begins stays (c.outcomes_are_rounds.ensures.plan parts o of) in
+    put_whole g.K.Sink handed last parts c.args.sink.now c.write_dossier.new.sink (record { counts = c.counts_of-counts.result; carry = c.in_ok-carry.carry; jobs = c.in_ok-jobs.jobs }) rounds counts c.in_ok-carry.ensures c.in_ok-jobs.ensures
+    loses w
 
 pub returns-in_err-write_dossier-clause-tells : goal.returns-in_err-write_dossier-clause-tells
 returns-in_err-write_dossier-clause-tells g c =
@@ -120,27 +122,3 @@ returns-clause-tells g c =
     let parts = parts_of i c.args.nodes c.args.kept columns o told in
     let w = subst (λ xs. WritesDossier g.K.Sink (parts_of i c.args.nodes c.args.kept columns o (map cause_of xs)) c.args.sink.now c.write_dossier.new.sink (Ok tt)) c.deref-3.ensures.value c.in_ok-write_dossier.ensures in
     tells_whole g.K.Sink parts c.args.sink.now c.write_dossier.new.sink (record { counts = c.counts_of-counts.result; carry = c.in_ok-carry.carry; jobs = c.in_ok-jobs.jobs }) w
-
-pub returns-clause-planned : goal.returns-clause-planned
-returns-clause-planned g c =
-    let columns = g.C.Columns.columns c.args.columns.now in
-    let i = c.args.instance.now in
-    let o = c.args.outcome.now in
-    let told = map cause_of c.in_ok-causes.causes.items in
-    let count = c.len.ensures.count in
-    let short = c.if-len-gt-MOST_ROUTES.false in
-    let of = of_outcome i c.args.nodes c.args.kept columns o told c.teams.ensures.limits c.requires.few c.requires.kept c.len.ensures.are
-    (omega (arith, count, short)) c.requires.pooled c.requires.solved (subst (λ xs. AreTold xs told) c.deref.ensures.value c.in_ok-causes.ensures) in
-    let parts = parts_of i c.args.nodes c.args.kept columns o told in
-    record {
-      plan = c.outcomes_are_rounds.ensures.plan parts o of;
-      jobs = c.in_ok-jobs.ensures;
-      unassigned = (c.counts_of-counts.ensures parts (ap (map cause_of) (sym c.deref-2.ensures.value))).unassigned;
-    }
-
-pub returns-in_err-write_dossier-clause-planned : goal.returns-in_err-write_dossier-clause-planned
-returns-in_err-write_dossier-clause-planned g c =
-    let fault = c.in_err-write_dossier.field-0.0 in
-    let e = c.from_residual-in_err-write_dossier.ensures in
-    subst (λ r. IfOk r (IsPlanned c.args.instance.now c.args.outcome.now.plan))
-    (sym (err_is c.from_residual-in_err-write_dossier.result (fault_of_put fault) e.0 e.1)) tt

@@ -5,7 +5,6 @@ use Rattle.dossier_terms.specs.Dossier.{IsPooled}
 use Rattle.plan_again.specs.Stays.{StaysOrBetters}
 use Rattle.replan.specs.Kept.{handed_in}
 use Rattle.route_terms.specs.Kept.{AreKeptIn}
-use Rattle.replan.proofs.Staying.{round_stays}
 use Rattle.replan.proofs.Pools.{grown_front}
 use Rattle.replan.proofs.round.put_round.Goals as goal
 
@@ -21,12 +20,6 @@ returns-clause-put g c =
     let placed = c.place_kept.new.columns in
     let front = ap (λ k. take k c.solve.new.columns) c.in_ok-kept.ensures.count ∙ grown_front placed c.solve.new.columns c.solve.ensures.columns in
     let handed = handed_in c.args.carry.now in
-    c.put_outcome.ensures.put handed (subst (AreKeptIn (root_limits c.args.instance.now) handed) (sym front) c.in_ok-kept.ensures.kept)
-
-pub returns-clause-stays : goal.returns-clause-stays
-returns-clause-stays g c =
-    let i = c.args.instance.now in
     let o = c.in_ok-outcome.outcome in
-    let begin = c.in_ok-begin.begin in
-    round_stays i (option_copied c.args.last) begin o.plan c.put_outcome.result c.in_ok-begin.ensures.stays
-    (subst (λ b. StaysOrBetters b o.plan) c.as_ref.ensures.value c.in_ok-outcome.ensures.stays) c.put_outcome.ensures.planned
+    c.put_outcome.ensures.put handed (option_copied c.args.last) c.in_ok-begin.begin (subst (AreKeptIn (root_limits c.args.instance.now) handed) (sym front) c.in_ok-kept.ensures.kept)
+    c.in_ok-begin.ensures.stays (subst (λ b. StaysOrBetters b o.plan) c.as_ref.ensures.value c.in_ok-outcome.ensures.stays)

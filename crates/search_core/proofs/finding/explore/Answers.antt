@@ -3,15 +3,14 @@ use Rattle.crew_terms.specs.Instance.{Instance}
 use Rattle.crew_terms.specs.Limits.{Limits}
 use Rattle.crew_terms.specs.Plan.{unassigned_count}
 use Rattle.node_limits.specs.Trail.{Trail}
-use Rattle.node_walk.specs.Walks.{IsBack}
-use Rattle.search_tree.specs.Ways.{limits_after}
-use Rattle.search_tree.specs.declared.trees.Turn.{Turn}
+use Rattle.node_limits.specs.Walks.{IsBack, limits_after}
+use Rattle.node_limits.specs.declared.walks.Branch.{Branch}
 use Rattle.search_core.proofs.Exploring.{after_instance}
 use Rattle.search_core.proofs.NearPlans.{found_keepable}
 use Rattle.search_core.proofs.finding.explore.Goals as goal
 
 -- the node at the end of the walk is of the instance that the limits have behind it
-same_instance : (old new : Trail) (turns : List Turn) (i : Instance) → IsBack new old → i ≡ new.limits.instance → (limits_after old.limits turns).instance ≡ i
+same_instance : (old new : Trail) (turns : List Branch) (i : Instance) → IsBack new old → i ≡ new.limits.instance → (limits_after old.limits turns).instance ≡ i
 same_instance old new turns i back is = after_instance old.limits turns ∙ sym (ap (λ (n : Limits). n.instance) back.limits) ∙ sym is
 
 pub brought_near-requires : goal.brought_near-requires

@@ -9,18 +9,17 @@ use Rattle.crew_terms.specs.Plan.{unassigned_count}
 use Rattle.search_tree.specs.States.{DecidesProved}
 use Rattle.label_pricing.specs.Pricing.{HasRoom}
 use Rattle.node_limits.specs.Trail.{Trail}
-use Rattle.node_walk.specs.Walks.{walked}
+use Rattle.node_limits.specs.Walks.{walked, limits_after}
 use Rattle.potentials.specs.Prices.{ArePricesOf}
 use Rattle.search_core.specs.Findings.{IsFinding}
 use Rattle.search_terms.specs.Inside.{IsNode}
 use Rattle.search_terms.specs.Search.{Extends}
-use Rattle.search_tree.specs.Ways.{limits_after}
-use Rattle.search_tree.specs.declared.trees.Turn.{Turn}
+use Rattle.node_limits.specs.declared.walks.Branch.{Branch}
 use Rattle.search_core.proofs.Exploring.{after_instance, walked_limits, walked_past, walked_spare}
 use Rattle.search_core.proofs.finding.visit.Goals as goal
 
 -- where the walk comes to
-there : (old room now : Trail) (turns : List Turn) → room.limits ≡ old.limits → now ≡ walked room turns → now.limits ≡ limits_after old.limits turns
+there : (old room now : Trail) (turns : List Branch) → room.limits ≡ old.limits → now ≡ walked room turns → now.limits ≡ limits_after old.limits turns
 there old room now turns same is =
     ap (λ (t : Trail). t.limits) is ∙ walked_limits room turns ∙ ap (λ (n : Limits). limits_after n turns) same
 

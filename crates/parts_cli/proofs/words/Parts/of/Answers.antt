@@ -23,4 +23,4 @@ returns-then-eq c =
     let high = c.in-len2.len_below in
     let is = two c.args.words.now c.word-item.result c.nodes-item.result (omega arith) c.word-item.is c.nodes-item.is in
     let first = (bytes_eq-Decides c.as_str-2.result.now (codes "parts")).0 (sym c.eq.ensures ∙ c.if-eq.true) in
-    (c.in_ok-nodes.ensures.0, asked _ _ _ (record { nodes = c.in_ok-nodes.nodes }) is (sym c.as_str-2.ensures.value ∙ first) (sym c.as_str.ensures.value ∙ c.in_ok-nodes.ensures.1))
+    (c.in_ok-nodes.ensures.1, asked _ _ _ (record { nodes = c.in_ok-nodes.nodes }) is (sym c.as_str-2.ensures.value ∙ first) (sym c.as_str.ensures.value ∙ c.in_ok-nodes.ensures.2))

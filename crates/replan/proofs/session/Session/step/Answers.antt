@@ -2,17 +2,14 @@ use Rattle.std.proofs.Common.{◌≡◌, Ok, Err, ap, subst, sym, refl, ◌∙�
 use Rattle.crew_io.specs.Chains.{writes_none, writes_then}
 use Rattle.crew_terms.specs.Legal.{IsLegal}
 use Rattle.day_terms.specs.Instances.{day_instance}
-use Rattle.day_terms.specs.State.{DayState}
 use Rattle.day_terms.specs.Work.{jobs_by_names}
 use Rattle.replan.specs.Entries.{no_round}
 use Rattle.replan.specs.Planning.{IsEntered, Planning}
 use Rattle.replan.specs.declared.faults.SessionFault.TheVariants.{OutOfMemory}
 use Rattle.replan.specs.declared.session.Done.TheVariants.{Changed, Round as HasRound}
 use Rattle.replan.specs.Kept.{planning_of}
-use Rattle.replan.specs.Staying.{StaysFrom, last_plan_of}
-use Rattle.replan.proofs.Staying.{round_loses}
 use Rattle.replan.proofs.Dossiers.{err_is}
-use Rattle.replan.proofs.Steps.{refusal_entered, changed_entered, fault_entered, want_entered, round_entered, state_stays, with_day}
+use Rattle.replan.proofs.Steps.{refusal_entered, changed_entered, fault_entered, want_entered, round_entered, with_day}
 use Rattle.replan.proofs.session.Session.step.Goals as goal
 
 pub returns-in-Err-clause-entered : goal.returns-in-Err-clause-entered
@@ -37,7 +34,6 @@ returns-in_default-entry g c =
       entered = subst (λ x. IsEntered x e (Ok Changed) (with_day day s.handed (Ok Changed)) got got) c.self.view_is
           (changed_entered s e day got got yet c.in_default.ensures.taken (no_round s.day e c.in_default-entry.not-Plan) c.in_default.ensures.ok);
       tells = writes_then g.K.Sink _ _ _ (λ fault. fault) (writes_none g.K.Sink c.args.sink.now) (writes_none g.K.Sink c.args.sink.now) (λ e. absurd (cc)) (λ fault. absurd fault);
-      loses = tt;
     }
 
 pub returns-in_default-instance-clause-entered : goal.returns-in_default-instance-clause-entered
@@ -63,7 +59,7 @@ returns-in_err-planned-clause-entered g c =
     subst (λ x. IsEntered x e c.from_residual-in_err-planned.result (with_day day s.handed c.from_residual-in_err-planned.result) got later) c.self.view_is
     (subst (λ r. IsEntered s e r (with_day day s.handed r) got later) (sym told)
     (fault_entered s e day got later yet c.in-Plan.nodes c.in-Plan.is c.in_default.ensures.taken c.in_default.ensures.unknown c.in_default.ensures.ok
-    c.in-Ok.instance fault c.in-Ok.ensures.ok c.in_err-planned.ensures.put))
+    c.in-Ok.instance c.in_ok-last.last fault c.in-Ok.ensures.ok c.in_ok-last.ensures c.in_err-planned.ensures.put))
 
 pub planned-requires : goal.planned-requires
 planned-requires g c =
@@ -86,7 +82,7 @@ returns-clause-entered g c =
     let planned = c.in_ok-planned.planned in
     subst (λ x. IsEntered x e (Ok (HasRound planned.counts)) (with_day behind planned.carry (Ok (HasRound planned.counts))) got later) c.self.view_is
     (round_entered s e day got later yet c.in-Plan.nodes c.in-Plan.is c.in_default.ensures.taken c.in_default.ensures.unknown c.in_default.ensures.ok
-    c.in-Ok.instance planned behind c.in-Ok.ensures.ok c.planned.ensures c.in_ok-planned.ensures.put)
+    c.in-Ok.instance c.in_ok-last.last planned behind c.in-Ok.ensures.ok c.in_ok-last.ensures c.planned.ensures c.in_ok-planned.ensures.put)
 
 pub returns-clause-tells : goal.returns-clause-tells
 returns-clause-tells g c =
@@ -103,17 +99,3 @@ returns-in_err-last-clause-entered g c =
     subst (λ x. IsEntered x e c.from_residual.result (with_day day s.handed c.from_residual.result) got got) c.self.view_is
     (subst (λ r. IsEntered s e r (with_day day s.handed r) got got) (sym told)
     (want_entered s e day got got yet c.in-Plan.nodes c.in-Plan.is c.in_default.ensures.taken c.in_default.ensures.unknown c.in_default.ensures.ok))
-
-pub returns-clause-loses : goal.returns-clause-loses
-returns-clause-loses g c =
-    let s : Planning = planning_of c.self.inside in
-    let yet = ap (λ (x : Planning). x.failed) c.self.view_is ∙ c.requires.open_yet in
-    let e = c.args.entry.now in
-    let day = c.apply.new.self in
-    let behind = c.planned.new.self in
-    let got = g.K.Sink.got c.args.sink.now in
-    let planned = c.in_ok-planned.planned in
-    let stays = state_stays s e day got got yet c.in-Plan.nodes c.in-Plan.is c.in_default.ensures.taken c.in_default.ensures.unknown c.in_default.ensures.ok in
-    subst (λ (x : Planning). IsLegal (day_instance x.day) (last_plan_of x.day) → StaysFrom x.day planned.counts behind) c.self.view_is
-    (subst (λ (x : DayState). IsLegal (day_instance x) (last_plan_of x) → StaysFrom x planned.counts behind) stays
-    (round_loses day behind c.in-Ok.instance c.in_ok-last.last planned c.in-Ok.ensures.ok c.planned.ensures c.in_ok-last.ensures c.in_ok-planned.ensures.stays))

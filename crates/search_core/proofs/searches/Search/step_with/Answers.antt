@@ -27,7 +27,7 @@ use Rattle.search_terms.specs.Inside.{IsNode}
 use Rattle.search_terms.specs.Search.{Extends}
 use Rattle.search_terms.specs.Ways.{limits_at}
 use Rattle.search_tree.specs.Numbered.{tree_of}
-use Rattle.search_tree.specs.Ways.{limits_after}
+use Rattle.node_limits.specs.Walks.{limits_after}
 use Rattle.search_core.proofs.Keeping.{kept_with, same_search, search_of}
 use Rattle.search_core.proofs.Sites.{IsSite, own_known, site, site_limits, site_turns}
 use Rattle.search_core.proofs.StepLemmas.{way_is}

@@ -1,0 +1,5 @@
+mod Bytes
+mod Judging
+mod OnePlan
+mod Parts
+mod Joining

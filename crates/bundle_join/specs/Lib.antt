@@ -1,0 +1,4 @@
+pub mod Texts
+pub mod Tallies
+pub mod Firsts
+pub mod Joined

@@ -1,4 +1,0 @@
-mod Gaps
-mod Duality
-mod LooseBound
-mod Shown

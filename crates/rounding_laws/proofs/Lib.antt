@@ -1,3 +1,0 @@
-pub mod Rounding
-pub mod Losing
-pub mod Loose

@@ -1,5 +1,0 @@
-mod FirstOf
-mod GoodJobs
-mod Clashes
-mod CalmTeams
-mod FirstFaults
