@@ -1,12 +1,12 @@
 -- the pieces that are written for the dossiers of an input, one after another
-use Rattle.std.proofs.Common.{◌≡◌, ◌++◌, ℕ, List, [], ◌∷◌, Bool, true, false, length, take, Option, None, Some, Result, Ok, Err, ap, get_or, subst, sym, refl, ◌∙◌, arith, append-nil, append_assoc}
+use Rattle.std.proofs.Common.{◌≡◌, ◌++◌, ℕ, List, [], ◌∷◌, Bool, true, false, take, Option, None, Some, Result, Ok, Err, ap, get_or, subst, sym, refl, ◌∙◌, arith, append-nil, append_assoc}
 use Rattle.std.specs.Prelude.{IfSome, IsTrue, All, ◌↔◌}
 use Rattle.std.specs.List.{flat_map}
 use Rattle.std.proofs.lemmas.List.{append_cancel_left, append_cancel_right}
 use Rattle.std.proofs.lemmas.List.Concat.{flat_map-append}
 use Rattle.std.proofs.lemmas.List.Elements.{All-nil, All-push, All-contains, All-contains_itself, Contains-append_left, Contains-append_right}
-use Rattle.std.proofs.Math.Seq.{take-length}
 use Rattle.crew_terms.specs.declared.TheConstants.{LONGEST_INPUT}
+use Rattle.crew_io.specs.Fronts.{all_is_part}
 use Rattle.crew_io.specs.Io.{Appended, AppendedPart}
 use Rattle.crew_io.specs.Bytes.{OfBytes, piece_front}
 use Rattle.crew_io.specs.Lines.{Reader, fresh_reader, rest_of, with_left}
@@ -354,7 +354,3 @@ module _ (job : Job) (left0 got0 : Option (List ℕ)) (flag : Bool) (old : Reade
   pub whole_no : (added : Option (List ℕ)) (number : ℕ) (reason : Reason) → ((front : Front) (input : List ℕ) (done : List Dossier) → IsBetween front input done old left at → IsRefusal front input done number reason)
       → Appended got added (no_line number reason) → OfBytes left0 got0 added (SaysFront job)
   whole_no added number reason refused wrote = front_no added number reason refused (all_is_part got added (no_line number reason) wrote)
-    where
-      all_is_part : (old new : Option (List ℕ)) (piece : List ℕ) → Appended old new piece → AppendedPart old new piece
-      all_is_part None new piece a = a
-      all_is_part (Some bytes) new piece a = (length piece, omega arith, a ∙ ap (λ x. Some (bytes ++ x)) (sym (take-length piece)))

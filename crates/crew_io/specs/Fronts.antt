@@ -1,6 +1,7 @@
 -- fronts of what is written
 use Rattle.std.proofs.Common.{◌≡◌, ◌+◌, ◌++◌, ℕ, List, Option, None, Some, length, take, ap, sym, ◌∙◌, arith, subst, append_assoc, length-append}
 use Rattle.std.proofs.lemmas.List.{take-append-le}
+use Rattle.std.proofs.Math.Seq.{take-length}
 use Rattle.crew_io.specs.Io.{Appended, AppendedPart}
 use Rattle.crew_io.specs.Appends.{take_past}
 
@@ -11,6 +12,11 @@ pub record IsFront (xs whole : List ℕ) : Type 0 where
 
 pub front_within : (xs ys whole : List ℕ) → IsFront xs ys → IsFront ys whole → IsFront xs whole
 front_within xs ys whole a b = record { rest = a.rest ++ b.rest; is = b.is ∙ ap (λ zs. zs ++ b.rest) a.is ∙ append_assoc xs a.rest b.rest }
+
+-- what was written whole is a front of itself
+pub all_is_part : (old new : Option (List ℕ)) (text : List ℕ) → Appended old new text → AppendedPart old new text
+all_is_part None new text a = a
+all_is_part (Some bytes) new text a = (length text, omega arith, a ∙ ap (λ x. Some (bytes ++ x)) (sym (take-length text)))
 
 -- behind what was written whole a front was written: in all, a front of the whole
 pub part_after : (old mid new : Option (List ℕ)) (xs ys whole : List ℕ) → Appended old mid xs → AppendedPart mid new ys → IsFront (xs ++ ys) whole → AppendedPart old new whole

@@ -1,13 +1,13 @@
 -- what the command says of what it reads and writes
-use Rattle.std.proofs.Common.{◌≡◌, ◌≢◌, ◌++◌, inl, inr, ℕ, List, [], ◌∷◌, Option, None, Some, Result, Ok, Err, length, take, ap, subst, sym, refl, ◌∙◌, arith}
+use Rattle.std.proofs.Common.{◌≡◌, ◌≢◌, inl, inr, ℕ, List, [], ◌∷◌, Option, None, Some, Result, Ok, Err, take, ap, subst, sym, refl, ◌∙◌}
 use Rattle.std.specs.Prelude.{IfOk, OnErr, IsErr}
-use Rattle.std.proofs.Math.Seq.{take-length}
 use Rattle.crew_terms.specs.Instance.{Instance}
 use Rattle.crew_terms.specs.Plan.{Plan}
 use Rattle.crew_io.specs.Appends.{appended_none}
 use Rattle.crew_io.specs.Bytes.{OfBytes}
 use Rattle.crew_io.specs.Chains.{puts_tell, writes_none, writes_then}
 use Rattle.crew_io.specs.Draws.{TellsReads, reads_none, reads_then}
+use Rattle.crew_io.specs.Fronts.{all_is_part}
 use Rattle.crew_io.specs.Io.{Appended, AppendedPart, HasEnded}
 use Rattle.crew_io.specs.Puts.{Puts, TellsWrites}
 use Rattle.crew_io.specs.declared.sink.Sink.{Ghosts as SinkTells}
@@ -49,10 +49,6 @@ of_each : (left got later : Option (List ℕ)) (Holds : List ℕ → Type 0) (Fa
     → OfEach Holds got later Fact → OfBytes left got later Fact
 of_each None got later Holds Fact h o = tt
 of_each (Some input) got later Holds Fact h o = o input (h input refl)
-
-all_is_part : (old new : Option (List ℕ)) (text : List ℕ) → Appended old new text → AppendedPart old new text
-all_is_part None new text a = a
-all_is_part (Some bytes) new text a = (length text, omega arith, a ∙ ap (λ x. Some (bytes ++ x)) (sym (take-length text)))
 
 same_end : {F : Type 0} (a b : Ended) → ◌≡◌ {A = Result Ended F} (Ok a) (Ok b) → a ≡ b
 same_end a b e = cc

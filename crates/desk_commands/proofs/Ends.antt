@@ -1,5 +1,6 @@
 -- how a command of the desk ends, behind a last write
 use Rattle.std.proofs.Common.{ℕ, List, Option, Result, Ok, Err, refl, subst, sym}
+use Rattle.crew_io.specs.Fronts.{all_is_part}
 use Rattle.crew_io.specs.Io.{HasEnded}
 use Rattle.crew_io.specs.Puts.{Puts, TellsWrites}
 use Rattle.crew_io.specs.Draws.{TellsReads, reads_none, reads_then}
@@ -18,7 +19,7 @@ use Rattle.desk_commands.specs.declared.output.DeskOutput.{DeskOutput}
 use Rattle.desk_commands.specs.declared.read.Refusal.{Refusal}
 use Rattle.desk_commands.specs.declared.read.Ended.{Ended}
 use Rattle.desk_commands.specs.declared.read.Ended.TheVariants.{Done, No, WriteFault}
-use Rattle.desk_commands.proofs.Said.{HasSaidOf, all_is_part, front_end, says_done, says_no}
+use Rattle.desk_commands.proofs.Said.{HasSaidOf, front_end, says_done, says_no}
 
 module _ {S K : Type 0} (source : SourceTells S) (sink : SinkTells K) (output : DeskOutput) (src0 src later : S) (out0 out new : K) (old : Reader) (at : Checked) (rounds : ℕ) (before : Option RoundByNames)
     (so : HasSaidOf output (source.left src0) (sink.got out0) old (source.left src) (sink.got out) at rounds before)

@@ -3,7 +3,6 @@ use Rattle.std.proofs.Common.{◌≡◌, ◌≤◌, ◌+◌, ◌++◌, ℕ, List
 use Rattle.std.specs.Prelude.{All, IfSome}
 use Rattle.std.proofs.lemmas.List.{take-append-le}
 use Rattle.std.proofs.lemmas.List.Elements.{All-nil, All-push}
-use Rattle.std.proofs.Math.Seq.{take-length}
 use Rattle.crew_terms.specs.declared.TheConstants.{LONGEST_INPUT}
 use Rattle.crew_io.specs.Io.{Appended, AppendedPart}
 use Rattle.crew_io.specs.Bytes.{OfBytes, piece_front}
@@ -64,11 +63,6 @@ front_first xs zs = sym (append-nil xs) ∙ sym (take_past xs zs 0)
 
 front_last : (xs ys : List ℕ) (n : ℕ) → xs ++ take n ys ≡ take (length xs + n) (xs ++ ys)
 front_last xs ys n = sym (take_past xs ys n)
-
--- a piece that is written whole is a front of itself
-pub all_is_part : (old new : Option (List ℕ)) (piece : List ℕ) → Appended old new piece → AppendedPart old new piece
-all_is_part None new piece a = a
-all_is_part (Some bytes) new piece a = (length piece, omega arith, a ∙ ap (λ x. Some (bytes ++ x)) (sym (take-length piece)))
 
 -- ---- what was read and written
 

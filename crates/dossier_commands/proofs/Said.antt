@@ -1,11 +1,11 @@
 -- what is written for the dossiers of an input, one after another
-use Rattle.std.proofs.Common.{◌≡◌, ◌++◌, ℕ, List, [], ◌∷◌, length, take, Option, None, Some, Result, Ok, ap, subst, sym, refl, ◌∙◌, arith, append-nil}
+use Rattle.std.proofs.Common.{◌≡◌, ◌++◌, ℕ, List, [], ◌∷◌, take, Option, None, Some, Result, Ok, ap, subst, sym, refl, ◌∙◌, arith, append-nil}
 use Rattle.std.specs.Prelude.{All, IfSome}
 use Rattle.std.specs.List.{flat_map}
 use Rattle.std.proofs.lemmas.List.Concat.{flat_map-append}
 use Rattle.std.proofs.lemmas.List.Elements.{All-nil, All-push}
-use Rattle.std.proofs.Math.Seq.{take-length}
 use Rattle.crew_terms.specs.declared.TheConstants.{LONGEST_INPUT}
+use Rattle.crew_io.specs.Fronts.{all_is_part}
 use Rattle.crew_io.specs.Io.{Appended, AppendedPart}
 use Rattle.crew_io.specs.Bytes.{OfBytes, piece_front}
 use Rattle.crew_io.specs.Lines.{Reader, fresh_reader, rest_of}
@@ -245,7 +245,3 @@ module _ (text : Dossier → List ℕ) (left0 got0 : Option (List ℕ)) (old : R
   pub whole_no : (added : Option (List ℕ)) (number : ℕ) (reason : Reason) → ((front : Front) (input : List ℕ) (done : List Dossier) → IsBetween front input done old left at → IsRefusal front input done number reason)
       → Appended got added (no_line number reason) → OfBytes left0 got0 added (SaysFront text)
   whole_no added number reason refused wrote = front_no added number reason refused (all_is_part got added (no_line number reason) wrote)
-    where
-      all_is_part : (old new : Option (List ℕ)) (piece : List ℕ) → Appended old new piece → AppendedPart old new piece
-      all_is_part None new piece a = a
-      all_is_part (Some bytes) new piece a = (length piece, omega arith, a ∙ ap (λ x. Some (bytes ++ x)) (sym (take-length piece)))

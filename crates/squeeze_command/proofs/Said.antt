@@ -1,12 +1,12 @@
 -- the sheets that are written for the dossiers of an input, one after another
-use Rattle.std.proofs.Common.{◌≡◌, ◌++◌, ℕ, List, [], ◌∷◌, length, take, Option, None, Some, ap, subst, sym, refl, ◌∙◌, arith, append-nil}
+use Rattle.std.proofs.Common.{◌≡◌, ◌++◌, ℕ, List, [], ◌∷◌, take, Option, None, Some, ap, subst, sym, refl, ◌∙◌, arith, append-nil}
 use Rattle.std.specs.Prelude.{IfSome}
 use Rattle.std.specs.List.{flat_map}
 use Rattle.std.proofs.lemmas.List.Concat.{flat_map-append}
 use Rattle.std.proofs.lemmas.List.Elements.{All-nil}
-use Rattle.std.proofs.Math.Seq.{take-length}
 use Rattle.crew_terms.specs.Instance.{Instance}
 use Rattle.crew_terms.specs.declared.TheConstants.{LONGEST_INPUT}
+use Rattle.crew_io.specs.Fronts.{all_is_part}
 use Rattle.crew_io.specs.Io.{Appended, AppendedPart}
 use Rattle.crew_io.specs.Bytes.{OfBytes, piece_front}
 use Rattle.crew_io.specs.Lines.{Reader, fresh_reader, rest_of}
@@ -261,7 +261,3 @@ module _ (steps : ℕ) (left0 got0 : Option (List ℕ)) (old : Reader) (left got
   pub whole_no : (added : Option (List ℕ)) (number : ℕ) (reason : Reason) → ((front : Front) (input : List ℕ) (done : List Dossier) → IsBetween front input done old left at → IsRefusal front input done number reason)
       → Appended got added (no_line number reason) → OfBytes left0 got0 added (SaysFront steps)
   whole_no added number reason refused wrote = front_no added number reason refused (all_is_part got added (no_line number reason) wrote)
-    where
-      all_is_part : (old new : Option (List ℕ)) (piece : List ℕ) → Appended old new piece → AppendedPart old new piece
-      all_is_part None new piece a = a
-      all_is_part (Some bytes) new piece a = (length piece, omega arith, a ∙ ap (λ x. Some (bytes ++ x)) (sym (take-length piece)))
