@@ -6,7 +6,6 @@ use Rattle.std.specs.Box.{with_value}
 use Rattle.std.proofs.lemmas.Bool.{and_parts, and_from, eqb-true, eq-eqb, both_ways}
 use Rattle.crew_terms.specs.Words.{Words}
 use Rattle.crew_terms.specs.Limits.{root_limits}
-use Rattle.crew_terms.specs.Plan.{unassigned_count}
 use Rattle.dossier_terms.specs.declared.Reason.{Reason}
 use Rattle.dossier_terms.specs.declared.Reason.TheVariants as reasons
 use Rattle.dossier_terms.specs.Dossier.{Written, Leaf}
@@ -84,6 +83,7 @@ with_room tree reader loose sums fs node ready room = record {
   depth = node.depth;
   spare = node.spare;
   unshown = node.unshown;
+  unassigned = node.unassigned;
   reader = ready;
   sums = room;
 }
@@ -95,8 +95,8 @@ with_reader tree reader fs node ready = with_room tree reader tree.loose tree.su
 -- the goal is that of the place
 pub goal_at : (tree : TreeDraft) (t : Trail) → t ≡ trail_over tree.draft.value.base.instance tree.draft.value.limits
     → (is_closed : Bool) (goal : Goal) (fs : List Above) → IsAtNode tree fs → goal.form ≡ tree.draft.value.base.form → goal.bound ≡ tree.draft.value.bound
-    → goal.unassigned ≡ unassigned_count tree.draft.value.plan → goal.is_closed ≡ is_closed → IsGoalAt (site_of tree fs is_closed) t.limits goal
-goal_at tree t woke is_closed goal fs node form bound count kind = record { limits = sym (limits_at tree t fs woke node); form = form; bound = bound; unassigned = count; is_closed = kind }
+    → goal.unassigned ≡ tree.unassigned → goal.is_closed ≡ is_closed → IsGoalAt (site_of tree fs is_closed) t.limits goal
+goal_at tree t woke is_closed goal fs node form bound count kind = record { limits = sym (limits_at tree t fs woke node); form = form; bound = bound; unassigned = count ∙ node.unassigned; is_closed = kind }
 
 module _ (tree : TreeDraft) (t : Trail) (rest : Rest) (woke : t ≡ trail_over tree.draft.value.base.instance tree.draft.value.limits)
     (back : trail_over t.limits.instance rest ≡ t) (over : IsRestOver t.limits.instance rest) where

@@ -99,6 +99,7 @@ module _ (tree : TreeDraft) (old new : Trail) (to : Walked) (rest : Rest)
         depth = depth ∙ node.depth;
         spare = omega arith;
         unshown = counted;
+        unassigned = node.unassigned;
         reader = node.reader;
         sums = node.sums;
         over = subst (λ x. IsRestOver x rest) of_instance over;

@@ -3,6 +3,7 @@ use Rattle.std.specs.Prelude.{◌≡◌, ◌≤◌, ◌<◌, ◌+◌, ◌^◌, �
 use Rattle.crew_terms.specs.Words.{Words}
 use Rattle.crew_terms.specs.Instance.{Instance}
 use Rattle.crew_terms.specs.Limits.{Route as TeamRoute, root_limits}
+use Rattle.crew_terms.specs.Plan.{unassigned_count}
 use Rattle.crew_terms.specs.Branches.{InFirst, InSecond}
 use Rattle.crew_terms.specs.Verdict.{IsPlanOf}
 use Rattle.share_terms.specs.Shares.{Share as ShareOf, IsRouteIn}
@@ -63,6 +64,7 @@ pub record IsAtNode (tree : TreeDraft) (above : List Above) : Type 0 where
   pub depth : tree.walk.depth ≡ tree.claimed.depth
   pub spare : tree.claimed.depth ≤ tree.draft.value.limits.spare + length tree.walk.above
   pub unshown : tree.unshown ≡ unshown_above above
+  pub unassigned : tree.unassigned ≡ unassigned_count tree.draft.value.plan
   pub reader : IsReaderFor tree.draft.value.base.instance tree.reader
   pub sums : HasRoom (root_limits tree.draft.value.base.instance) tree.sums
 
@@ -78,6 +80,7 @@ pub record IsTreeOver (tree : TreeDraft) (has_limits : Bool) : Type 0 where
 -- it is the tree of this dossier that begins so, with its room
 pub record IsTreeOf (draft : Box BegunDossier) (claimed : TreeCounts) (walk : Walked) (tree : TreeDraft) : Type 0 where
   pub is : tree ≡ record tree { draft = draft; claimed = claimed; walk = walk; unshown = 0 }
+  pub unassigned : tree.unassigned ≡ unassigned_count draft.value.plan
   pub room : IsRoomOf tree
 
 -- the walk stands at a node

@@ -33,6 +33,8 @@ pub struct TreeDraft {
     pub draft: Box<BegunDossier>,
     /// The numbers of the line `tree`.
     pub claimed: TreeCounts,
+    /// How many tasks the plan leaves unassigned.
+    pub unassigned: u32,
     /// The way to the node that is due, and the numbers of what came before it.
     pub walk: Walk,
     /// Of how many of the splits so far no cause is shown.

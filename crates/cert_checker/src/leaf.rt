@@ -4,7 +4,6 @@ ghost use Rattle.cert_checker.specs.Due.{IsAwaited, IsStep};
 use crate::due::{Due, EndedDossier, Step, TreeDraft};
 use crate::node::leave;
 use cert_format::{fault_is_refused, read_end};
-use crew_instance::unassigned;
 use crew_terms::TreeCounts;
 use dossier_terms::Reason;
 use field_table::LineWords;
@@ -27,7 +26,7 @@ pub fn number_line(
     let goal = Goal {
         form: draft.base.form,
         bound: draft.bound,
-        unassigned: unassigned(&draft.plan),
+        unassigned: held.unassigned,
         is_closed,
     };
     let limits = Limits::wake(&draft.base.instance, draft.limits.take(alloc));

@@ -5,7 +5,7 @@ ghost use Rattle.cert_checker.specs.Due.{IsEndOf, IsRoot, IsTreeOf};
 ghost use Rattle.cert_checker.specs.Rooms.{HaveSameRoots, HaveSameWindows, IsAlike, IsFor, IsUnfrozen};
 
 use crate::due::{BegunDossier, EndedDossier, NO_LOOSE, TreeDraft};
-use crew_instance::Instance;
+use crew_instance::{Instance, unassigned};
 use crew_terms::TreeCounts;
 use leaf_check::LeafReader;
 use node_limits::{Held, Limits};
@@ -128,6 +128,7 @@ impl TreeRoom {
     {
         let TreeRoom { mut tree, .. } = self;
         let held = &mut *tree;
+        held.unassigned = unassigned(&draft.plan);
         held.draft = draft;
         held.claimed = claimed;
         held.walk = walk;
@@ -151,9 +152,11 @@ fn first_tree(
     ensures { IfOk result (λ tree. IsTreeOf draft claimed walk tree.value) }
 {
     let NewRoom { reader, sums } = Box::into_inner(room);
+    let unassigned = unassigned(&draft.plan);
     let tree = TreeDraft {
         draft,
         claimed,
+        unassigned,
         walk,
         unshown: 0,
         reader,

@@ -2,7 +2,6 @@ use Rattle.std.proofs.Common.{◌≡◌, ◌∙◌, ap, refl, subst, sym}
 use Rattle.std.proofs.lemmas.Result.{err_from_is_err_and}
 use Rattle.std.specs.Prelude.{if◌then◌else◌, List, Ok}
 use Rattle.std.specs.Box.{with_value}
-use Rattle.crew_terms.specs.Plan.{unassigned_count}
 use Rattle.crew_terms.specs.Branches.{LeafNode, Open, Closed}
 use Rattle.dossier_terms.specs.Reading.{Reading, leaf_done, node_done, Above, LeafSite}
 use Rattle.dossier_terms.specs.Table.{Says}
@@ -31,9 +30,9 @@ told c reading fs leaf =
     let draft = c.deref_mut-draft.result.now in
     let read : draft ≡ tree.draft.value = c.deref_mut-draft.ensures.value ∙ ap (λ (x : TreeDraft). x.draft.value) c.deref_mut-held.ensures.value in
     let a : LeafSite = site_of tree fs c.args.is_closed in
-    let g : Goal = record { form = draft.base.form; bound = draft.bound; unassigned = c.unassigned.result; is_closed = c.args.is_closed } in
+    let g : Goal = record { form = draft.base.form; bound = draft.bound; unassigned = c.deref_mut-held.result.now.unassigned; is_closed = c.args.is_closed } in
     c.line.ensures.judged a reading (goal_at tree c.wake-limits.result (woke c) c.args.is_closed g fs leaf.node
-    (ap (λ (d : BegunDossier). d.base.form) read) (ap (λ (d : BegunDossier). d.bound) read) (c.unassigned.ensures ∙ ap (λ (d : BegunDossier). unassigned_count d.plan) read) refl)
+    (ap (λ (d : BegunDossier). d.base.form) read) (ap (λ (d : BegunDossier). d.bound) read) (ap (λ (x : TreeDraft). x.unassigned) c.deref_mut-held.ensures.value) refl)
     (subst (λ (x : TreeDraft). StandsFor a x.reader reading) (sym c.deref_mut-held.ensures.value) leaf.stands)
 
 pub returns-in_err-step : goal.returns-in_err-step

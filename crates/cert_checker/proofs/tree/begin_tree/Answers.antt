@@ -46,6 +46,7 @@ returns c =
       depth = c.in_ok-walk.ensures.depth;
       spare = omega arith;
       unshown = refl;
+      unassigned = over.unassigned;
       reader = ready.leaves;
       sums = ready.shares;
     } in
