@@ -69,14 +69,7 @@ fn end_loose<C: Columns>(
         return Ok(NodeEnd::Closed(answer.prices));
     }
     let spans = spans_of(alloc, limits, columns, &solution.shares)?;
-    let choice = choice_of(
-        alloc,
-        limits,
-        &answer.prices,
-        &spans,
-        solution.den,
-        wanted,
-    )?;
+    let choice = choice_of(alloc, limits, &answer.prices, &spans, solution.den, wanted)?;
     let why = Why::Loose {
         den: solution.den,
         shares: Shares::of(solution.shares),

@@ -127,7 +127,15 @@ fn end_open<C: Columns>(
     let wanted = first_choice(limits, script, wanted);
     match end_by_master(alloc, limits, columns, effort.pivots, wanted, best) {
         Ok(end) => Ok(end),
-        Err(halt) => end_halted(alloc, limits, known, best.unassigned, &averages, wanted, halt),
+        Err(halt) => end_halted(
+            alloc,
+            limits,
+            known,
+            best.unassigned,
+            &averages,
+            wanted,
+            halt,
+        ),
     }
 }
 

@@ -2,9 +2,7 @@
 ghost use Rattle.std.specs.Prelude.{◌≡◌, ◌≤◌, ◌<◌, ◌*◌, ◌^◌};
 ghost use Rattle.search_core.specs.declared.effort.TheConstants.{MANY_TASKS};
 
-use node_solver::{
-    AscentEffort, Effort as NodeEffort, RehearsalEffort, RuinEffort, ScoutEffort,
-};
+use node_solver::{AscentEffort, Effort as NodeEffort, RehearsalEffort, RuinEffort, ScoutEffort};
 use plan_again::Effort as FirstEffort;
 
 /// More tasks than these are many.
@@ -58,14 +56,14 @@ const NO_REHEARSAL: RehearsalEffort = RehearsalEffort {
 /// How much a rehearsal of the tree does, for each step that the search may take: so many linear programs, and so many leaves that
 /// are priced in wider nodes; and so many pivots and rounds in each program.
 #[derive(Clone, Copy, Debug)]
-pub struct RehearsedEffort {
+pub struct ScriptEffort {
     pub programs_a_step: u32,
     pub pricings_a_step: u32,
     pub pivots: u32,
     pub rounds: u32,
 }
 
-impl RehearsedEffort {
+impl ScriptEffort {
     // The effort at the node of this number, 0 for the root, of a search of so many steps.
     fn at(&self, node: u32, budget: u32) -> RehearsalEffort {
         if node > 0 || budget < LEAST_BUDGET {
@@ -96,7 +94,7 @@ pub struct Effort {
     /// The longer search for a better plan where the scout doesn't close the root either.
     pub rebuild_again: RebuildEffort,
     /// The rehearsal of the tree where the root stays open still.
-    pub rehearsal: RehearsedEffort,
+    pub rehearsal: ScriptEffort,
     /// The ascent at each other node.
     pub below: AscentEffort,
     /// The scout of columns at each node.
@@ -175,7 +173,7 @@ pub const DAY_EFFORT: Effort = Effort {
         looks_a_task: 3_000_000,
         seed: 2,
     },
-    rehearsal: RehearsedEffort {
+    rehearsal: ScriptEffort {
         programs_a_step: 20,
         pricings_a_step: 200,
         pivots: 5_000,

@@ -72,8 +72,7 @@ fn examine<C: Columns>(
 {
     let start = start_of(alloc, limits, pricer, own, bound, place)?;
     let wanted = place.choice(limits);
-    let Step { plan, end, script } =
-        process(alloc, limits, start, best, columns, effort, wanted)?;
+    let Step { plan, end, script } = process(alloc, limits, start, best, columns, effort, wanted)?;
     match end {
         NodeEnd::Closed(prices) => {
             let kept = KeptPrices::of(alloc, limits, &prices)?;

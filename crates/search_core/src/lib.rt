@@ -19,7 +19,7 @@ mod steps;
 
 pub use causes::{Cause, Outcome};
 pub use crew_instance::{Instance, Plan};
-pub use effort::{DAY_EFFORT, Effort, MANY_TASKS, RebuildEffort, RehearsedEffort};
+pub use effort::{DAY_EFFORT, Effort, MANY_TASKS, RebuildEffort, ScriptEffort};
 pub use laws::{key_steps_improve, outcomes_are_searched};
 pub use node_solver::{AscentEffort, ScoutEffort, Why};
 pub use searches::Search;
