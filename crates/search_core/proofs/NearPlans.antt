@@ -10,12 +10,14 @@ use Rattle.plan_again.specs.Stays.{IsNoWorse, StaysOrBetters}
 use Rattle.search_core.specs.Findings.{IsEnding, IsFinding}
 use Rattle.search_core.specs.declared.finding.Ending.{Ending}
 use Rattle.search_terms.specs.Search.{Betters, Improves, IsKeepable, Stays}
+use Rattle.tree_rehearsal.specs.declared.script.Script.{Script}
 
 -- with a plan that leaves as many tasks unassigned it is a finding still
 pub near_found : (n : Limits) (best pivots : ℕ) (columns more : List Route) (own : Prices) (p q : Plan) (ending : Ending)
-    → IsFinding n best pivots columns more own (record { plan = Some p; ending = ending }) → IsKeepable n.instance q
-    → unassigned_count q ≡ unassigned_count p → IsFinding n best pivots columns more own (record { plan = Some q; ending = ending })
-near_found n best pivots columns more own p q ending found keepable count = record {
+    (script : Option Script) → IsFinding n best pivots columns more own (record { plan = Some p; ending = ending; script = script })
+    → IsKeepable n.instance q → unassigned_count q ≡ unassigned_count p
+    → IsFinding n best pivots columns more own (record { plan = Some q; ending = ending; script = script })
+near_found n best pivots columns more own p q ending script found keepable count = record {
   plan = record { keepable = keepable; fewer = subst (λ k. k < best) (sym count) found.plan.fewer };
   ending = subst (λ k. IsEnding n k pivots more own ending) (sym count) found.ending;
   extends = found.extends;

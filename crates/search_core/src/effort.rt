@@ -54,23 +54,32 @@ const NO_REHEARSAL: RehearsalEffort = RehearsalEffort {
 };
 
 /// How much a rehearsal of the tree does, for each step that the search may take: so many linear programs, and so many leaves that
-/// are priced in wider nodes; and so many pivots and rounds in each program.
+/// are priced in wider nodes; and so many pivots and rounds in each program. Since a program over more tasks takes longer, there
+/// are no more of them than `most_programs` by the square of the number of tasks.
 #[derive(Clone, Copy, Debug)]
 pub struct ScriptEffort {
     pub programs_a_step: u32,
+    pub most_programs: u32,
     pub pricings_a_step: u32,
     pub pivots: u32,
     pub rounds: u32,
 }
 
 impl ScriptEffort {
-    // The effort at the node of this number, 0 for the root, of a search of so many steps.
-    fn at(&self, node: u32, budget: u32) -> RehearsalEffort {
+    // So many programs at most, over so many tasks.
+    fn most_over(&self, tasks: usize) -> u32 {
+        let tasks = tasks.min(u32::MAX as usize) as u32;
+        self.most_programs / tasks.saturating_mul(tasks).max(1)
+    }
+
+    // The effort at the node of this number, 0 for the root, over so many tasks, of a search of so many steps.
+    fn at(&self, node: u32, tasks: usize, budget: u32) -> RehearsalEffort {
         if node > 0 || budget < LEAST_BUDGET {
             return NO_REHEARSAL;
         }
+        let programs = self.programs_a_step.saturating_mul(budget);
         RehearsalEffort {
-            programs: self.programs_a_step.saturating_mul(budget),
+            programs: programs.min(self.most_over(tasks)),
             pivots: self.pivots,
             rounds: self.rounds,
             pricings: self.pricings_a_step.saturating_mul(budget),
@@ -138,7 +147,7 @@ impl Effort {
             again: self.again,
             scout: self.scout,
             rebuild_again: self.rebuild_again.at(node, tasks),
-            rehearsal: self.rehearsal.at(node, budget),
+            rehearsal: self.rehearsal.at(node, tasks, budget),
             pivots,
         }
     }
@@ -174,8 +183,9 @@ pub const DAY_EFFORT: Effort = Effort {
         seed: 2,
     },
     rehearsal: ScriptEffort {
-        programs_a_step: 20,
-        pricings_a_step: 200,
+        programs_a_step: 1,
+        most_programs: 1_000_000,
+        pricings_a_step: 10,
         pivots: 5_000,
         rounds: 60,
     },

@@ -23,6 +23,7 @@ const NO_SEARCH: RebuildEffort = RebuildEffort {
 
 const NO_SCRIPT: ScriptEffort = ScriptEffort {
     programs_a_step: 0,
+    most_programs: 0,
     pricings_a_step: 0,
     pivots: 0,
     rounds: 0,
