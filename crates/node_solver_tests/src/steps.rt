@@ -92,7 +92,15 @@ fn the_root_is_split_by_a_wanted_cut(rt: HostRuntime) -> Result<(), Fail> {
     let mut columns = VecColumns::new(rt.alloc());
     let effort = pivots_alone(20_000);
     let choice = cut_at(&limits, 0, 440);
-    let step = step_by(&rt, rt.alloc(), &limits, &best, &mut columns, &effort, choice)?;
+    let step = step_by(
+        &rt,
+        rt.alloc(),
+        &limits,
+        &best,
+        &mut columns,
+        &effort,
+        choice,
+    )?;
     let wanted = Outcome {
         unassigned: None,
         ended: Ended::Loose(Choice::Window { task: 0, cut: 440 }),
