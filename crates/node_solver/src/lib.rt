@@ -2,11 +2,13 @@
 #![tactic(auto)]
 
 mod best_plan;
+mod choosing;
 mod decided;
 mod earnings;
 mod effort;
 mod improving;
 mod master;
+mod rehearsed;
 mod rising;
 mod rounds;
 mod seeds;
@@ -26,3 +28,4 @@ pub use potentials::Prices;
 pub use price_ascent::Effort as AscentEffort;
 pub use solver::process;
 pub use step::{NodeEnd, Parts, Shares, Step, Why};
+pub use tree_rehearsal::{Effort as RehearsalEffort, Script};

@@ -1,10 +1,11 @@
 // The end of a node by its master.
-ghost use Rattle.std.specs.Prelude.{◌≡◌, ◌≤◌, ℕ, IfErr, IfOk};
+ghost use Rattle.std.specs.Prelude.{◌≡◌, ◌≤◌, ℕ, IfErr, IfOk, IfSome};
 ghost use Rattle.crew_terms.specs.Decided.{IsDecided};
 ghost use Rattle.crew_terms.specs.Leaf.{IsOnRequired, Prices as NodePrices};
 ghost use Rattle.crew_terms.specs.Limits.{tasks_in};
 ghost use Rattle.master_run.specs.Along.{Halts};
 ghost use Rattle.potentials.specs.Prices.{ArePricesOf};
+ghost use Rattle.search_terms.specs.Choice.{IsValidChoice};
 ghost use Rattle.search_terms.specs.Proven.{IsProvedCount};
 ghost use Rattle.search_terms.specs.Search.{Extends};
 ghost use Rattle.node_solver.specs.Loose.{HasHeld, IsShown};
@@ -13,18 +14,18 @@ ghost use Rattle.node_solver.specs.Settled.{IsSettled};
 ghost use Rattle.node_solver.specs.Steps.{Ends, KeepsProved, prices_of};
 
 use crate::best_plan::{BestPlan, SHORT};
+use crate::choosing::choice_of;
 use crate::rounds::{Answer, rounds};
 use crate::spans::spans_of;
 use crate::step::{NodeEnd, Parts, Shares, Why};
 use crate::uses::uses_of;
-use branch_choice::choose;
 use column_arena::Columns;
+use crew_terms::Choice;
 use label_pricing::Pricer;
 use master_laws::{lists_are_runs, rounded_prices_are_near, unproved_shares_are_loose};
 use master_run::{Halt, Run};
 use node_limits::Limits;
 use search_laws::less_is_proved;
-use split_uses::split_uses;
 use std::alloc::Global;
 
 /// Splits the node by the shares at which its master's rounds have settled, unless a plan that they suggest is so good
@@ -35,6 +36,7 @@ fn end_loose<C: Columns>(
     columns: &C,
     run: &Run,
     answer: Answer,
+    wanted: Option<Choice>,
     best: &mut BestPlan,
 ) -> Result<NodeEnd, Halt>
     requires open { IsDecided limits.now.limits → ⊥ }
@@ -42,6 +44,7 @@ fn end_loose<C: Columns>(
     requires settled { IsSettled limits.now.limits (C.columns columns.now) run.now answer.prices }
     requires count { IsProvedCount limits.now.limits answer.prices answer.proved }
     requires shape { ArePricesOf limits.now.limits answer.prices }
+    requires wanted { IfSome wanted (IsValidChoice limits.now.limits) }
     ensures ends { IfOk result (Ends limits.now.limits best.new.unassigned run.now.pivots
         (C.columns columns.now)) }
     ensures shape { IfOk result (λ e. ArePricesOf limits.now.limits (prices_of e)) }
@@ -66,8 +69,7 @@ fn end_loose<C: Columns>(
         return Ok(NodeEnd::Closed(answer.prices));
     }
     let spans = spans_of(alloc, limits, columns, &solution.shares)?;
-    let picked = split_uses(alloc, limits, &answer.prices, &spans, solution.den)?;
-    let choice = choose(limits, &picked).unwrap();
+    let choice = choice_of(alloc, limits, &answer.prices, &spans, solution.den, wanted)?;
     let why = Why::Loose {
         den: solution.den,
         shares: Shares::of(solution.shares),
@@ -86,10 +88,12 @@ pub(crate) fn end_by_master<C: Columns>(
     limits: &Limits<'_>,
     columns: &mut C,
     pivots: u32,
+    wanted: Option<Choice>,
     best: &mut BestPlan,
 ) -> Result<NodeEnd, Halt>
     requires open { IsDecided limits.now.limits → ⊥ }
     requires most { best.old.unassigned ≤ tasks_in limits.now.limits }
+    requires wanted { IfSome wanted (IsValidChoice limits.now.limits) }
     ensures ends { IfOk result (Ends limits.now.limits best.new.unassigned pivots
         (C.columns columns.new)) }
     ensures shape { IfOk result (λ e. ArePricesOf limits.now.limits (prices_of e)) }
@@ -112,5 +116,5 @@ pub(crate) fn end_by_master<C: Columns>(
     if answer.proved >= now {
         return Ok(NodeEnd::Closed(answer.prices));
     }
-    end_loose(alloc, limits, columns, &run, answer, best)
+    end_loose(alloc, limits, columns, &run, answer, wanted, best)
 }

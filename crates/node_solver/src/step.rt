@@ -7,6 +7,7 @@ use crew_terms::Choice;
 use frac_master::Share;
 use potentials::Prices;
 use std::marker::Model;
+use tree_rehearsal::Script;
 
 /// A list of shares of columns. In contracts: that list.
 #[derive(Drop)]
@@ -98,9 +99,11 @@ pub enum NodeEnd {
     },
 }
 
-/// What a step makes of a node: a better plan, if it found one, and how the node ends.
+/// What a step makes of a node: a better plan, if it found one, how the node ends, and a script of the tree from the node on, if
+/// one was rehearsed.
 #[derive(Drop)]
 pub struct Step {
     pub plan: Option<Plan>,
     pub end: NodeEnd,
+    pub script: Option<Script>,
 }

@@ -1,9 +1,10 @@
 // A step at a node, and what it came to.
-ghost use Rattle.std.specs.Prelude.{◌≤◌, IfOk};
+ghost use Rattle.std.specs.Prelude.{◌≤◌, IfOk, IfSome};
 ghost use Rattle.crew_terms.specs.Leaf.{IsOnRequired};
 ghost use Rattle.crew_terms.specs.Limits.{tasks_in};
 ghost use Rattle.node_solver.specs.Steps.{prices_of};
 ghost use Rattle.potentials.specs.Prices.{ArePricesOf};
+ghost use Rattle.search_terms.specs.Choice.{IsValidChoice};
 ghost use Rattle.search_terms.specs.Inside.{IsNode};
 
 use column_arena::{Columns, VecColumns};
@@ -12,7 +13,8 @@ use crew_terms::Choice;
 use label_pricing::Pricer;
 use node_limits::Limits;
 use node_solver::{
-    AscentEffort, Effort, NodeEnd, Prices, RuinEffort, ScoutEffort, Step, Why, process,
+    AscentEffort, Effort, NodeEnd, Prices, RehearsalEffort, RuinEffort, ScoutEffort, Step, Why,
+    process,
 };
 use plan_builder::greedy;
 use search_laws::search_nodes;
@@ -50,7 +52,14 @@ const NO_SCOUT: ScoutEffort = ScoutEffort {
     routes: 0,
 };
 
-/// So many pivots, no round of an ascent, no search for a plan, and no scout.
+const NO_REHEARSAL: RehearsalEffort = RehearsalEffort {
+    programs: 0,
+    pivots: 0,
+    rounds: 0,
+    pricings: 0,
+};
+
+/// So many pivots, no round of an ascent, no search for a plan, no scout, and no rehearsal.
 pub fn pivots_alone(pivots: u32) -> Effort {
     Effort {
         ascent: NO_ROUNDS,
@@ -58,6 +67,7 @@ pub fn pivots_alone(pivots: u32) -> Effort {
         again: NO_ROUNDS,
         scout: NO_SCOUT,
         rebuild_again: NO_SEARCH,
+        rehearsal: NO_REHEARSAL,
         pivots,
     }
 }
@@ -105,7 +115,27 @@ pub fn root_of(alloc: Global, day: &Instance) -> Result<Limits<'_>, AllocError>
     Limits::root(alloc, day)
 }
 
-/// A step from prices that are all 0, from this plan.
+/// A step from prices that are all 0, from this plan, where this choice is wanted, if there is one.
+pub fn step_by<C: Columns>(
+    rt: &impl Abort,
+    alloc: Global,
+    limits: &Limits<'_>,
+    best: &Plan,
+    columns: &mut C,
+    effort: &Effort,
+    wanted: Option<Choice>,
+) -> Result<Step, AllocError>
+    requires node { IsNode limits.now.limits }
+    requires wanted { IfSome wanted (IsValidChoice limits.now.limits) }
+    ensures shape { IfOk result (λ s. ArePricesOf limits.now.limits (prices_of s.end)) }
+    ensures required { IfOk result (λ s. IsOnRequired limits.now.limits (prices_of s.end)) }
+{
+    assert!(rt; unassigned(best) as usize <= limits.instance().tasks());
+    let start = Prices::zero(alloc, limits)?;
+    process(alloc, limits, start, best, columns, effort, wanted)
+}
+
+/// A step from prices that are all 0, from this plan, where no choice is wanted.
 pub fn step_of<C: Columns>(
     rt: &impl Abort,
     alloc: Global,
@@ -118,9 +148,22 @@ pub fn step_of<C: Columns>(
     ensures shape { IfOk result (λ s. ArePricesOf limits.now.limits (prices_of s.end)) }
     ensures required { IfOk result (λ s. IsOnRequired limits.now.limits (prices_of s.end)) }
 {
-    assert!(rt; unassigned(best) as usize <= limits.instance().tasks());
-    let start = Prices::zero(alloc, limits)?;
-    process(alloc, limits, start, best, columns, effort)
+    step_by(rt, alloc, limits, best, columns, effort, None)
+}
+
+/// The cut of the task's window behind this minute, where it can be cut so.
+pub fn cut_at(limits: &Limits<'_>, task: u32, cut: u32) -> Option<Choice>
+    ensures { IfSome result (IsValidChoice limits.now.limits) }
+{
+    if task as usize >= limits.instance().tasks() {
+        return None;
+    }
+    let (from, until) = limits.window(task);
+    if from <= cut && cut < until {
+        Some(Choice::Window { task, cut })
+    } else {
+        None
+    }
 }
 
 /// How many tasks the prices prove unassigned in the node.

@@ -3,8 +3,8 @@ ghost use Rattle.std.specs.Prelude.{◌≢◌, IfOk};
 ghost use Rattle.search_terms.specs.Inside.{IsNode};
 
 use crate::asked::{
-    Ended, Outcome, ascent_alone, outcome_at, outcome_of, pivots_alone, plan_leaving, root_of,
-    scout_alone, step_of,
+    Ended, Outcome, ascent_alone, cut_at, outcome_at, outcome_of, pivots_alone, plan_leaving,
+    root_of, scout_alone, step_by, step_of,
 };
 use crate::asserts::same;
 use column_arena::{Columns, VecColumns};
@@ -81,6 +81,32 @@ fn shares_both(rt: &impl Abort, end: &NodeEnd) -> Result<(), Fail> {
     same(rt, &shares.as_slice(), &wanted.as_slice());
     same(rt, &left_open.as_slice(), &[0].as_slice());
     Ok(())
+}
+
+/// Where another cut is wanted, the same two routes split the root by that.
+#[test]
+fn the_root_is_split_by_a_wanted_cut(rt: HostRuntime) -> Result<(), Fail> {
+    let day = hardly_overlapping(rt.alloc(), 480)?;
+    let limits = root_of(rt.alloc(), &day)?;
+    let best = plan_leaving(rt.alloc(), &day, 1)?;
+    let mut columns = VecColumns::new(rt.alloc());
+    let effort = pivots_alone(20_000);
+    let choice = cut_at(&limits, 0, 440);
+    let step = step_by(
+        &rt,
+        rt.alloc(),
+        &limits,
+        &best,
+        &mut columns,
+        &effort,
+        choice,
+    )?;
+    let wanted = Outcome {
+        unassigned: None,
+        ended: Ended::Loose(Choice::Window { task: 0, cut: 440 }),
+    };
+    same(&rt, &outcome_of(rt.alloc(), &limits, &step)?, &wanted);
+    shares_both(&rt, &step.end)
 }
 
 /// Without a pivot the run is spent.

@@ -11,7 +11,9 @@ use crew_fixtures::{
 };
 use crew_instance::Instance;
 use crew_io::sink::MemSink;
-use search_core::{AscentEffort, Effort, Outcome, RebuildEffort, ScoutEffort, Search};
+use search_core::{
+    AscentEffort, Effort, Outcome, RebuildEffort, ScoutEffort, ScriptEffort, Search,
+};
 use std::alloc::{AllocError, Global};
 use std::process::Abort;
 use std::test::Fail;
@@ -29,6 +31,14 @@ const NO_SEARCH: RebuildEffort = RebuildEffort {
     seed: 0,
 };
 
+const NO_SCRIPT: ScriptEffort = ScriptEffort {
+    programs_a_step: 0,
+    most_programs: 0,
+    pricings_a_step: 0,
+    pivots: 0,
+    rounds: 0,
+};
+
 // Nothing but the master's run closes a node.
 const MASTER_ALONE: Effort = Effort {
     iterations: 0,
@@ -37,6 +47,7 @@ const MASTER_ALONE: Effort = Effort {
     rebuild: NO_SEARCH,
     again: NO_ASCENT,
     rebuild_again: NO_SEARCH,
+    rehearsal: NO_SCRIPT,
     below: NO_ASCENT,
     scout: ScoutEffort {
         pivots: 0,

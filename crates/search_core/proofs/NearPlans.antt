@@ -1,25 +1,11 @@
 -- plans that are brought near to the one with which a search began, and what stays of that one
-use Rattle.std.proofs.Common.{◌≡◌, ◌<◌, ℕ, List, Option, None, Some, sym, subst, arith}
+use Rattle.std.proofs.Common.{◌≡◌, ℕ, Option, None, Some, sym, subst, arith}
 use Rattle.std.specs.Prelude.{IfSome}
 use Rattle.crew_terms.specs.Instance.{Instance}
-use Rattle.crew_terms.specs.Leaf.{Prices}
-use Rattle.crew_terms.specs.Limits.{Limits, Route}
-use Rattle.crew_terms.specs.Plan.{Plan, unassigned_count}
+use Rattle.crew_terms.specs.Plan.{Plan}
 use Rattle.node_solver.specs.Plans.{IsBetterPlan}
 use Rattle.plan_again.specs.Stays.{IsNoWorse, StaysOrBetters}
-use Rattle.search_core.specs.Findings.{IsEnding, IsFinding}
-use Rattle.search_core.specs.declared.finding.Ending.{Ending}
 use Rattle.search_terms.specs.Search.{Betters, Improves, IsKeepable, Stays}
-
--- with a plan that leaves as many tasks unassigned it is a finding still
-pub near_found : (n : Limits) (best pivots : ℕ) (columns more : List Route) (own : Prices) (p q : Plan) (ending : Ending)
-    → IsFinding n best pivots columns more own (record { plan = Some p; ending = ending }) → IsKeepable n.instance q
-    → unassigned_count q ≡ unassigned_count p → IsFinding n best pivots columns more own (record { plan = Some q; ending = ending })
-near_found n best pivots columns more own p q ending found keepable count = record {
-  plan = record { keepable = keepable; fewer = subst (λ k. k < best) (sym count) found.plan.fewer };
-  ending = subst (λ k. IsEnding n k pivots more own ending) (sym count) found.ending;
-  extends = found.extends;
-}
 
 -- the plan of a finding may be kept
 pub found_keepable : (i j : Instance) (best : ℕ) (found : Option Plan) → i ≡ j → IfSome found (IsBetterPlan i best) → IfSome found (IsKeepable j)

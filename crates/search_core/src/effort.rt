@@ -2,7 +2,7 @@
 ghost use Rattle.std.specs.Prelude.{◌≡◌, ◌≤◌, ◌<◌, ◌*◌, ◌^◌};
 ghost use Rattle.search_core.specs.declared.effort.TheConstants.{MANY_TASKS};
 
-use node_solver::{AscentEffort, Effort as NodeEffort, RuinEffort, ScoutEffort};
+use node_solver::{AscentEffort, Effort as NodeEffort, RehearsalEffort, RuinEffort, ScoutEffort};
 use plan_again::Effort as FirstEffort;
 
 /// More tasks than these are many.
@@ -42,6 +42,51 @@ impl RebuildEffort {
     }
 }
 
+// With a smaller budget of steps no tree is rehearsed.
+const LEAST_BUDGET: u32 = 3;
+
+// No rehearsal.
+const NO_REHEARSAL: RehearsalEffort = RehearsalEffort {
+    programs: 0,
+    pivots: 0,
+    rounds: 0,
+    pricings: 0,
+};
+
+/// How much a rehearsal of the tree does, for each step that the search may take: so many linear programs, and so many leaves that
+/// are priced in wider nodes; and so many pivots and rounds in each program. Since a program over more tasks takes longer, there
+/// are no more of them than `most_programs` by the square of the number of tasks.
+#[derive(Clone, Copy, Debug)]
+pub struct ScriptEffort {
+    pub programs_a_step: u32,
+    pub most_programs: u32,
+    pub pricings_a_step: u32,
+    pub pivots: u32,
+    pub rounds: u32,
+}
+
+impl ScriptEffort {
+    // So many programs at most, over so many tasks.
+    fn most_over(&self, tasks: usize) -> u32 {
+        let tasks = tasks.min(u32::MAX as usize) as u32;
+        self.most_programs / tasks.saturating_mul(tasks).max(1)
+    }
+
+    // The effort at the node of this number, 0 for the root, over so many tasks, of a search of so many steps.
+    fn at(&self, node: u32, tasks: usize, budget: u32) -> RehearsalEffort {
+        if node > 0 || budget < LEAST_BUDGET {
+            return NO_REHEARSAL;
+        }
+        let programs = self.programs_a_step.saturating_mul(budget);
+        RehearsalEffort {
+            programs: programs.min(self.most_over(tasks)),
+            pivots: self.pivots,
+            rounds: self.rounds,
+            pricings: self.pricings_a_step.saturating_mul(budget),
+        }
+    }
+}
+
 /// How much work a search may do beside its master runs.
 #[derive(Clone, Copy, Debug)]
 pub struct Effort {
@@ -57,6 +102,8 @@ pub struct Effort {
     pub again: AscentEffort,
     /// The longer search for a better plan where the scout doesn't close the root either.
     pub rebuild_again: RebuildEffort,
+    /// The rehearsal of the tree where the root stays open still.
+    pub rehearsal: ScriptEffort,
     /// The ascent at each other node.
     pub below: AscentEffort,
     /// The scout of columns at each node.
@@ -90,8 +137,8 @@ impl Effort {
         }
     }
 
-    // The effort at the node of this number, over so many tasks.
-    pub(crate) fn at(&self, node: u32, tasks: usize, pivots: u32) -> NodeEffort
+    // The effort at the node of this number, over so many tasks, of a search of so many steps.
+    pub(crate) fn at(&self, node: u32, tasks: usize, pivots: u32, budget: u32) -> NodeEffort
         ensures { result.pivots ≡ pivots }
     {
         NodeEffort {
@@ -100,6 +147,7 @@ impl Effort {
             again: self.again,
             scout: self.scout,
             rebuild_again: self.rebuild_again.at(node, tasks),
+            rehearsal: self.rehearsal.at(node, tasks, budget),
             pivots,
         }
     }
@@ -133,6 +181,13 @@ pub const DAY_EFFORT: Effort = Effort {
     rebuild_again: RebuildEffort {
         looks_a_task: 3_000_000,
         seed: 2,
+    },
+    rehearsal: ScriptEffort {
+        programs_a_step: 1,
+        most_programs: 1_000_000,
+        pricings_a_step: 10,
+        pivots: 5_000,
+        rounds: 60,
     },
     below: AscentEffort {
         rounds: 150,

@@ -13,13 +13,15 @@ ghost use Rattle.search_terms.specs.Search.{Extends, IsKeepable};
 
 use crate::begun::Begun;
 use crate::handing::{Handed, hand_on};
+use crate::scripted::{Place, Scripted};
+use crate::starts::start_of;
 use column_arena::Columns;
 use crew_instance::{Instance, Plan};
 use crew_terms::Choice;
 use kept_prices::KeptPrices;
 use label_pricing::{Pricer, worths_decide};
 use node_limits::{Branch, Limits, ascend, descend};
-use node_solver::{Effort as NodeEffort, NodeEnd, Step, Why, process};
+use node_solver::{Effort as NodeEffort, NodeEnd, Script, Step, Why, process};
 use std::alloc::{AllocError, Global};
 
 /// How a node ends: closed by prices, or split by a choice for a cause, with what is handed on to its children.
@@ -33,11 +35,12 @@ pub(crate) enum Ending {
     },
 }
 
-/// A better plan, if the step found one, and how the node ends.
+/// A better plan, if the step found one, how the node ends, and a script of the tree, if the step made one.
 #[derive(Drop)]
 pub(crate) struct Finding {
     pub(crate) plan: Option<Plan>,
     pub(crate) ending: Ending,
+    pub(crate) script: Option<Script>,
 }
 
 /// Takes the step at a node with these limits, whose own prices give this bound. The limits stay as they were. AllocError where
@@ -51,6 +54,7 @@ fn examine<C: Columns>(
     best: &Plan,
     columns: &mut C,
     effort: &NodeEffort,
+    place: Place<'_>,
 ) -> Result<Finding, AllocError>
     requires node { IsNode limits.old.limits }
     requires spare { 1 ≤ limits.old.spare }
@@ -66,13 +70,18 @@ fn examine<C: Columns>(
     ensures limits { limits.new ≡ limits.old }
     ensures room { pricer.new.places ≡ pricer.old.places }
 {
-    let start = own.prices(alloc, limits)?;
-    let Step { plan, end } = process(alloc, limits, start, best, columns, effort)?;
+    let start = start_of(alloc, limits, pricer, own, bound, place)?;
+    let wanted = place.choice(limits);
+    let Step { plan, end, script } = process(alloc, limits, start, best, columns, effort, wanted)?;
     match end {
         NodeEnd::Closed(prices) => {
             let kept = KeptPrices::of(alloc, limits, &prices)?;
             let ending = Ending::Closed(kept);
-            Ok(Finding { plan, ending })
+            Ok(Finding {
+                plan,
+                ending,
+                script,
+            })
         }
         NodeEnd::Split {
             choice,
@@ -89,7 +98,11 @@ fn examine<C: Columns>(
                 why,
                 handed,
             };
-            Ok(Finding { plan, ending })
+            Ok(Finding {
+                plan,
+                ending,
+                script,
+            })
         }
     }
 }
@@ -105,6 +118,7 @@ fn visit<C: Columns>(
     best: &Plan,
     columns: &mut C,
     effort: &NodeEffort,
+    scripted: &Scripted,
 ) -> Result<Finding, AllocError>
     requires can { CanBranch limits.old.limits turns.now }
     requires node { IsNode (limits_after limits.old.limits turns.now) }
@@ -124,7 +138,10 @@ fn visit<C: Columns>(
 {
     limits.reserve(turns.len() + 1)?;
     descend(limits, turns);
-    let found = examine(alloc, limits, pricer, own, bound, best, columns, effort);
+    let place = scripted.place(turns);
+    let found = examine(
+        alloc, limits, pricer, own, bound, best, columns, effort, place,
+    );
     ascend(limits, turns.len());
     found
 }
@@ -141,14 +158,23 @@ fn brought_near(
         → n.instance ≡ instance.now → IsFinding n best pivots columns more own found
         → IfOk result (IsFinding n best pivots columns more own) }
 {
-    let Finding { plan, ending } = found;
+    let Finding {
+        plan,
+        ending,
+        script,
+    } = found;
     let Some(plan) = plan else {
-        return Ok(Finding { plan: None, ending });
+        return Ok(Finding {
+            plan: None,
+            ending,
+            script,
+        });
     };
     let near = begun.nearer_plan(alloc, instance, plan)?;
     Ok(Finding {
         plan: Some(near),
         ending,
+        script,
     })
 }
 
@@ -164,6 +190,7 @@ pub(crate) fn explore<C: Columns>(
     best: &Plan,
     columns: &mut C,
     effort: &NodeEffort,
+    scripted: &Scripted,
     begun: &Begun,
 ) -> Result<Finding, AllocError>
     requires can { CanBranch limits.old.limits turns.now }
@@ -183,7 +210,7 @@ pub(crate) fn explore<C: Columns>(
     ensures room { pricer.new.places ≡ pricer.old.places }
 {
     let found = visit(
-        alloc, limits, pricer, turns, own, bound, best, columns, effort,
+        alloc, limits, pricer, turns, own, bound, best, columns, effort, scripted,
     )?;
     brought_near(alloc, limits.instance(), begun, found)
 }

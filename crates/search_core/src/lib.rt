@@ -9,15 +9,17 @@ mod finding;
 mod handing;
 mod laws;
 mod outlines;
+mod scripted;
 mod searches;
 mod settling;
 mod solving;
+mod starts;
 mod stepping;
 mod steps;
 
 pub use causes::{Cause, Outcome};
 pub use crew_instance::{Instance, Plan};
-pub use effort::{DAY_EFFORT, Effort, MANY_TASKS, RebuildEffort};
+pub use effort::{DAY_EFFORT, Effort, MANY_TASKS, RebuildEffort, ScriptEffort};
 pub use laws::{key_steps_improve, outcomes_are_searched};
 pub use node_solver::{AscentEffort, ScoutEffort, Why};
 pub use searches::Search;

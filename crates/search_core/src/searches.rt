@@ -17,6 +17,7 @@ ghost use Rattle.search_terms.specs.Search.{IsBound, IsStart, best};
 use crate::begun::Begun;
 use crate::causes::Cause;
 use crate::effort::Effort;
+use crate::scripted::Scripted;
 use crew_instance::{Instance, Plan, unassigned};
 use kept_prices::KeptPrices;
 use label_pricing::{Pricer, most_proved};
@@ -48,6 +49,8 @@ pub struct Search<'i> {
     pub(crate) effort: Effort,
     // What it began with.
     pub(crate) begun: Begun,
+    // By what its steps go.
+    pub(crate) scripted: Scripted,
 }
 
 impl<'i> Model for Search<'i> {
@@ -106,6 +109,7 @@ impl<'i> Search<'i> {
             left: nodes,
             effort,
             begun,
+            scripted: Scripted::none(),
         })
     }
 

@@ -43,9 +43,13 @@ impl<'i> Search<'i> {
         let leaf = self.keyed.leaf(key);
         let turns = self.keyed.turns(alloc, leaf.node)?;
         let best = unassigned(&self.plan);
-        let effort = self.effort.at(leaf.node, tasks, pivots);
+        let effort = self.effort.at(leaf.node, tasks, pivots, self.budget);
         let own = &self.prices[leaf.prices as usize];
-        let Finding { plan, ending } = explore(
+        let Finding {
+            plan,
+            ending,
+            script,
+        } = explore(
             alloc,
             &mut self.limits,
             &mut self.pricer,
@@ -55,6 +59,7 @@ impl<'i> Search<'i> {
             &self.plan,
             columns,
             &effort,
+            &self.scripted,
             &self.begun,
         )?;
         let now = count_after(best, &plan);
@@ -68,6 +73,7 @@ impl<'i> Search<'i> {
             ending,
         )?;
         keep_plan(&mut self.plan, plan);
+        self.scripted.go_on(script, now);
         self.left -= 1;
         Ok(())
     }

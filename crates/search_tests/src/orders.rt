@@ -2,7 +2,9 @@
 use column_arena::VecColumns;
 use crew_fixtures::hardly_overlapping;
 use crew_instance::Instance;
-use search_core::{AscentEffort, DAY_EFFORT, Effort, RebuildEffort, ScoutEffort, Search};
+use search_core::{
+    AscentEffort, DAY_EFFORT, Effort, RebuildEffort, ScoutEffort, ScriptEffort, Search,
+};
 use std::alloc::{AllocError, Global};
 use std::test::Fail;
 
@@ -19,6 +21,14 @@ const NO_SEARCH: RebuildEffort = RebuildEffort {
     seed: 0,
 };
 
+const NO_SCRIPT: ScriptEffort = ScriptEffort {
+    programs_a_step: 0,
+    most_programs: 0,
+    pricings_a_step: 0,
+    pivots: 0,
+    rounds: 0,
+};
+
 pub const NO_ROUNDS: Effort = Effort {
     iterations: 0,
     root: NO_ASCENT,
@@ -26,6 +36,7 @@ pub const NO_ROUNDS: Effort = Effort {
     rebuild: NO_SEARCH,
     again: NO_ASCENT,
     rebuild_again: NO_SEARCH,
+    rehearsal: NO_SCRIPT,
     below: NO_ASCENT,
     scout: ScoutEffort {
         pivots: 0,

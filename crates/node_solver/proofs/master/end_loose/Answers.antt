@@ -1,6 +1,6 @@
 use Rattle.std.proofs.Common.{◌≤◌, ◌<◌, ◌+◌, ◌-◌, ◌*◌, ℕ, pos, ◌*ℤ◌, ◌+ℤ◌, ◌≤ℤ◌, All, rules, sym, subst, arith}
 use Rattle.std.specs.Int.{w128}
-use Rattle.std.specs.Prelude.{FitsSigned, IfSome, unsigned_abs}
+use Rattle.std.specs.Prelude.{FitsSigned, unsigned_abs}
 use Rattle.std.proofs.lemmas.Int.{to_z-of_z}
 use Rattle.crew_terms.specs.Leaf.{Proves, bound_of, worth_of}
 use Rattle.crew_terms.specs.declared.TheConstants.{D}
@@ -16,7 +16,6 @@ use Rattle.node_solver.proofs.MeetingLemmas.{met_unbeaten}
 use Rattle.column_arena.specs.Legal.{IsLegalColumn}
 use Rattle.crew_terms.specs.Limits.{tasks_in, teams_in}
 use Rattle.frac_master.specs.declared.shares.Share.{Share}
-use Rattle.search_terms.specs.Choice.{IsValidChoice}
 use Rattle.node_solver.specs.Plans.{IsBestOf}
 use Rattle.split_uses.specs.Permitted.{IsPermittedSpan}
 use Rattle.node_solver.proofs.Ending.{proved_required, settled_loose}
@@ -37,16 +36,16 @@ spans_of-requires g c =
     let cs = g.C.Columns.columns c.args.columns.now in
     subst (All (λ (s : Share). IsLegalColumn n cs s.column)) (sym c.deref-3.ensures.value) (c.in_ok-solution.ensures.legal n cs c.requires.settled.over)
 
-pub split_uses-requires-clause-spans : goal.split_uses-requires-clause-spans
-split_uses-requires-clause-spans g c =
+pub choice_of-requires-clause-spans : goal.choice_of-requires-clause-spans
+choice_of-requires-clause-spans g c =
     subst (All (IsPermittedSpan c.args.limits.now.limits)) (sym c.deref-4.ensures.value) c.in_ok-spans.ensures
 
 pub returns-in_err-spans-clause-best : goal.returns-in_err-spans-clause-best
 returns-in_err-spans-clause-best g c = λ b.
     subst (λ i. IsBestOf i b c.args.best.now → IsBestOf i b c.try_uses.new.self) c.instance.ensures.instance (c.try_uses.ensures.best b)
 
-pub returns-in_err-picked-clause-best : goal.returns-in_err-picked-clause-best
-returns-in_err-picked-clause-best g c = λ b.
+pub returns-in_err-choice-clause-best : goal.returns-in_err-choice-clause-best
+returns-in_err-choice-clause-best g c = λ b.
     subst (λ i. IsBestOf i b c.args.best.now → IsBestOf i b c.try_uses.new.self) c.instance.ensures.instance (c.try_uses.ensures.best b)
 
 pub returns-clause-ends : goal.returns-clause-ends
@@ -55,7 +54,7 @@ returns-clause-ends g c =
     let now = c.try_uses.new.self.unassigned in
     let most : now ≤ tasks_in n = omega (arith, c.try_uses.ensures.fewer, c.requires.most) in
     record {
-      valid = subst (λ o. IfSome o (IsValidChoice n)) c.unwrap-choice.ensures c.choose.ensures.valid;
+      valid = c.in_ok-choice.ensures;
       some = omega (arith, c.if-answer-best.false);
       earned = settled_loose n now c.args.answer.proved (g.C.Columns.columns c.args.columns.now) c.args.run.now c.args.answer.prices
           c.requires.settled c.requires.count most c.if-answer-best.false;

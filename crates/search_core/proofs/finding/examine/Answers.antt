@@ -1,5 +1,5 @@
-use Rattle.std.proofs.Common.{sym, subst, arith}
-use Rattle.crew_terms.specs.Leaf.{IsOnRequired, Prices}
+use Rattle.std.proofs.Common.{subst, arith}
+use Rattle.crew_terms.specs.Leaf.{IsOnRequired}
 use Rattle.crew_terms.specs.Limits.{tasks_in}
 use Rattle.crew_terms.specs.Plan.{unassigned_count}
 use Rattle.node_solver.specs.Loose.{HasHeld, IsShown}
@@ -21,7 +21,7 @@ hand_on-requires-clause-required g c =
     let pivots = c.args.effort.now.pivots in
     let start = c.in_ok-start.start in
     let end : NodeEnd = ends.Split c.in-Split.choice c.in-Split.why c.in-Split.prices in
-    let zero : PricesProve n start 0 = subst (λ (p : Prices). PricesProve n p 0) (sym c.in_ok-start.ensures) ((c.requires.bound 0 (omega arith)).1 tt) in
+    let zero : PricesProve n start 0 = c.in_ok-start.ensures.as_much 0 (omega arith) ((c.requires.bound 0 (omega arith)).1 tt) in
     let earned : Ends n now pivots columns end = subst (λ (e : NodeEnd). Ends n now pivots columns e) c.in-Split.is c.in_ok-plan.ensures.ends in
     let keeps : KeepsProved n start end = subst (λ (e : NodeEnd). KeepsProved n start e) c.in-Split.is c.in_ok-plan.ensures.as_much in
     split_required n now pivots columns start c.in-Split.prices c.in-Split.choice c.in-Split.why zero earned.earned keeps
