@@ -23,6 +23,19 @@ plan,1
 /// The jobs of the first round: of the three tasks that begin at 07:00 the last one is left open.
 const FIRST: [&[u8]; 3] = [b"do 0 420 0", b"do 1 420 1", b"do 3 480 1"];
 
+/// Asserts that these are the lines.
+fn assert_lines(
+    rt: &impl Abort,
+    alloc: Global,
+    lines: &[&[u8]],
+    wanted: &[&[u8]],
+) -> Result<(), Fail> {
+    let text = joined(alloc, lines)?;
+    let wanted = joined(alloc, wanted)?;
+    assert!(rt; text == wanted, "{:?}", Shown(&text));
+    Ok(())
+}
+
 /// Asserts the jobs of the round behind these records, which come behind that of the day; `crew check` takes both rounds.
 fn assert_jobs(rt: &impl Abort, alloc: Global, records: &[u8], jobs: &[&[u8]]) -> Result<(), Fail> {
     let day = joined(alloc, &[FOUR_TASKS, records, b"plan,1\n"])?;
@@ -31,13 +44,8 @@ fn assert_jobs(rt: &impl Abort, alloc: Global, records: &[u8], jobs: &[&[u8]]) -
     assert_eq!(rt; status, Status::Done, "{:?}", Shown(&dossiers));
     let first = lines_of(alloc, &dossiers, 0, b"do ")?;
     let second = lines_of(alloc, &dossiers, 1, b"do ")?;
-    assert!(rt;
-        first.as_slice() == FIRST.as_slice(),
-        "{:?}",
-        Shown(&dossiers)
-    );
-    assert!(rt; second.as_slice() == jobs, "{:?}", Shown(&dossiers));
-    Ok(())
+    assert_lines(rt, alloc, &first, &FIRST)?;
+    assert_lines(rt, alloc, &second, jobs)
 }
 
 #[test]
