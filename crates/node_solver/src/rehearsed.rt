@@ -11,9 +11,8 @@ use node_limits::Limits;
 use std::alloc::{AllocError, Global};
 use tree_rehearsal::{Effort, Script, rehearse};
 
-/// A script of the tree from the root on, whose best prices these are, up to the `now` tasks that the best plan leaves
-/// unassigned; None where the effort has no programs, or does not suffice for one task more than the prices prove. AllocError
-/// where there is no memory.
+/// A script of the tree from the root on, whose best prices these are, that proves the `now` tasks that the best plan leaves
+/// unassigned; None where the effort has no programs, or does not suffice for it. AllocError where there is no memory.
 pub(crate) fn rehearsed<C: Columns>(
     alloc: Global,
     limits: &Limits<'_>,
@@ -30,7 +29,13 @@ pub(crate) fn rehearsed<C: Columns>(
     }
     let Known { prices, proved } = known;
     let found = rehearse(alloc, limits, columns, plan, prices, *proved, now, effort)?;
-    Ok(found.script)
+    let Some(script) = found.script else {
+        return Ok(None);
+    };
+    if script.goal() < now {
+        return Ok(None);
+    }
+    Ok(Some(script))
 }
 
 /// The script's choice at the root, where there is one, or else that which is wanted.
