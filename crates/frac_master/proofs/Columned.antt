@@ -11,7 +11,7 @@ use Rattle.search_terms.specs.Rows.{Row}
 use Rattle.search_terms.specs.Opening.{cost, cost_sum, opens, places_where, visit_number}
 use Rattle.crew_terms.specs.Limits.{Route}
 use Rattle.crew_terms.specs.Totals.{total-same}
-use Rattle.frac_master.specs.Table.{rows_of}
+use Rattle.kept_rows.specs.Table.{rows_of}
 use Rattle.frac_master.specs.Columns.{entry_of}
 use Rattle.frac_master.proofs.Walked.{where_more}
 

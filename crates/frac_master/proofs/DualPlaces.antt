@@ -26,8 +26,8 @@ use Rattle.frac_master.specs.Prices.{GivesDual, IsDualOf, IsDualFault, IsRaised}
 use Rattle.frac_master.specs.Prices.IsDualFault.{Scaled, Raised}
 use Rattle.std.specs.Global.{Vec}
 use Rattle.std.proofs.lemmas.List.{length-map}
-use Rattle.frac_master.specs.Table.{rows_of, table}
-use Rattle.frac_master.specs.Clearing.{at_row}
+use Rattle.kept_rows.specs.Table.{rows_of, table}
+use Rattle.kept_rows.specs.Clearing.{at_row}
 use Rattle.frac_master.proofs.Cleared.{read}
 use Rattle.frac_master.proofs.NewColumn.{where_count}
 

@@ -4,8 +4,8 @@ use Rattle.std.specs.Prelude.{All}
 use Rattle.std.specs.Global.{Vec}
 use Rattle.std.proofs.lemmas.List.{length-map}
 use Rattle.search_terms.specs.Rows.{Row, number}
-use Rattle.frac_master.specs.Table.{rows_of}
-use Rattle.frac_master.specs.Clearing.{at_row}
+use Rattle.kept_rows.specs.Table.{rows_of}
+use Rattle.kept_rows.specs.Clearing.{at_row}
 use Rattle.frac_master.specs.Columns.{AreWidened, HasRoom}
 use Rattle.frac_master.proofs.Cleared.{read, written}
 

@@ -9,7 +9,7 @@ use Rattle.search_terms.specs.Pivot.{IsBounding, IsLeast, IsLeaving, IsRatioUpTo
 use Rattle.std.proofs.Common.{List}
 use Rattle.std.proofs.lemmas.List.{length-map}
 use Rattle.std.specs.Global.{Vec}
-use Rattle.frac_master.specs.Table.{table}
+use Rattle.kept_rows.specs.Table.{table}
 use Rattle.frac_master.specs.Choosing.{IsBefore, IsBehind, IsBest, IsRatioFault}
 use Rattle.crew_num.specs.declared.Overflow.{Overflow}
 use Rattle.crew_num.specs.Ratios.{IsFirstProduct}

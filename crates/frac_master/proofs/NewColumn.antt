@@ -15,13 +15,13 @@ use Rattle.crew_terms.specs.Limits.{Route}
 use Rattle.crew_terms.specs.Totals.{total-same}
 use Rattle.search_terms.specs.Overflows.{IsOfSum}
 use Rattle.search_terms.specs.Overflows.IsOfSum.{Product, Sum}
-use Rattle.frac_master.specs.Table.{rows_of, table}
+use Rattle.kept_rows.specs.Table.{rows_of, table}
 use Rattle.frac_master.specs.State.{MasterState}
 use Rattle.frac_master.specs.Adding.{Adds, AddsOn, IsColumnFault}
 use Rattle.frac_master.specs.declared.solved.Added.{Added}
 use Rattle.frac_master.specs.declared.solved.Added.TheVariants.{Overflow as OverflowedAdd}
 use Rattle.std.specs.Prelude.{None, MatchOption}
-use Rattle.frac_master.specs.Sums.{sum_to}
+use Rattle.kept_rows.specs.Sums.{sum_to}
 use Rattle.frac_master.specs.Columns.{AreWidened, IsColumn, IsRowFault, entry_of}
 
 list_ext : {A : Type 0} (xs ys : List A) (d : A) → length xs ≡ length ys → ((k : ℕ) → k < length xs → get_or xs k d ≡ get_or ys k d) → xs ≡ ys

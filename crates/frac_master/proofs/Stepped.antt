@@ -9,9 +9,9 @@ use Rattle.search_terms.specs.Rows.{Rows, number, row_of, value_row, width, AreB
 use Rattle.search_terms.specs.Pivot.{IsEntering, IsLeaving}
 use Rattle.search_terms.specs.Overflows.{IsOfPivot, IsNumberOfPivot}
 use Rattle.search_terms.specs.Overflows.IsOfPivot.{Ratio, OfRow, OfPivotRow, OfBoth}
-use Rattle.frac_master.specs.Table.{rows_of, table}
+use Rattle.kept_rows.specs.Table.{rows_of, table}
 use Rattle.frac_master.specs.Choosing.{IsRatioFault}
-use Rattle.frac_master.specs.Clearing.{IsClearingFault}
+use Rattle.kept_rows.specs.Clearing.{IsClearingFault}
 use Rattle.frac_master.specs.Stepping.{IsPivotFault}
 
 pub value_row_is : (rows : List (Vec ℤ)) (basis : List ℕ) → value_row (table rows basis) ≡ get_or (rows_of rows) (length rows - 1) []

@@ -23,7 +23,7 @@ use Rattle.share_terms.specs.Shares.{unassigned_of}
 use Rattle.search_terms.specs.BasicChoice.{AreWholeParts, choice_of, is_unassigned_at}
 use Rattle.master_laws.specs.Opening.{wide_opening, above_of}
 use Rattle.frac_master.specs.declared.shares.Share.{Share}
-use Rattle.frac_master.specs.Table.{table}
+use Rattle.kept_rows.specs.Table.{table}
 use Rattle.frac_master.specs.Follows.{FollowsRun}
 use Rattle.frac_master.specs.Kept.{IsLive, kept}
 use Rattle.frac_master.specs.declared.master.Master.TheInside.{Inside}

@@ -7,8 +7,8 @@ use Rattle.search_terms.specs.declared.Place.{Place}
 use Rattle.search_terms.specs.Rows.{Row, number}
 use Rattle.search_terms.specs.Opening.{basics, cost_sum, opening_basis, visit_number}
 use Rattle.crew_terms.specs.Limits.{Route}
-use Rattle.frac_master.specs.Clearing.{at_row}
-use Rattle.frac_master.specs.Sums.{IsSumFault, sum_to}
+use Rattle.kept_rows.specs.Clearing.{at_row}
+use Rattle.kept_rows.specs.Sums.{IsSumFault, sum_to}
 
 abbrev pub route_of : ℕ → List Visit → Route
 route_of team visits = record { team = team; visits = visits }

@@ -6,7 +6,7 @@ use Rattle.search_terms.specs.Rows.{Rows, row_of, width, AreBasic}
 use Rattle.search_terms.specs.declared.TheConstants.{VALUE}
 use Rattle.search_terms.specs.Pivot.{IsBounding, IsImproving, IsOptimal, IsPivot}
 use Rattle.search_terms.specs.Overflows.{IsOfPivot}
-use Rattle.frac_master.specs.Replacement.{IsLowest}
+use Rattle.kept_rows.specs.Replacement.{IsLowest}
 
 -- the variable at place v can enter at row h
 pub record CanPivot (t : Rows) (v h : ℕ) : Type 0 where

@@ -1,6 +1,6 @@
 use Rattle.std.proofs.Common.{◌≡◌, ◌+◌, suc, arith, subst}
 use Rattle.search_terms.specs.Pivot.{ArePivots}
-use Rattle.frac_master.specs.Table.{table}
+use Rattle.kept_rows.specs.Table.{table}
 use Rattle.frac_master.specs.Stepping.{Steps}
 use Rattle.frac_master.proofs.running.run.Goals as goal
 

@@ -1,5 +1,5 @@
 use Rattle.search_terms.specs.Pivot.{ArePivots}
-use Rattle.frac_master.specs.Table.{table}
+use Rattle.kept_rows.specs.Table.{table}
 use Rattle.frac_master.proofs.running.run.Given as goal
 
 abbrev pub invariant-loop-made : goal.invariant-loop-made

@@ -1,6 +1,6 @@
 use Rattle.std.proofs.Common.{◌<◌, get_or, length, arith, refl}
 use Rattle.std.proofs.lemmas.Result.{err_from_is_err_and}
-use Rattle.frac_master.specs.Table.{table}
+use Rattle.kept_rows.specs.Table.{table}
 use Rattle.frac_master.proofs.LowestShares.{common_none, common_more, common_fault}
 use Rattle.frac_master.proofs.shares.common_denominator.Goals as goal
 

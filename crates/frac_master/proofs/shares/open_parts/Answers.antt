@@ -2,7 +2,7 @@ use Rattle.std.proofs.Common.{◌≡◌, ◌<◌, ◌+◌, ◌∙◌, ap, sym, a
 use Rattle.search_terms.specs.declared.Place.TheVariants.{Right}
 use Rattle.search_terms.specs.BasicChoice.{is_unassigned_at}
 use Rattle.search_terms.specs.Opening.{places_where}
-use Rattle.frac_master.specs.Table.{table}
+use Rattle.kept_rows.specs.Table.{table}
 use Rattle.frac_master.specs.Shares.{parts_at}
 use Rattle.frac_master.proofs.Walked.{sum_where_front, sum_where_more}
 use Rattle.frac_master.proofs.shares.open_parts.Goals as goal

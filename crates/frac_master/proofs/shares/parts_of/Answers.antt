@@ -1,5 +1,5 @@
 use Rattle.std.proofs.Common.{arith}
-use Rattle.frac_master.specs.Table.{table}
+use Rattle.kept_rows.specs.Table.{table}
 use Rattle.frac_master.proofs.LowestShares.{parts_is}
 use Rattle.frac_master.proofs.shares.parts_of.Goals as goal
 

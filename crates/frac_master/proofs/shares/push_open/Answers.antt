@@ -3,7 +3,7 @@ use Rattle.std.specs.List.{range_with_len}
 use Rattle.std.proofs.lemmas.List.FromFn.{map-range_with_len_more}
 use Rattle.search_terms.specs.BasicChoice.{is_unassigned_at}
 use Rattle.search_terms.specs.Opening.{places_where}
-use Rattle.frac_master.specs.Table.{table}
+use Rattle.kept_rows.specs.Table.{table}
 use Rattle.frac_master.specs.Shares.{parts_at}
 use Rattle.frac_master.proofs.LowestShares.{signed}
 use Rattle.frac_master.proofs.Ranges.{grown}

@@ -2,7 +2,7 @@ use Rattle.std.proofs.Common.{◌≡◌, ◌++◌, map, pos, sum_by}
 use Rattle.std.specs.List.{range_with_len}
 use Rattle.search_terms.specs.Opening.{places_where}
 use Rattle.search_terms.specs.BasicChoice.{is_unassigned_at}
-use Rattle.frac_master.specs.Table.{table}
+use Rattle.kept_rows.specs.Table.{table}
 use Rattle.frac_master.specs.Shares.{parts_at}
 use Rattle.frac_master.proofs.shares.push_open.Given as goal
 

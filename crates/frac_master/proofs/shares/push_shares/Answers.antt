@@ -1,6 +1,6 @@
 use Rattle.std.proofs.Common.{◌<◌, ◌≤◌, ◌+◌, ◌^◌, ◌++◌, ◌∷◌, [], ◌∙◌, ℤ, List, ap, sym, subst, arith, cond, get_or, length, take, pos, append-nil}
 use Rattle.frac_master.specs.declared.shares.Share.{Share}
-use Rattle.frac_master.specs.Table.{table}
+use Rattle.kept_rows.specs.Table.{table}
 use Rattle.frac_master.specs.Shares.{column_shares, parts_at}
 use Rattle.frac_master.proofs.LowestShares.{signed}
 use Rattle.frac_master.proofs.Ranges.{grown}

@@ -1,5 +1,5 @@
 use Rattle.std.proofs.Common.{◌≡◌, ◌++◌, take}
-use Rattle.frac_master.specs.Table.{table}
+use Rattle.kept_rows.specs.Table.{table}
 use Rattle.frac_master.specs.Shares.{column_shares, parts_at}
 use Rattle.frac_master.proofs.shares.push_shares.Given as goal
 

@@ -2,7 +2,7 @@ use Rattle.std.proofs.Common.{◌<◌, ◌∙◌, sym, subst, rules, length, get
 use Rattle.std.specs.Int.{w128}
 use Rattle.std.proofs.lemmas.Int.{to_z-of_z}
 use Rattle.search_terms.specs.Rows.{number}
-use Rattle.frac_master.specs.Table.{table}
+use Rattle.kept_rows.specs.Table.{table}
 use Rattle.frac_master.proofs.LowestShares.{lowest_idle, lowest_basic, factor_positive, row_bound}
 use Rattle.frac_master.proofs.shares.share_at.Goals as goal
 

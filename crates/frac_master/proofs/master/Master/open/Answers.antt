@@ -8,7 +8,7 @@ use Rattle.search_terms.specs.Opening.{places}
 use Rattle.search_terms.specs.MasterRun.{IsMasterRun, IsRunOver}
 use Rattle.crew_terms.specs.Instance.{Instance}
 use Rattle.search_terms.specs.MasterRun.MasterRun.{Opens}
-use Rattle.frac_master.specs.Table.{table}
+use Rattle.kept_rows.specs.Table.{table}
 use Rattle.frac_master.specs.State.{MasterState}
 use Rattle.frac_master.specs.Numbers.{IsKnown}
 use Rattle.frac_master.proofs.Opened.{opened_rows, width_pushed, all_filter, fewer, known_from}

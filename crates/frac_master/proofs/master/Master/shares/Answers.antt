@@ -5,7 +5,7 @@ use Rattle.search_terms.specs.Overflows.{OverflowAt}
 use Rattle.search_terms.specs.Pivot.{IsOptimal}
 use Rattle.frac_master.specs.Follows.{FollowsRun}
 use Rattle.frac_master.specs.Shares.{GivesShares, IsOptimalChoice, basic_choice, parts_at}
-use Rattle.frac_master.specs.Table.{table}
+use Rattle.kept_rows.specs.Table.{table}
 use Rattle.frac_master.proofs.WholeShares.{fault_belongs, gives_fault, gives_shares, of_state, parts_of_run}
 use Rattle.frac_master.proofs.master.Master.shares.Goals as goal
 

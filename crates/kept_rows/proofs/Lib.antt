@@ -1,0 +1,3 @@
+pub mod CommonFactor
+pub mod Alone
+pub mod Cleared
