@@ -6,7 +6,7 @@ use Rattle.std.proofs.Math.Nat.{dvd-mul_right}
 use Rattle.std.proofs.Math.IntN.{*ℤ_comm, neg_ℤ}
 use Rattle.std.proofs.lemmas.Int.{ints, quot-rem}
 use Rattle.search_terms.specs.Rows.{Row, number}
-use Rattle.kept_rows.specs.Replacement.{IsFactor}
+use Rattle.kept_rows.specs.Replacement.{IsDivided, IsFactor}
 use Rattle.kept_rows.specs.Factor.{IsCovered}
 
 -- of the first numbers, and of the number start
@@ -67,4 +67,13 @@ divided_more g old row i z below h e = record {
       (λ k lt. let ne : k ≢ i = omega arith in ap (λ y. g *ℤ y) (get_or-set_other row i k z (pos 0) ne) ∙ h.done k lt)
       (ap (λ y. g *ℤ y) (get_or-set_same row i z (pos 0) below) ∙ e);
   kept = λ k le. let ne : k ≢ i = omega arith in get_or-set_other row i k z (pos 0) ne ∙ h.kept k (omega arith);
+}
+
+pub divided_all : (old row : Row) (g v i : ℕ) → v ≡ g → 0 < g → IsFactor old g → length row ≡ length old → length old ≤ i → IsDividedTo (pos v) old row i → IsDivided old row
+divided_all old row g v i e some is wide le h = record {
+  factor = g;
+  is = is;
+  some = some;
+  width = wide;
+  each = λ j lt. subst (λ q. pos q *ℤ number row j ≡ number old j) e (h.done j (omega arith));
 }

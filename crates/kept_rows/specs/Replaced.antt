@@ -17,13 +17,13 @@ pub record IsCombined (p e : ℤ) (pivot row new : Row) : Type 0 where
 -- rows of which w numbers are kept; the variable at place v enters at the pivot row, and that at place basic is the basic one
 -- of the other row
 pub record CanReplace (w : ℕ) (columns : List Column) (pivot row : Row) (v basic : ℕ) : Type 0 where
-  pub columns : AreColumns w columns
-  pub pivot : IsKeptRow w columns pivot
-  pub row : IsKeptRow w columns row
+  pub combine : AreColumns w columns
+  pub pivot_kept : IsKeptRow w columns pivot
+  pub row_kept : IsKeptRow w columns row
   pub place : v < length columns
   pub known : basic < length columns
   pub entry : pos 0 <ℤ number (full columns pivot) v
-  pub basic : pos 0 <ℤ number (full columns row) basic
+  pub positive : pos 0 <ℤ number (full columns row) basic
   pub idle : number (full columns pivot) basic ≡ pos 0
 
 -- each step of the replacement lies in i128, at all variables
@@ -51,5 +51,5 @@ IsMost columns row most = IfSome most (λ m. (j : ℕ) → j < length columns �
 pub record AreLowered (p e : ℤ) (l : Lowered) : Type 0 where
   pub factor : ℕ
   pub some : 0 < factor
-  pub p : pos factor *ℤ l.p ≡ p
-  pub e : pos factor *ℤ l.e ≡ e
+  pub raised : pos factor *ℤ l.p ≡ p
+  pub taken : pos factor *ℤ l.e ≡ e

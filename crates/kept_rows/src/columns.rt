@@ -1,6 +1,7 @@
 // Columns, as combinations of the numbers that are kept of a row.
 
-ghost use Rattle.std.specs.Prelude.{◌≡◌, length, IfOk};
+ghost use Rattle.std.specs.Prelude.{◌≡◌, ◌+ℤ◌, ◌*ℤ◌, length, IfOk};
+ghost use Rattle.std.specs.Int.{int_wrap, w128};
 ghost use Rattle.crew_num.specs.Exact.{FitsI128};
 ghost use Rattle.kept_rows.specs.Columns.{Combines, IsKnownIn, IsOnly, entry_in};
 
@@ -38,6 +39,13 @@ pub fn only(alloc: Global, place: usize) -> Result<Column, AllocError>
     Ok(Column { at, numbers })
 }
 
+/// sum + a * b, of which the lower 128 bits count.
+fn wrapped(sum: i128, a: i128, b: i128) -> i128
+    ensures { result ≡ int_wrap w128 (sum +ℤ (a *ℤ b)) }
+{
+    sum.wrapping_add(a.wrapping_mul(b))
+}
+
 /// The number that a row has in the column, which lies in i128. The sum may wrap on its way.
 pub fn entry(row: &[i128], column: &Column) -> i128
     requires known { IsKnownIn (length row.now) column.now }
@@ -46,8 +54,7 @@ pub fn entry(row: &[i128], column: &Column) -> i128
 {
     let mut sum: i128 = 0;
     for h in 0..column.at.len() {
-        let product = row[column.at[h]].wrapping_mul(column.numbers[h]);
-        sum = sum.wrapping_add(product);
+        sum = wrapped(sum, row[column.at[h]], column.numbers[h]);
     }
     sum
 }

@@ -1,6 +1,6 @@
 // The replacement of what is kept of a row.
 
-ghost use Rattle.std.specs.Prelude.{◌≡◌, ◌<◌, ◌<ℤ◌, ℕ, pos, length};
+ghost use Rattle.std.specs.Prelude.{◌≡◌, ◌<◌, ◌<ℤ◌, ◌*ℤ◌, ◌-ℤ◌, ℕ, pos, length};
 ghost use Rattle.crew_num.specs.Exact.{StepsFit};
 ghost use Rattle.search_terms.specs.Rows.{number};
 ghost use Rattle.kept_rows.specs.Columns.{full};
@@ -8,7 +8,19 @@ ghost use Rattle.kept_rows.specs.Replaced.{AllFit, AreLowered, CanReplace, IsCom
 
 use crate::columns::{Column, entry};
 use crate::factors::divide;
+use crate::quotients::Factor;
 use crew_num::gcd_of;
+
+/// p * a - e * b. Most numbers of a pivot row are 0, and most factors 1.
+fn difference(p: i128, a: i128, e: i128, b: i128) -> i128
+    requires { StepsFit p a e b }
+    ensures { result ≡ (p *ℤ a) -ℤ (e *ℤ b) }
+{
+    if b == 0 {
+        return if p == 1 { a } else { p * a };
+    }
+    p * a - e * b
+}
 
 /// Makes each number of the row p times it, less e times the pivot row's.
 fn combine(row: &mut [i128], pivot: &[i128], p: i128, e: i128)
@@ -18,11 +30,7 @@ fn combine(row: &mut [i128], pivot: &[i128], p: i128, e: i128)
     ensures { IsCombined p e pivot.now row.old row.new }
 {
     for j in 0..row.len() {
-        if pivot[j] != 0 {
-            row[j] = p * row[j] - e * pivot[j];
-        } else if p != 1 {
-            row[j] = p * row[j];
-        }
+        row[j] = difference(p, row[j], e, pivot[j]);
     }
 }
 
@@ -38,10 +46,10 @@ fn over_factor(p: i128, e: i128) -> Lowered
     requires { pos 0 <ℤ p }
     ensures { AreLowered p e result }
 {
-    let factor = gcd_of(p.unsigned_abs(), e.unsigned_abs()) as i128;
+    let factor = Factor::of(gcd_of(p.unsigned_abs(), e.unsigned_abs()));
     Lowered {
-        p: p / factor,
-        e: e / factor,
+        p: factor.quotient(p),
+        e: factor.quotient(e),
     }
 }
 
