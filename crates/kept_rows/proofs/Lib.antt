@@ -6,3 +6,5 @@ pub mod Steps
 pub mod NewRow
 pub mod Combining
 pub mod Reached
+pub mod Formed
+pub mod FullRows

@@ -90,7 +90,8 @@ pub fn most(columns: &[Column], reach: Option<Reach>, row: &[i128]) -> Option<u1
     let last = row.len() - 2;
     let others = reach.others.checked_mul(most_but(row, last))?;
     let ending = reach.last.checked_mul(row[last].unsigned_abs())?;
-    others.checked_add(ending)
+    let sum = others.checked_add(ending)?;
+    Some(sum)
 }
 
 /// Whether the products of a and numbers that are at most so great are less than half of what i128 has.

@@ -1,6 +1,6 @@
-use Rattle.kept_rows.specs.Table.{rows_of}
-use Rattle.kept_rows.proofs.Cleared.{IsClearedTo}
+use Rattle.std.proofs.Common.{length}
+use Rattle.kept_rows.proofs.FullRows.{AreClearedTo}
 use Rattle.kept_rows.proofs.clearing.clear.Given as goal
 
 abbrev pub invariant-loop-i : goal.invariant-loop-i
-invariant-loop-i l = IsClearedTo l.pivot l.h l.v (rows_of l.fn.rows) (rows_of l.rows) l.i
+invariant-loop-i l = AreClearedTo (length l.pivot) l.columns l.pivot l.h l.v l.fn.rows l.rows l.i
