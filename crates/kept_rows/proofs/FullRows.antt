@@ -8,7 +8,8 @@ use Rattle.search_terms.specs.Rows.{Row, number}
 use Rattle.kept_rows.specs.Clearing.{CanClear, IsClearingFault, at_row}
 use Rattle.kept_rows.specs.Columns.{AreColumns, IsKeptRow, full, full_rows}
 use Rattle.kept_rows.specs.Replaced.{CanReplace}
-use Rattle.kept_rows.specs.Replacement.{IsLowest}
+use Rattle.crew_num.specs.declared.Overflow.{Overflow}
+use Rattle.kept_rows.specs.Replacement.{IsFirstFault, IsLowest}
 use Rattle.kept_rows.specs.Table.{rows_of}
 use Rattle.kept_rows.specs.declared.columns.Column.{Column}
 use Rattle.kept_rows.proofs.Cleared.{IsClearedTo}
@@ -70,3 +71,7 @@ can_replace w columns pivot h v old rows basis i d lt ne can cs kp a =
       lowest = subst IsLowest (sym same) (can.lowest i in');
       same = same;
     }
+
+pub clearing_fault : (columns : List Column) (pivot : Row) (h v : ℕ) (old : List (Vec ℤ)) (i : ℕ) (f : Overflow) → i < length old → i ≢ h
+    → IsFirstFault (full columns pivot) v (at_row (full_rows columns old) i) f → IsClearingFault (full columns pivot) h v (full_rows columns old) f
+clearing_fault columns pivot h v old i f lt ne first = record { i = i; known = omega (arith, rows_length columns old); other = ne; first = first }

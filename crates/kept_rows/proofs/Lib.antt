@@ -8,3 +8,7 @@ pub mod Combining
 pub mod Reached
 pub mod Formed
 pub mod FullRows
+pub mod Added
+pub mod Views
+pub mod Sparse
+pub mod Listed
