@@ -12,3 +12,4 @@ pub mod Added
 pub mod Views
 pub mod Sparse
 pub mod Listed
+pub mod Pivoting

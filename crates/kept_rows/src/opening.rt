@@ -50,8 +50,19 @@ pub fn opening_columns(
     Ok(columns)
 }
 
+/// The same places.
+pub fn copy_of(alloc: Global, places: &[usize]) -> Result<Vec<usize>, AllocError>
+    ensures { IfOk result (λ v. v.items ≡ places.now) }
+{
+    let mut copy = Vec::new(alloc);
+    for j in places {
+        copy.push(*j)?;
+    }
+    Ok(copy)
+}
+
 /// The row's numbers at the openers, and the right side.
-fn kept_row(alloc: Global, row: &[i128], openers: &[usize]) -> Result<Vec<i128>, AllocError>
+pub fn kept_row(alloc: Global, row: &[i128], openers: &[usize]) -> Result<Vec<i128>, AllocError>
     requires right { RIGHT < length row.now }
     requires known { All (λ j. j < length row.now) openers.now }
     ensures { IfOk result (λ v. v.items ≡ kept_of openers.now row.now) }

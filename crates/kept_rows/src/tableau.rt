@@ -12,7 +12,7 @@ ghost use Rattle.kept_rows.specs.Table.{table};
 use crate::bounds::{Reach, reach_with};
 use crate::clearing::clear;
 use crate::columns::{Column, column_of, entry};
-use crate::opening::{kept_rows, opening_columns};
+use crate::opening::{copy_of, kept_row, kept_rows, opening_columns};
 use crate::sums::form_sums;
 use crew_num::Overflow;
 use std::alloc::{AllocError, Global};
@@ -71,8 +71,8 @@ impl Tableau {
     {
         let columns = opening_columns(alloc, rows, rows[rows.len() - 1].len())?;
         let kept = kept_rows(alloc, rows, &basis)?;
-        let openers = basis.clone()?;
-        let room = kept[0].clone()?;
+        let openers = copy_of(alloc, &basis)?;
+        let room = kept_row(alloc, &rows[0], &basis)?;
         let reach = reach_of_all(&columns, openers.len() - 1);
         Ok(Tableau {
             alloc,
