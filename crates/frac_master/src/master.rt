@@ -194,7 +194,10 @@ impl Master {
         run_keeps();
         strong_duality();
         let last = self.table.height() - 1;
-        Ok((self.table.number(last, RIGHT), self.table.number(last, VALUE)))
+        Ok((
+            self.table.number(last, RIGHT),
+            self.table.number(last, VALUE),
+        ))
     }
 
     /// Makes `out` the positive shares of routes by rising column, and `left_open` the unassigned share of each task, 0 for a
@@ -243,13 +246,7 @@ impl Master {
             Err(fault) => Ok(Err(fault)),
             Ok(whole) => {
                 push_shares(out, &self.table, &self.columns, first, whole)?;
-                push_open(
-                    left_open,
-                    &self.table,
-                    &self.places,
-                    self.tasks,
-                    whole,
-                )?;
+                push_open(left_open, &self.table, &self.places, self.tasks, whole)?;
                 Ok(Ok(whole as i128))
             }
         }

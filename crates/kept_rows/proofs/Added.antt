@@ -1,5 +1,5 @@
 -- a further variable
-use Rattle.std.proofs.Common.{◌≡◌, ◌≢◌, ◌<◌, ◌≤◌, ◌+◌, ◌-◌, ◌++◌, ◌∷◌, ◌∙◌, ◌⊎◌, inl, inr, ℕ, ℤ, suc, List, [], length, get_or, map, refl, ap, sym, subst, arith, All, slice_index, length-append}
+use Rattle.std.proofs.Common.{◌≡◌, ◌<◌, ◌≤◌, ◌++◌, ◌∷◌, ◌∙◌, ◌⊎◌, inl, inr, ℕ, ℤ, List, [], length, get_or, map, refl, ap, sym, subst, arith, All, slice_index, length-append}
 use Rattle.std.specs.Prelude.{pos, ◌*ℤ◌, Option, None, Some, IfSome}
 use Rattle.std.specs.Global.{Vec}
 use Rattle.std.proofs.Math.Seq.{get_or-append_seam}
@@ -8,9 +8,8 @@ use Rattle.std.proofs.lemmas.List.{map-append, get_or-map, length-map, get_or_ap
 use Rattle.std.proofs.lemmas.List.Elements.{All-push}
 use Rattle.crew_num.specs.declared.Overflow.{Overflow}
 use Rattle.crew_num.specs.Exact.{FitsI128}
-use Rattle.crew_terms.specs.Total.{total}
 use Rattle.crew_terms.specs.Totals.{total-same}
-use Rattle.search_terms.specs.Rows.{Row, Rows, number}
+use Rattle.search_terms.specs.Rows.{Row, number}
 use Rattle.kept_rows.specs.Bounds.{IsReachWith}
 use Rattle.kept_rows.specs.Clearing.{at_row}
 use Rattle.kept_rows.specs.Columns.{Combines, IsKeptRow, IsKnownIn, entry_in, full, full_rows}

@@ -1,5 +1,5 @@
 -- a step of a combination
-use Rattle.std.proofs.Common.{◌≡◌, ◌≢◌, ◌<◌, ◌≤◌, ◌+◌, ℕ, ℤ, pos, ◌-ℤ◌, ◌*ℤ◌, length, set, arith, ap, ◌∙◌, subst, refl, length-set, get_or-set_same, get_or-set_other, below_more}
+use Rattle.std.proofs.Common.{◌≡◌, ◌≢◌, ◌<◌, ◌≤◌, ◌+◌, ℕ, ℤ, pos, ◌-ℤ◌, ◌*ℤ◌, length, set, arith, ap, ◌∙◌, refl, length-set, get_or-set_same, get_or-set_other, below_more}
 use Rattle.search_terms.specs.Rows.{Row, number}
 use Rattle.kept_rows.specs.Replaced.{IsCombined}
 

@@ -1,7 +1,7 @@
 -- the greatest common factor of the first numbers of a row
-use Rattle.std.proofs.Common.{◌≡◌, ◌<◌, ◌≤◌, ◌+◌, ℕ, zero, suc, refl, ℤ, pos, negsuc, int_div, int_rem, ◌*ℤ◌, ◌<ℤ◌, length, arith, ap, sym, ◌∙◌, subst, below_more, unsigned_abs, set, get_or-set_same, get_or-set_other, ◌≢◌, FitsSigned}
-use Rattle.std.specs.Int.{◌∣◌, IsGcd, w128}
-use Rattle.std.proofs.lemmas.Nat.Gcd.{dvd_antisymm, dvd_trans, dvd-zero, le_of_dvd, mod-eq-zero_of_dvd}
+use Rattle.std.proofs.Common.{◌≡◌, ◌<◌, ◌≤◌, ◌+◌, ℕ, zero, suc, ℤ, pos, negsuc, int_div, int_rem, ◌*ℤ◌, length, arith, ap, ◌∙◌, subst, below_more, unsigned_abs, set, get_or-set_same, get_or-set_other, ◌≢◌}
+use Rattle.std.specs.Int.{◌∣◌, IsGcd}
+use Rattle.std.proofs.lemmas.Nat.Gcd.{dvd_antisymm, dvd_trans, dvd-zero, mod-eq-zero_of_dvd}
 use Rattle.std.proofs.Math.Nat.{dvd-mul_right}
 use Rattle.std.proofs.Math.IntN.{*ℤ_comm, neg_ℤ}
 use Rattle.std.proofs.lemmas.Int.{ints, quot-rem}

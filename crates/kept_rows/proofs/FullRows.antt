@@ -1,9 +1,9 @@
 -- the rows of which numbers are kept
-use Rattle.std.proofs.Common.{◌≡◌, ◌≢◌, ◌<◌, ◌≤◌, ◌+◌, ◌∙◌, ℕ, ℤ, List, [], length, set, get_or, map, refl, ap, sym, subst, arith, All}
+use Rattle.std.proofs.Common.{◌≡◌, ◌≢◌, ◌<◌, ◌∙◌, ℕ, ℤ, List, [], length, set, get_or, map, ap, sym, subst, arith, All}
 use Rattle.std.specs.Prelude.{pos, ◌<ℤ◌}
 use Rattle.std.specs.Global.{Vec}
 use Rattle.std.proofs.lemmas.List.{map-set, get_or-map, length-map}
-use Rattle.std.proofs.lemmas.List.Elements.{All-set, All-get_or}
+use Rattle.std.proofs.lemmas.List.Elements.{All-set}
 use Rattle.search_terms.specs.Rows.{Row, number}
 use Rattle.kept_rows.specs.Clearing.{CanClear, IsClearingFault, at_row}
 use Rattle.kept_rows.specs.Columns.{AreColumns, IsKeptRow, full, full_rows}

@@ -13,3 +13,4 @@ pub mod Views
 pub mod Sparse
 pub mod Listed
 pub mod Pivoting
+pub mod Opens

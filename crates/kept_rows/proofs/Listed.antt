@@ -1,13 +1,15 @@
 -- steps along rows
 use Rattle.std.proofs.Common.{◌≡◌, ◌<◌, ◌≤◌, ◌+◌, ◌++◌, ◌∷◌, ◌∙◌, ℕ, ℤ, List, [], length, take, get_or, map, ap, sym, subst, arith, All, below_more}
-use Rattle.std.specs.Prelude.{pos, Option, None, Some, IfSome}
+use Rattle.std.specs.Prelude.{Option, None, Some, IfSome}
 use Rattle.std.specs.Global.{Vec}
 use Rattle.std.proofs.lemmas.List.{map-append, map_more, get_or-map, length-map, get_or_default}
 use Rattle.crew_num.specs.declared.Overflow.{Overflow}
 use Rattle.search_terms.specs.Rows.{Row, number}
 use Rattle.kept_rows.specs.Bounds.{IsReachWith}
 use Rattle.kept_rows.specs.Forming.{IsFormingFault, IsRunningFault}
-use Rattle.kept_rows.specs.Opening.{column_numbers}
+use Rattle.kept_rows.specs.Opening.{column_numbers, kept_of}
+use Rattle.kept_rows.specs.Clearing.{at_row}
+use Rattle.crew_num.specs.Exact.{FitsI128}
 use Rattle.kept_rows.specs.Replaced.{AreWithin, IsWithin}
 use Rattle.kept_rows.specs.Table.{rows_of}
 use Rattle.kept_rows.specs.declared.columns.Column.{Column}
@@ -49,9 +51,26 @@ within_step last columns i c before None lt is all w = tt
 within_step last columns i c before (Some r) lt is all w =
     let a = subst (λ o. IfSome o (λ r. (k : ℕ) (d : Column) → k < i → k < length columns → IsWithin last r (get_or columns k d))) w.is all in
     λ k d below in'. below_more (λ k. k < length columns → IsWithin last r (get_or columns k d)) i
-        (λ k lt' in''. within_greater last w.was r (get_or columns k d) w.others w.ending (a k d lt' in''))
-        (λ in''. subst (IsWithin last r) (is ∙ get_or_default columns i c d in'') w.within) k below in'
+    (λ k lt' in''. within_greater last w.was r (get_or columns k d) w.others w.ending (a k d lt' in''))
+    (λ in''. subst (IsWithin last r) (is ∙ get_or_default columns i c d in'') w.within) k below in'
 
 pub within_all : (last : ℕ) (columns : List Column) (i : ℕ) (reach : Option Reach) → length columns ≤ i → AreWithinTo last reach columns i → AreWithin last reach columns
 within_all last columns i None le all = tt
 within_all last columns i (Some r) le all = λ k d lt. all k d (omega arith) lt
+
+-- of the first i rows these are kept
+pub record AreKeptTo (rows : List (Vec ℤ)) (openers : List ℕ) (i : ℕ) (all : List (Vec ℤ)) : Type 0 where
+  pub kept : rows_of all ≡ map (kept_of openers) (rows_of (take i rows))
+  pub fits : (k j : ℕ) → k < i → FitsI128 (number (at_row (rows_of rows) k) j)
+
+pub kept_more : (rows : List (Vec ℤ)) (openers : List ℕ) (i : ℕ) (all new : List (Vec ℤ)) (row v : Vec ℤ) → i < length rows → row ≡ get_or rows i row → AreKeptTo rows openers i all
+    → v.items ≡ kept_of openers row.items → ((j : ℕ) → FitsI128 (number row.items j)) → new ≡ all ++ v ∷ [] → AreKeptTo rows openers (i + 1) new
+kept_more rows openers i all new row v lt is a e fits n =
+    let g : Vec ℤ → Row = λ w. w.items in
+    record {
+      kept = ap rows_of n ∙ map-append g all (v ∷ []) ∙ ap (λ l. l ++ v.items ∷ []) a.kept ∙ ap (λ r. map (kept_of openers) (rows_of (take i rows)) ++ r ∷ []) (e ∙ ap (λ w. kept_of openers (g w)) is)
+          ∙ sym (map-append (kept_of openers) (rows_of (take i rows)) (g (get_or rows i row) ∷ []))
+          ∙ ap (map (kept_of openers)) (sym (map_more g rows i row lt));
+      fits = λ k j below. below_more (λ k. (j : ℕ) → FitsI128 (number (at_row (rows_of rows) k) j)) i (λ k lt' j. a.fits k j lt')
+          (λ j. subst (λ r. FitsI128 (number r j)) (ap g is ∙ sym (get_or-map g rows i row [] lt)) (fits j)) k below j;
+    }

@@ -1,6 +1,6 @@
 -- what is kept of a replaced row
-use Rattle.std.proofs.Common.{◌≡◌, ◌<◌, ◌≤◌, ◌*◌, ◌+◌, ◌^◌, ◌∙◌, ℕ, zero, suc, List, length, get_or, refl, ap, sym, subst, arith, All}
-use Rattle.std.specs.Prelude.{ℤ, pos, negsuc, ◌+ℤ◌, ◌-ℤ◌, ◌*ℤ◌, ◌<ℤ◌, unsigned_abs}
+use Rattle.std.proofs.Common.{◌≡◌, ◌<◌, ◌*◌, ◌^◌, ◌∙◌, ℕ, List, length, get_or, ap, sym, subst, arith, All}
+use Rattle.std.specs.Prelude.{ℤ, pos, ◌-ℤ◌, ◌*ℤ◌, ◌<ℤ◌, unsigned_abs}
 use Rattle.std.specs.Int.{◌∣◌}
 use Rattle.std.proofs.lemmas.Int.{ints, unsigned_abs-mul}
 use Rattle.std.proofs.Math.Nat.{mul-dvd-mul_left}
@@ -10,15 +10,15 @@ use Rattle.crew_num.specs.Exact.{FitsI128, StepsFit}
 use Rattle.crew_num.specs.Ring.{assoc, cancel_positive, positive, scale_diff}
 use Rattle.crew_num.specs.Scales.{times-times}
 use Rattle.search_terms.specs.Rows.{Row, number}
-use Rattle.search_terms.specs.Pivot.{IsReplaced, cleared}
-use Rattle.kept_rows.specs.Columns.{AreColumns, IsKeptRow, IsKnownIn, entry_in, full}
+use Rattle.search_terms.specs.Pivot.{cleared}
+use Rattle.kept_rows.specs.Columns.{AreColumns, IsKnownIn, entry_in, full}
 use Rattle.kept_rows.specs.Factor.{IsCovered}
 use Rattle.kept_rows.specs.Replaced.{AllFit, AreLowered, CanReplace, IsCombined, IsNewRow}
 use Rattle.kept_rows.specs.Replacement.{IsDivided, IsFactor}
 use Rattle.kept_rows.specs.declared.columns.Column.{Column}
 use Rattle.kept_rows.specs.declared.replacing.Lowered.{Lowered}
-use Rattle.kept_rows.proofs.Alone.{IsScaledTo, scaled_to}
-use Rattle.kept_rows.proofs.Entries.{combined_full, covered, full_at, full_length, some_column}
+use Rattle.kept_rows.proofs.Alone.{scaled_to}
+use Rattle.kept_rows.proofs.Entries.{combined_full, covered, full_length}
 use Rattle.kept_rows.proofs.Steps.{fits_part, steps_part}
 
 -- the kept numbers are among the row's, so their steps lie in i128

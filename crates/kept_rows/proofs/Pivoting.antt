@@ -1,11 +1,11 @@
 -- what a pivot asks and gives
-use Rattle.std.proofs.Common.{◌≡◌, ◌≢◌, ◌<◌, ◌-◌, ◌∙◌, ℕ, ℤ, suc, List, [], length, set, get_or, ap, sym, subst, arith, All}
+use Rattle.std.proofs.Common.{◌≡◌, ◌<◌, ◌∙◌, ℕ, ℤ, suc, List, length, set, get_or, ap, sym, subst, arith, All}
 use Rattle.std.specs.Prelude.{pos, ◌<ℤ◌}
 use Rattle.std.specs.Global.{Vec}
-use Rattle.search_terms.specs.Rows.{Row, Rows, number, row_of, basic_of, width, last}
+use Rattle.search_terms.specs.Rows.{Row, Rows, number, row_of, basic_of, width}
 use Rattle.search_terms.specs.Pivot.{IsPivotAt, IsReplaced}
 use Rattle.kept_rows.specs.Clearing.{AreCleared, CanClear}
-use Rattle.kept_rows.specs.Columns.{AreColumns, IsKnownIn, full, full_rows}
+use Rattle.kept_rows.specs.Columns.{AreColumns, IsKnownIn, full_rows}
 use Rattle.kept_rows.proofs.FullRows.{rows_length}
 use Rattle.kept_rows.specs.Kept.{HaveHomes}
 use Rattle.kept_rows.specs.State.{CanPivot}

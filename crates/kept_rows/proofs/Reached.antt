@@ -1,12 +1,12 @@
 -- how far columns reach
-use Rattle.std.proofs.Common.{◌≡◌, ◌≢◌, ◌<◌, ◌≤◌, ◌*◌, ◌+◌, ◌-◌, ◌^◌, ◌∙◌, ◌⊎◌, inl, inr, ℕ, zero, suc, List, length, get_or, ap, sym, subst, arith, All, slice_index}
-use Rattle.std.specs.Prelude.{ℤ, pos, ◌+ℤ◌, ◌*ℤ◌, unsigned_abs, Option, None, Some, IfSome}
+use Rattle.std.proofs.Common.{◌≡◌, ◌≢◌, ◌<◌, ◌≤◌, ◌*◌, ◌+◌, ◌∙◌, ◌⊎◌, inl, inr, ℕ, suc, List, length, ap, sym, subst, arith, All, slice_index}
+use Rattle.std.specs.Prelude.{ℤ, ◌+ℤ◌, ◌*ℤ◌, unsigned_abs, Option, Some, IfSome}
 use Rattle.std.proofs.lemmas.Int.{ints, unsigned_abs-mul}
 use Rattle.std.proofs.lemmas.Bool.{cases_eq}
 use Rattle.search_terms.specs.Rows.{Row, number}
 use Rattle.kept_rows.specs.Bounds.{IsFarther, IsGreater, IsReachWith, IsSmall}
-use Rattle.kept_rows.specs.Columns.{entry_in, full}
-use Rattle.kept_rows.specs.Replaced.{AllFit, AreWithin, IsMost, IsWithin}
+use Rattle.kept_rows.specs.Columns.{full}
+use Rattle.kept_rows.specs.Replaced.{AllFit, IsMost, IsWithin}
 use Rattle.kept_rows.specs.Sums.{sum_to}
 use Rattle.kept_rows.specs.declared.bounds.Reach.{Reach}
 use Rattle.kept_rows.specs.declared.columns.Column.{Column}

@@ -1,5 +1,5 @@
 -- sums without the terms that are 0
-use Rattle.std.proofs.Common.{◌≡◌, ◌<◌, ◌≤◌, ◌+◌, ◌++◌, ◌∷◌, ◌∙◌, ◌⊎◌, inl, inr, ℕ, ℤ, zero, suc, List, [], length, get_or, refl, ap, sym, subst, arith, slice_index, length-append}
+use Rattle.std.proofs.Common.{◌≡◌, ◌<◌, ◌≤◌, ◌+◌, ◌++◌, ◌∷◌, ◌∙◌, ◌⊎◌, inl, inr, ℕ, ℤ, suc, List, [], length, refl, ap, sym, arith, slice_index, length-append}
 use Rattle.std.specs.Prelude.{pos, ◌+ℤ◌, ◌*ℤ◌}
 use Rattle.std.proofs.Math.Seq.{get_or-append_seam}
 use Rattle.std.proofs.Math.IntN.{*ℤ-zero}
@@ -9,7 +9,7 @@ use Rattle.std.proofs.lemmas.List.{get_or_append_left}
 use Rattle.crew_terms.specs.Total.{total}
 use Rattle.crew_terms.specs.Totals.{total-same}
 use Rattle.search_terms.specs.Rows.{Row, number}
-use Rattle.kept_rows.specs.Columns.{Combines, entry_in}
+use Rattle.kept_rows.specs.Columns.{Combines}
 use Rattle.kept_rows.specs.Sums.{sum_to}
 use Rattle.kept_rows.specs.declared.columns.Column.{Column}
 

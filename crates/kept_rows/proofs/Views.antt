@@ -1,10 +1,9 @@
 -- the view of what is kept
-use Rattle.std.proofs.Common.{◌≡◌, ◌<◌, ◌-◌, ◌∙◌, ℕ, ℤ, suc, List, [], ◌∷◌, length, get_or, ap, sym, subst, arith, All}
+use Rattle.std.proofs.Common.{◌≡◌, ◌<◌, ◌-◌, ◌∙◌, ℕ, ℤ, List, [], ◌∷◌, length, get_or, ap, arith}
 use Rattle.std.specs.Global.{Vec}
-use Rattle.search_terms.specs.Rows.{Row, Rows, number, row_of, width}
-use Rattle.kept_rows.specs.Columns.{IsKeptRow, IsKnownIn, entry_in, full, full_rows}
+use Rattle.search_terms.specs.Rows.{Rows, width}
+use Rattle.kept_rows.specs.Columns.{full_rows}
 use Rattle.kept_rows.specs.Clearing.{at_row}
-use Rattle.kept_rows.specs.Table.{rows_of}
 use Rattle.kept_rows.specs.declared.columns.Column.{Column}
 use Rattle.kept_rows.proofs.Entries.{full_length}
 use Rattle.kept_rows.proofs.FullRows.{row_is, rows_length}

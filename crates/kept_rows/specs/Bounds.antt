@@ -1,5 +1,5 @@
 -- bounds of rows' numbers
-use Rattle.std.specs.Prelude.{◌≡◌, ◌≢◌, ◌≤◌, ◌<◌, ◌+◌, ◌*◌, ◌^◌, ℕ, ℤ, Option, Some, IfSome, unsigned_abs}
+use Rattle.std.specs.Prelude.{◌≡◌, ◌≢◌, ◌≤◌, ◌<◌, ◌+◌, ◌*◌, ◌^◌, ℕ, ℤ, Option, Some, unsigned_abs}
 use Rattle.kept_rows.specs.Replaced.{IsWithin}
 use Rattle.kept_rows.specs.declared.columns.Column.{Column}
 use Rattle.kept_rows.specs.declared.bounds.Reach.{Reach}

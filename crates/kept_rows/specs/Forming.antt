@@ -1,9 +1,8 @@
 -- the number of an entered variable in each row: a sum in order
-use Rattle.std.specs.Prelude.{◌≡◌, ◌≤◌, ◌<◌, ◌++◌, ◌∷◌, [], ℕ, ℤ, List, length, map, ◌*ℤ◌}
+use Rattle.std.specs.Prelude.{◌<◌, ◌++◌, ◌∷◌, [], ℕ, ℤ, List, length, map, ◌*ℤ◌}
 use Rattle.crew_num.specs.declared.Overflow.{Overflow}
-use Rattle.crew_num.specs.Exact.{FitsI128}
 use Rattle.crew_terms.specs.Total.{total}
-use Rattle.search_terms.specs.Rows.{Row, Rows, number}
+use Rattle.search_terms.specs.Rows.{Row, number}
 use Rattle.kept_rows.specs.Clearing.{at_row}
 use Rattle.kept_rows.specs.Sums.{IsAddFault, IsSumFault, sum_to}
 use Rattle.kept_rows.specs.State.{State}

@@ -1,10 +1,9 @@
 -- the replacement of what is kept of a row
-use Rattle.std.specs.Prelude.{◌≡◌, ◌<◌, ◌≤◌, ◌≢◌, ◌+◌, ◌*◌, ◌-◌, ℕ, ℤ, pos, ◌-ℤ◌, ◌*ℤ◌, ◌<ℤ◌, List, length, unsigned_abs, Option, IfSome, All}
+use Rattle.std.specs.Prelude.{◌≡◌, ◌<◌, ◌≤◌, ◌≢◌, ◌+◌, ◌*◌, ℕ, ℤ, pos, ◌-ℤ◌, ◌*ℤ◌, ◌<ℤ◌, List, length, unsigned_abs, Option, IfSome, All}
 use Rattle.crew_num.specs.Exact.{StepsFit}
 use Rattle.search_terms.specs.Rows.{Row, number}
 use Rattle.search_terms.specs.Pivot.{IsReplaced}
 use Rattle.kept_rows.specs.Columns.{AreColumns, IsKeptRow, entry_in, full}
-use Rattle.kept_rows.specs.Replacement.{IsLowest}
 use Rattle.kept_rows.specs.declared.columns.Column.{Column}
 use Rattle.kept_rows.specs.declared.bounds.Reach.{Reach}
 use Rattle.kept_rows.specs.declared.replacing.Lowered.{Lowered}

@@ -1,6 +1,6 @@
 -- rows, and the places of the variables with which they opened
-use Rattle.std.specs.Prelude.{◌≡◌, ◌≢◌, ◌<◌, ◌≤◌, ℕ, pos, List, [], length, slice_index_or}
-use Rattle.search_terms.specs.Rows.{Rows, Row, number, row_of, basic_of, width, AreBasic}
+use Rattle.std.specs.Prelude.{◌≡◌, ◌<◌, ℕ, pos, List, length}
+use Rattle.search_terms.specs.Rows.{Rows, number, row_of, basic_of, width, AreBasic}
 use Rattle.search_terms.specs.declared.TheConstants.{VALUE}
 use Rattle.search_terms.specs.Pivot.{IsBounding}
 use Rattle.kept_rows.specs.Replacement.{IsLowest}

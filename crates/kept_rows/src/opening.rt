@@ -1,7 +1,10 @@
 // What is kept of opening rows.
 
-ghost use Rattle.std.specs.Prelude.{◌≡◌, ◌<◌, length, All, IfOk, map};
+ghost use Rattle.std.specs.Prelude.{◌≡◌, ◌<◌, ℕ, length, All, IfOk, map};
+ghost use Rattle.crew_num.specs.Exact.{FitsI128};
+ghost use Rattle.search_terms.specs.Rows.{number};
 ghost use Rattle.search_terms.specs.declared.TheConstants.{RIGHT};
+ghost use Rattle.kept_rows.specs.Clearing.{at_row};
 ghost use Rattle.kept_rows.specs.Opening.{AreOpeningColumns, IsOpeningColumn, column_numbers, kept_of};
 ghost use Rattle.kept_rows.specs.Table.{rows_of};
 
@@ -61,12 +64,23 @@ pub fn copy_of(alloc: Global, places: &[usize]) -> Result<Vec<usize>, AllocError
     Ok(copy)
 }
 
+/// The row's numbers lie in i128: each is read.
+fn read(row: &[i128])
+    ensures { (j : ℕ) → FitsI128 (number row.now j) }
+{
+    for j in 0..row.len() {
+        let _number = row[j];
+    }
+}
+
 /// The row's numbers at the openers, and the right side.
 pub fn kept_row(alloc: Global, row: &[i128], openers: &[usize]) -> Result<Vec<i128>, AllocError>
     requires right { RIGHT < length row.now }
     requires known { All (λ j. j < length row.now) openers.now }
-    ensures { IfOk result (λ v. v.items ≡ kept_of openers.now row.now) }
+    ensures kept { IfOk result (λ v. v.items ≡ kept_of openers.now row.now) }
+    ensures fits { IfOk result (λ _. (j : ℕ) → FitsI128 (number row.now j)) }
 {
+    read(row);
     let mut kept = Vec::new(alloc);
     for j in openers {
         kept.push(row[*j])?;
@@ -83,7 +97,10 @@ pub fn kept_rows(
 ) -> Result<Vec<Vec<i128>>, AllocError>
     requires right { All (λ row. RIGHT < length row) (rows_of rows.now) }
     requires known { All (λ row. All (λ j. j < length row) openers.now) (rows_of rows.now) }
-    ensures { IfOk result (λ v. rows_of v.items ≡ map (kept_of openers.now) (rows_of rows.now)) }
+    ensures kept { IfOk result (λ v.
+        rows_of v.items ≡ map (kept_of openers.now) (rows_of rows.now)) }
+    ensures fits { IfOk result (λ _. (i j : ℕ) → i < length rows.now
+        → FitsI128 (number (at_row (rows_of rows.now) i) j)) }
 {
     let mut all = Vec::new(alloc);
     for row in rows {

@@ -60,11 +60,7 @@ fn reach_of_all(columns: &[Column], last: usize) -> Option<Reach>
 
 impl Tableau {
     /// What is to be kept of rows as they open: each basic variable has 1 in its own row, and 0 in the others.
-    pub fn open(
-        alloc: Global,
-        rows: &[Vec<i128>],
-        basis: Vec<usize>,
-    ) -> Result<Tableau, AllocError>
+    pub fn open(alloc: Global, rows: &[Vec<i128>], basis: Vec<usize>) -> Result<Tableau, AllocError>
         requires { AreOpening (table rows.now basis.items) }
         ensures rows { IfOk result (λ t. t.rows ≡ table rows.now basis.items) }
         ensures openers { IfOk result (λ t. t.openers ≡ basis.items) }

@@ -1,4 +1,4 @@
-use Rattle.std.proofs.Common.{◌≡◌, ◌+◌, ◌*◌, ◌-◌, ◌∙◌, ap, sym, subst, rules, arith, pos, FitsSigned, get_or, unsigned_abs, length, All}
+use Rattle.std.proofs.Common.{◌≡◌, ◌+◌, ◌*◌, ◌-◌, ◌∙◌, ap, subst, rules, pos, FitsSigned, get_or, length, All}
 use Rattle.std.specs.Prelude.{IfSome}
 use Rattle.std.specs.Int.{w128}
 use Rattle.std.proofs.lemmas.Int.{to_z-of_z}

@@ -1,4 +1,4 @@
-use Rattle.std.proofs.Common.{◌≡◌, ◌≢◌, ◌<◌, ◌≤◌, ◌+◌, ◌∙◌, ℕ, rules, arith, ap, sym, subst, FitsSigned, length, below_more, unsigned_abs, get_or, pos}
+use Rattle.std.proofs.Common.{◌≢◌, ◌≤◌, rules, arith, FitsSigned, below_more, unsigned_abs, get_or, pos}
 use Rattle.std.specs.Int.{w128}
 use Rattle.std.proofs.lemmas.Int.{to_z-of_z}
 use Rattle.std.proofs.lemmas.Nat.{le_or_l, le_or_r}

@@ -1,15 +1,13 @@
-use Rattle.std.proofs.Common.{◌≡◌, ◌<◌, ◌+◌, ◌∙◌, ℕ, ℤ, refl, arith, sym, ap, subst, length, set, get_or, All}
+use Rattle.std.proofs.Common.{◌≡◌, ◌<◌, ◌+◌, ◌∙◌, arith, sym, ap, subst, length, set, get_or}
 use Rattle.std.specs.Vec.{with_items}
 use Rattle.std.proofs.lemmas.List.{with_items_is}
 use Rattle.std.proofs.lemmas.Result.{err_from_is_err_and}
 use Rattle.search_terms.specs.Pivot.{IsReplaced}
-use Rattle.kept_rows.specs.Clearing.{IsClearingFault}
 use Rattle.kept_rows.specs.Columns.{IsKeptRow, full, full_rows}
 use Rattle.kept_rows.specs.Replaced.{CanReplace}
 use Rattle.kept_rows.specs.Replacement.{IsFirstFault, IsLowest}
-use Rattle.kept_rows.specs.Table.{rows_of}
 use Rattle.kept_rows.proofs.Cleared.{IsClearedTo, cleared_more, cleared_none, cleared_skip}
-use Rattle.kept_rows.proofs.FullRows.{AreClearedTo, can_replace, clearing_fault, kept_set, row_is, row_set, rows_length}
+use Rattle.kept_rows.proofs.FullRows.{can_replace, clearing_fault, kept_set, row_is, row_set, rows_length}
 use Rattle.kept_rows.proofs.clearing.clear.Goals as goal
 use Rattle.kept_rows.proofs.clearing.clear.Goals.{then-i-h+in_ok-clear_row, else-i-h}
 

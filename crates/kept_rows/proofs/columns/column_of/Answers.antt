@@ -1,4 +1,4 @@
-use Rattle.std.proofs.Common.{◌≡◌, ◌<◌, ◌∙◌, refl, ap, sym, subst, rules, arith, pos, FitsSigned, get_or, length, to_z}
+use Rattle.std.proofs.Common.{◌≡◌, ◌∙◌, ap, sym, rules, pos, FitsSigned, get_or, to_z}
 use Rattle.std.specs.Int.{w128}
 use Rattle.std.proofs.lemmas.Int.{to_z-of_z}
 use Rattle.search_terms.specs.Rows.{number}

@@ -1,7 +1,7 @@
-use Rattle.std.proofs.Common.{◌≡◌, ◌+◌, ◌<◌, ◌∙◌, suc, rules, arith, ap, sym, subst, FitsSigned, get_or, pos, length, slice_index, to_z, of_z}
-use Rattle.std.specs.Prelude.{ℤ, ◌+ℤ◌, ◌*ℤ◌}
+use Rattle.std.proofs.Common.{◌≡◌, ◌+◌, ◌<◌, ◌∙◌, suc, rules, arith, ap, sym, FitsSigned, get_or, pos, length, slice_index, to_z}
+use Rattle.std.specs.Prelude.{◌+ℤ◌, ◌*ℤ◌}
 use Rattle.std.specs.Int.{w128, int_wrap}
-use Rattle.std.proofs.lemmas.Int.{ints, to_z-of_z, int_wrap-add_left, int_wrap_fits}
+use Rattle.std.proofs.lemmas.Int.{to_z-of_z, int_wrap-add_left, int_wrap_fits}
 use Rattle.std.proofs.lemmas.List.{get_or_default}
 use Rattle.search_terms.specs.Rows.{number}
 use Rattle.kept_rows.specs.Columns.{entry_in}

@@ -1,6 +1,6 @@
-use Rattle.std.proofs.Common.{◌≡◌, rules, arith}
+use Rattle.std.proofs.Common.{rules}
 use Rattle.std.specs.Int.{w128}
-use Rattle.std.proofs.lemmas.Int.{ints, wraps, wrapping_add-bits, to_z-of_z}
+use Rattle.std.proofs.lemmas.Int.{wraps, wrapping_add-bits}
 use Rattle.kept_rows.proofs.columns.wrapped.Goals as goal
 
 pub returns : goal.returns

@@ -1,6 +1,6 @@
 use Rattle.std.proofs.Common.{◌<◌, ◌^◌, rules, arith, FitsSigned, subst, sym, pos, get_or, unsigned_abs}
 use Rattle.std.specs.Int.{w128, ◌∣◌}
-use Rattle.std.proofs.lemmas.Int.{ints, to_z-of_z}
+use Rattle.std.proofs.lemmas.Int.{to_z-of_z}
 use Rattle.std.proofs.lemmas.Nat.Gcd.{le_of_dvd}
 use Rattle.kept_rows.proofs.CommonFactor.{divided_all, divisor_some}
 use Rattle.kept_rows.proofs.factors.divide.Goals as goal

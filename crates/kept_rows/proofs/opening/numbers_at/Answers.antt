@@ -1,8 +1,7 @@
-use Rattle.std.proofs.Common.{◌≡◌, ◌<◌, ◌∙◌, ap, sym, subst, rules, arith, pos, FitsSigned, get_or, length}
+use Rattle.std.proofs.Common.{◌<◌, ◌∙◌, rules, arith, pos, FitsSigned, length}
 use Rattle.std.specs.Int.{w128}
 use Rattle.std.proofs.lemmas.Int.{to_z-of_z}
 use Rattle.std.proofs.lemmas.List.{get_or_default}
-use Rattle.search_terms.specs.Rows.{number}
 use Rattle.kept_rows.proofs.Listed.{all_at, numbers_more}
 use Rattle.kept_rows.proofs.opening.numbers_at.Goals as goal
 

@@ -1,6 +1,6 @@
-use Rattle.std.proofs.Common.{◌≡◌, ◌<◌, ◌+◌, ◌∙◌, rules, arith, ap, sym, subst, FitsSigned, get_or, pos, length}
+use Rattle.std.proofs.Common.{◌<◌, rules, arith, sym, subst, FitsSigned, get_or, pos, length}
 use Rattle.std.specs.Int.{w128}
-use Rattle.std.proofs.lemmas.Int.{ints, to_z-of_z}
+use Rattle.std.proofs.lemmas.Int.{to_z-of_z}
 use Rattle.crew_num.specs.Exact.{StepsFit}
 use Rattle.kept_rows.proofs.Combining.{combined_more}
 use Rattle.kept_rows.proofs.replacing.combine.Goals as goal

@@ -1,7 +1,7 @@
-use Rattle.std.proofs.Common.{◌<◌, ◌^◌, ◌≡◌, ◌≤◌, ◌∙◌, ap, subst, sym, arith, pos, FitsSigned, unsigned_abs}
-use Rattle.std.specs.Int.{w128, ◌∣◌, IsGcd}
-use Rattle.std.specs.Prelude.{◌<ℤ◌, ℤ}
-use Rattle.std.proofs.lemmas.Int.{ints, to_z-of_z}
+use Rattle.std.proofs.Common.{◌<◌, subst, sym, arith, pos, FitsSigned}
+use Rattle.std.specs.Int.{w128, ◌∣◌}
+use Rattle.std.specs.Prelude.{◌<ℤ◌}
+use Rattle.std.proofs.lemmas.Int.{to_z-of_z}
 use Rattle.std.proofs.lemmas.Nat.Gcd.{le_of_dvd}
 use Rattle.kept_rows.proofs.CommonFactor.{divisor_some}
 use Rattle.kept_rows.proofs.NewRow.{start_some, start_fits}

@@ -1,12 +1,11 @@
-use Rattle.std.proofs.Common.{◌<◌, ◌^◌, ◌≡◌, ◌≤◌, ◌∙◌, ap, subst, sym, arith, rules, pos, get_or, length, FitsSigned, unsigned_abs, All}
-use Rattle.std.specs.Int.{w128, ◌∣◌}
-use Rattle.std.specs.Prelude.{◌<ℤ◌, ℤ}
-use Rattle.std.proofs.lemmas.Int.{ints, to_z-of_z}
-use Rattle.search_terms.specs.Rows.{number}
+use Rattle.std.proofs.Common.{◌<◌, ◌^◌, ◌≡◌, ◌∙◌, ap, subst, sym, arith, rules, pos, get_or, length, FitsSigned, unsigned_abs}
+use Rattle.std.specs.Int.{w128}
+use Rattle.std.specs.Prelude.{◌<ℤ◌}
+use Rattle.std.proofs.lemmas.Int.{to_z-of_z}
 use Rattle.crew_num.specs.Exact.{FitsI128}
-use Rattle.kept_rows.specs.Columns.{IsKnownIn, full, entry_in}
+use Rattle.kept_rows.specs.Columns.{IsKnownIn, entry_in}
 use Rattle.kept_rows.specs.Factor.{IsCovered}
-use Rattle.kept_rows.specs.Replaced.{AreLowered, IsCombined}
+use Rattle.kept_rows.specs.Replaced.{AreLowered}
 use Rattle.kept_rows.proofs.Entries.{full_at}
 use Rattle.kept_rows.proofs.NewRow.{kept_steps, mid_fits, mid_positive, new_row, start_some, start_fits, start_covered}
 use Rattle.kept_rows.proofs.replacing.replace.Goals as goal

@@ -1,4 +1,4 @@
-use Rattle.std.proofs.Common.{◌≡◌, ◌<◌, ◌≤◌, ◌+◌, ◌∙◌, [], ℕ, refl, ap, sym, subst, rules, arith, FitsSigned, get_or, length, below_more}
+use Rattle.std.proofs.Common.{◌<◌, ◌≤◌, ◌∙◌, [], ap, sym, subst, rules, arith, FitsSigned, length, below_more}
 use Rattle.std.specs.Int.{w128}
 use Rattle.std.proofs.lemmas.List.{get_or-map, get_or_default, length-map}
 use Rattle.std.proofs.lemmas.Result.{err_from_is_err_and}

@@ -1,4 +1,4 @@
-use Rattle.std.proofs.Common.{◌<◌, ◌≤◌, arith, rules}
+use Rattle.std.proofs.Common.{arith}
 use Rattle.kept_rows.proofs.Listed.{within_step, within_all}
 use Rattle.kept_rows.proofs.tableau.reach_of_all.Goals as goal
 

@@ -5,7 +5,6 @@ use Rattle.search_terms.specs.Overflows.{OverflowAt}
 use Rattle.search_terms.specs.Pivot.{IsOptimal}
 use Rattle.frac_master.specs.Follows.{FollowsRun}
 use Rattle.frac_master.specs.Shares.{GivesShares, IsOptimalChoice, basic_choice, parts_at}
-use Rattle.kept_rows.specs.Table.{table}
 use Rattle.frac_master.proofs.WholeShares.{fault_belongs, gives_fault, gives_shares, of_state, parts_of_run}
 use Rattle.frac_master.proofs.master.Master.shares.Goals as goal
 
@@ -86,7 +85,7 @@ returns-in_ok-push_open-in-Ok-clause-optimum c = λ n routes made w done legal.
     let w' = subst (FollowsRun n routes made) (sym c.self.view_is) w in
     let done' = subst (λ m. IsOptimal m.rows) (sym c.self.view_is) done in
     let den = unsigned_abs (to_z w128 c.in-Ok.whole) in
-    let t = table a.rows.items a.basis.items in
+    let t = a.table.rows in
     let p = parts_of_run c.run_keeps.ensures.feasible a c.len-columns.result c.in-Ok.whole (c.len-columns.ensures ∙ a.columns.ok.0) k n routes made w' in
     subst (λ m. IsOptimalChoice n m.rows (basic_choice n routes m.rows den)) c.self.view_is (record {
       fractional = c.optimal_choice.ensures.fractional n routes made t den (parts_at t den) w'.run done' legal p;

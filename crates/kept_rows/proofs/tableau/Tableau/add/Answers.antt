@@ -1,11 +1,10 @@
-use Rattle.std.proofs.Common.{◌≡◌, ◌<◌, ◌≤◌, ◌-◌, ◌++◌, ◌∷◌, [], ◌∙◌, suc, arith, rules, refl, ap, sym, subst, length, map, All}
+use Rattle.std.proofs.Common.{◌≡◌, ◌-◌, ◌∙◌, suc, arith, rules, refl, ap, sym, subst, length, All}
 use Rattle.crew_num.specs.Exact.{FitsI128}
-use Rattle.search_terms.specs.Rows.{Rows}
-use Rattle.kept_rows.specs.Columns.{Combines, IsKeptRow, IsKnownIn, full, full_rows}
+use Rattle.kept_rows.specs.Columns.{Combines, IsKeptRow, IsKnownIn, full_rows}
 use Rattle.kept_rows.specs.Bounds.{IsReachWith}
 use Rattle.std.specs.Prelude.{IfSome}
-use Rattle.kept_rows.specs.Forming.{IsFormingFault, IsRowFault, entry_of, sum_of, with_variable}
-use Rattle.kept_rows.specs.Kept.{HaveHomes, IsKept, kept}
+use Rattle.kept_rows.specs.Forming.{IsFormingFault, IsRowFault, sum_of, with_variable}
+use Rattle.kept_rows.specs.Kept.{HaveHomes}
 use Rattle.kept_rows.specs.Replaced.{AreWithin}
 use Rattle.kept_rows.specs.State.{State}
 use Rattle.kept_rows.specs.Table.{rows_of}

@@ -1,9 +1,8 @@
-use Rattle.std.proofs.Common.{◌≡◌, ◌<◌, ◌∙◌, suc, arith, rules, refl, ap, sym, subst, length, get_or, FitsSigned}
+use Rattle.std.proofs.Common.{◌≡◌, ◌<◌, ◌∙◌, suc, arith, rules, ap, sym, subst, length, FitsSigned}
 use Rattle.std.specs.Int.{w128}
 use Rattle.std.proofs.lemmas.Int.{to_z-of_z}
 use Rattle.search_terms.specs.Rows.{number, row_of}
-use Rattle.kept_rows.specs.Clearing.{at_row}
-use Rattle.kept_rows.specs.Columns.{IsKeptRow, IsKnownIn, full, full_rows}
+use Rattle.kept_rows.specs.Columns.{IsKeptRow, IsKnownIn, full}
 use Rattle.kept_rows.specs.State.{State}
 use Rattle.kept_rows.proofs.Formed.{formed_at, formed_fits}
 use Rattle.kept_rows.proofs.FullRows.{kept_at, row_is, rows_length}

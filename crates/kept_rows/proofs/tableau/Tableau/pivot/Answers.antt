@@ -1,15 +1,15 @@
-use Rattle.std.proofs.Common.{◌≡◌, ◌<◌, ◌-◌, ◌∙◌, suc, arith, rules, refl, ap, sym, subst, length, get_or, set, All}
+use Rattle.std.proofs.Common.{◌∙◌, suc, refl, ap, sym, subst, length, get_or, set, All}
 use Rattle.std.specs.Vec.{with_items}
 use Rattle.std.proofs.lemmas.List.{with_items_is}
 use Rattle.std.proofs.lemmas.Result.{err_from_is_err_and}
 use Rattle.search_terms.specs.Rows.{Rows, row_of}
 use Rattle.search_terms.specs.Pivot.{IsPivotAt}
 use Rattle.kept_rows.specs.Clearing.{AreCleared, CanClear, IsClearingFault}
-use Rattle.kept_rows.specs.Columns.{AreColumns, IsKeptRow, full, full_rows}
+use Rattle.kept_rows.specs.Columns.{IsKeptRow, full, full_rows}
 use Rattle.kept_rows.specs.Kept.{kept}
 use Rattle.kept_rows.specs.State.{CanPivot, State}
 use Rattle.kept_rows.specs.Table.{rows_of}
-use Rattle.kept_rows.proofs.FullRows.{kept_at, row_is, rows_length}
+use Rattle.kept_rows.proofs.FullRows.{kept_at, row_is}
 use Rattle.kept_rows.proofs.Pivoting.{can_clear, columns_of, known_row, pivot_at}
 use Rattle.kept_rows.proofs.tableau.Tableau.pivot.Goals as goal
 

@@ -1,4 +1,4 @@
-use Rattle.std.proofs.Common.{◌≡◌, ◌<◌, ◌∙◌, arith, rules, refl, ap, sym, subst, length}
+use Rattle.std.proofs.Common.{◌≡◌, ◌∙◌, arith, rules, refl, sym, subst, length}
 use Rattle.search_terms.specs.Rows.{width}
 use Rattle.kept_rows.proofs.Views.{width_is}
 use Rattle.kept_rows.specs.Kept.{kept}
