@@ -28,7 +28,6 @@ use Rattle.std.specs.Global.{Vec}
 use Rattle.std.proofs.lemmas.List.{length-map}
 use Rattle.kept_rows.specs.Table.{rows_of, table}
 use Rattle.kept_rows.specs.Clearing.{at_row}
-use Rattle.frac_master.proofs.Cleared.{read}
 use Rattle.frac_master.proofs.NewColumn.{where_count}
 
 -- the row h opens with the place j of the list, whose first place is at

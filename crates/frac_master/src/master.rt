@@ -31,9 +31,9 @@ use crew_num::Overflow;
 use crew_terms::Visit;
 use kept_rows::Tableau;
 use master_laws::{
-    duals_stand, entering_keeps_duals, openers_differ, openers_within, optimal_choice,
-    optimal_prices, pivot_keeps_width, places_are, rows_are_lowest, run_keeps, shares_are_parts,
-    some_row_bounds, strong_duality,
+    duals_stand, entering_keeps_duals, openers_are_ones, openers_differ, openers_within,
+    optimal_choice, optimal_prices, pivot_keeps_width, places_are, rows_are_lowest, run_keeps,
+    shares_are_parts, some_row_bounds, strong_duality,
 };
 use node_limits::Limits;
 use search_terms::{Place, RIGHT, VALUE};
@@ -75,6 +75,7 @@ impl Master {
         ensures list { IfOk result (FollowsList limits.now.limits [] 0) }
     {
         places_are();
+        openers_are_ones();
         let places = places_of(alloc, limits)?;
         let teams = teams_of(alloc, limits)?;
         let basics = open_basics(alloc, &teams, &places)?;
