@@ -1,17 +1,14 @@
 -- a step of the numbers of a route; and what the widened rows are
 use Rattle.std.proofs.Common.{◌≡◌, ◌<◌, ◌+◌, ◌++◌, ◌∷◌, [], ℕ, ℤ, ◌+ℤ◌, ◌*ℤ◌, suc, List, true, false, cond, length, take, get_or, map, filter, ap, sym, arith, ◌∙◌, append-nil, length-append}
-use Rattle.std.specs.Global.{Vec}
 use Rattle.std.proofs.Math.Seq.{get_or-append_seam}
-use Rattle.std.proofs.lemmas.List.{map-append, map_more, get_or_append_left}
+use Rattle.std.proofs.lemmas.List.{map-append, get_or_append_left}
 use Rattle.std.proofs.lemmas.List.Elements.{filter_more}
 use Rattle.crew_terms.specs.Total.{total}
 use Rattle.search_terms.specs.declared.Place.{Place}
 use Rattle.search_terms.specs.declared.Place.TheVariants.{Right, Value}
-use Rattle.search_terms.specs.Rows.{Row}
 use Rattle.search_terms.specs.Opening.{cost, cost_sum, opens, places_where, visit_number}
 use Rattle.crew_terms.specs.Limits.{Route}
 use Rattle.crew_terms.specs.Totals.{total-same}
-use Rattle.kept_rows.specs.Table.{rows_of}
 use Rattle.frac_master.proofs.Walked.{where_more}
 
 abbrev sum_at : (Place → ℤ) → List Place → ℤ

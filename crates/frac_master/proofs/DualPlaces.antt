@@ -24,10 +24,6 @@ use Rattle.crew_terms.specs.Limits.{Limits, Route}
 use Rattle.frac_master.specs.State.{MasterState}
 use Rattle.frac_master.specs.Prices.{GivesDual, IsDualOf, IsDualFault, IsRaised}
 use Rattle.frac_master.specs.Prices.IsDualFault.{Scaled, Raised}
-use Rattle.std.specs.Global.{Vec}
-use Rattle.std.proofs.lemmas.List.{length-map}
-use Rattle.kept_rows.specs.Table.{rows_of, table}
-use Rattle.kept_rows.specs.Clearing.{at_row}
 use Rattle.frac_master.proofs.NewColumn.{where_count}
 
 -- the row h opens with the place j of the list, whose first place is at

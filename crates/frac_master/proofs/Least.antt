@@ -6,10 +6,6 @@ use Rattle.search_terms.specs.Rows.{Rows, number, row_of, basic_of, last}
 use Rattle.search_terms.specs.declared.TheConstants.{RIGHT}
 use Rattle.search_terms.specs.Overflows.{OfBest, OfNext}
 use Rattle.search_terms.specs.Pivot.{IsBounding, IsLeast, IsLeaving, IsRatioUpTo}
-use Rattle.std.proofs.Common.{List}
-use Rattle.std.proofs.lemmas.List.{length-map}
-use Rattle.std.specs.Global.{Vec}
-use Rattle.kept_rows.specs.Table.{table}
 use Rattle.frac_master.specs.Choosing.{IsBefore, IsBehind, IsBest, IsRatioFault}
 use Rattle.crew_num.specs.declared.Overflow.{Overflow}
 use Rattle.crew_num.specs.Ratios.{IsFirstProduct}

@@ -1,5 +1,5 @@
 -- a master that no overflow has ended goes on
-use Rattle.std.proofs.Common.{◌≡◌, ◌<◌, unsigned_abs, ℕ, zero, suc, List, length, refl, ap, sym, ◌∙◌, subst}
+use Rattle.std.proofs.Common.{◌≡◌, ◌<◌, unsigned_abs, ℕ, zero, suc, List, length, refl, subst}
 use Rattle.std.specs.Int.{◌∣◌}
 use Rattle.crew_num.specs.declared.Overflow.{Overflow}
 use Rattle.crew_terms.specs.Limits.{Limits}

@@ -1,6 +1,5 @@
 -- the widened rows are those that the route enters
 use Rattle.std.proofs.Common.{◌≡◌, ◌≤◌, ◌<◌, ◌+◌, ◌-◌, ◌++◌, ◌∷◌, [], ℕ, ℤ, pos, ◌*ℤ◌, suc, List, Bool, true, false, cond, length, get_or, map, filter, refl, ap, sym, subst, arith, ◌∙◌, length-append, inl, inr, ◌⊎◌, slice_index}
-use Rattle.std.specs.Global.{Vec}
 use Rattle.std.proofs.lemmas.List.{map-append, get_or-map, length-map, same_lists, get_or_default}
 use Rattle.crew_num.specs.declared.Op.TheVariants.{Add, Mul}
 use Rattle.crew_num.specs.declared.Overflow.{Overflow}
@@ -15,7 +14,6 @@ use Rattle.crew_terms.specs.Limits.{Route}
 use Rattle.crew_terms.specs.Totals.{total-same}
 use Rattle.search_terms.specs.Overflows.{IsOfSum}
 use Rattle.search_terms.specs.Overflows.IsOfSum.{Product, Sum}
-use Rattle.kept_rows.specs.Table.{rows_of, table}
 use Rattle.frac_master.specs.State.{MasterState}
 use Rattle.frac_master.specs.Adding.{Adds, AddsOn, IsColumnFault}
 use Rattle.frac_master.specs.declared.solved.Added.{Added}

@@ -1,11 +1,9 @@
 -- the facts of a step, in the words of the master
-use Rattle.std.proofs.Common.{◌≡◌, ◌<◌, ◌-◌, ℕ, ℤ, List, [], length, get_or, arith, ap}
-use Rattle.std.specs.Global.{Vec}
-use Rattle.std.proofs.lemmas.List.{length-map}
+use Rattle.std.proofs.Common.{◌<◌, ℕ, arith}
 use Rattle.crew_num.specs.declared.Overflow.{Overflow}
 use Rattle.crew_num.specs.Exact.{IsFirstOf}
 use Rattle.crew_num.specs.Exact.IsFirstOf.{Raised, Taken, Rest}
-use Rattle.search_terms.specs.Rows.{Rows, number, row_of, value_row, width, AreBasic}
+use Rattle.search_terms.specs.Rows.{Rows, number, row_of, width, AreBasic}
 use Rattle.search_terms.specs.Pivot.{IsEntering, IsLeaving}
 use Rattle.search_terms.specs.Overflows.{IsOfPivot, IsNumberOfPivot}
 use Rattle.search_terms.specs.Overflows.IsOfPivot.{Ratio, OfRow, OfPivotRow, OfBoth}

@@ -1,14 +1,9 @@
 -- the numbers of a route in the opening rows, and in the rows that it enters
-use Rattle.std.specs.Prelude.{◌≡◌, ◌<◌, ℕ, ℤ, List, [], ◌∷◌, ◌++◌, length, map, vec_len, vec_capacity}
-use Rattle.std.specs.Global.{Vec}
-use Rattle.crew_num.specs.declared.Overflow.{Overflow}
+use Rattle.std.specs.Prelude.{◌≡◌, ℕ, ℤ, List, [], ◌∷◌, ◌++◌, map}
 use Rattle.crew_terms.specs.declared.Visit.{Visit}
 use Rattle.search_terms.specs.declared.Place.{Place}
-use Rattle.search_terms.specs.Rows.{Row, number}
 use Rattle.search_terms.specs.Opening.{basics, cost_sum, opening_basis, visit_number}
 use Rattle.crew_terms.specs.Limits.{Route}
-use Rattle.kept_rows.specs.Clearing.{at_row}
-use Rattle.kept_rows.specs.Sums.{IsSumFault, sum_to}
 
 abbrev pub route_of : ℕ → List Visit → Route
 route_of team visits = record { team = team; visits = visits }

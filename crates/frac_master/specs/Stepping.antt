@@ -2,8 +2,7 @@
 use Rattle.std.specs.Prelude.{◌≡◌, ◌<◌, Bool, true, false, ℕ, length}
 use Rattle.crew_num.specs.declared.Overflow.{Overflow}
 use Rattle.crew_num.specs.Exact.{IsOverflow}
-use Rattle.search_terms.specs.Rows.{Rows, row_of, width, AreBasic}
-use Rattle.search_terms.specs.declared.TheConstants.{VALUE}
+use Rattle.search_terms.specs.Rows.{Rows, row_of, AreBasic}
 use Rattle.search_terms.specs.Pivot.{IsBounding, IsImproving, IsOptimal, IsPivot}
 use Rattle.search_terms.specs.Overflows.{IsOfPivot}
 use Rattle.kept_rows.specs.Replacement.{IsLowest}

@@ -1,4 +1,4 @@
-use Rattle.std.proofs.Common.{◌≡◌, ◌<◌, ◌==◌, ◌∙◌, sym, subst, rules, length, FitsSigned, unsigned_abs, ap}
+use Rattle.std.proofs.Common.{◌≡◌, ◌==◌, ◌∙◌, sym, subst, rules, FitsSigned, unsigned_abs, ap}
 use Rattle.std.specs.Int.{w128}
 use Rattle.std.specs.List.{position}
 use Rattle.std.proofs.lemmas.Int.{to_z-of_z}
