@@ -1,18 +1,14 @@
 -- a step of the numbers of a route; and what the widened rows are
 use Rattle.std.proofs.Common.{◌≡◌, ◌<◌, ◌+◌, ◌++◌, ◌∷◌, [], ℕ, ℤ, ◌+ℤ◌, ◌*ℤ◌, suc, List, true, false, cond, length, take, get_or, map, filter, ap, sym, arith, ◌∙◌, append-nil, length-append}
-use Rattle.std.specs.Global.{Vec}
 use Rattle.std.proofs.Math.Seq.{get_or-append_seam}
-use Rattle.std.proofs.lemmas.List.{map-append, map_more, get_or_append_left}
+use Rattle.std.proofs.lemmas.List.{map-append, get_or_append_left}
 use Rattle.std.proofs.lemmas.List.Elements.{filter_more}
 use Rattle.crew_terms.specs.Total.{total}
 use Rattle.search_terms.specs.declared.Place.{Place}
 use Rattle.search_terms.specs.declared.Place.TheVariants.{Right, Value}
-use Rattle.search_terms.specs.Rows.{Row}
 use Rattle.search_terms.specs.Opening.{cost, cost_sum, opens, places_where, visit_number}
 use Rattle.crew_terms.specs.Limits.{Route}
 use Rattle.crew_terms.specs.Totals.{total-same}
-use Rattle.frac_master.specs.Table.{rows_of}
-use Rattle.frac_master.specs.Columns.{entry_of}
 use Rattle.frac_master.proofs.Walked.{where_more}
 
 abbrev sum_at : (Place → ℤ) → List Place → ℤ
@@ -58,13 +54,3 @@ step_skip all r i at numbers sum below no' basis each value =
     let f = filter_more opens all i Right below ∙ ap (λ b. filter opens (take i all) ++ cond b (p ∷ []) []) no' ∙ append-nil (filter opens (take i all)) in
     let w = where_more opens 0 all i Right below ∙ ap (λ b. places_where opens 0 (take i all) ++ cond b ((0 + i) ∷ []) []) no' ∙ append-nil (places_where opens 0 (take i all)) in
     record { basis = basis ∙ sym w; each = each ∙ ap (map (visit_number r)) (sym f); value = value ∙ ap (sum_at (visit_number r)) (sym f) }
-
-pub entries_more : (rows : List (Vec ℤ)) (column new : List ℤ) (at : List ℕ) (numbers : List ℤ) (i : ℕ) (row : Vec ℤ) (z : ℤ) → i < length rows → row ≡ get_or rows i row
-    → column ≡ map (entry_of at numbers) (rows_of (take i rows)) → z ≡ entry_of at numbers row.items → new ≡ column ++ z ∷ []
-    → new ≡ map (entry_of at numbers) (rows_of (take (i + 1) rows))
-entries_more rows column new at numbers i row z below is h e n =
-    let g : Vec ℤ → Row = λ w. w.items in
-    n ∙ ap (λ l. l ++ z ∷ []) h ∙ ap (λ y. map (entry_of at numbers) (rows_of (take i rows)) ++ y ∷ []) e
-    ∙ ap (λ w. map (entry_of at numbers) (rows_of (take i rows)) ++ entry_of at numbers (g w) ∷ []) is
-    ∙ sym (map-append (entry_of at numbers) (rows_of (take i rows)) (g (get_or rows i row) ∷ []))
-    ∙ ap (map (entry_of at numbers)) (sym (map_more g rows i row below))

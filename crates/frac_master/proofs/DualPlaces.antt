@@ -24,11 +24,6 @@ use Rattle.crew_terms.specs.Limits.{Limits, Route}
 use Rattle.frac_master.specs.State.{MasterState}
 use Rattle.frac_master.specs.Prices.{GivesDual, IsDualOf, IsDualFault, IsRaised}
 use Rattle.frac_master.specs.Prices.IsDualFault.{Scaled, Raised}
-use Rattle.std.specs.Global.{Vec}
-use Rattle.std.proofs.lemmas.List.{length-map}
-use Rattle.frac_master.specs.Table.{rows_of, table}
-use Rattle.frac_master.specs.Clearing.{at_row}
-use Rattle.frac_master.proofs.Cleared.{read}
 use Rattle.frac_master.proofs.NewColumn.{where_count}
 
 -- the row h opens with the place j of the list, whose first place is at
@@ -116,16 +111,16 @@ raised_fault differ m p j f lt e o leaves (inr is) =
     Raised leaves (λ n h s w. is ∙ ap (fault Add (pos BIG_M *ℤ number (value_row m.rows) VALUE)) (times_is differ m.places p j (value_row m.rows) n h lt e o s w))
 
 pub gives_dual : OpenersDiffer → (m : MasterState) (p : Place) (j : ℕ) (r : Result (ℤ × ℤ) Overflow) → m.ended ≡ None → j < length m.places → place_at m.places j ≡ p → opens p ≡ true → cost p ≡ pos BIG_M
-    → pos 0 <ℤ number (value_row m.rows) VALUE → IsRaised (value_row m.rows) j r → GivesDual m p r
+    → pos 0 <ℤ number (value_row m.rows) VALUE → IsRaised (number (value_row m.rows) VALUE) (number (value_row m.rows) j) r → GivesDual m p r
 gives_dual differ m p j r none lt e o k up h = subst (λ q. MatchOption q (MatchResult r (λ z. IsDualOf m p z.0 z.1) (IsDualFault m p)) (λ f. r ≡ Err f)) (sym none) (by_case r h)
   where
-    by_case : (r : Result (ℤ × ℤ) Overflow) → IsRaised (value_row m.rows) j r → MatchResult r (λ z. IsDualOf m p z.0 z.1) (IsDualFault m p)
+    by_case : (r : Result (ℤ × ℤ) Overflow) → IsRaised (number (value_row m.rows) VALUE) (number (value_row m.rows) j) r → MatchResult r (λ z. IsDualOf m p z.0 z.1) (IsDualFault m p)
     by_case (Ok z) q = raised_dual differ m p j z.0 z.1 lt e o k up q.0 q.1
     by_case (Err f) q = raised_fault differ m p j f lt e o q.0 q.1
 
 -- such a fault belongs to the rows, where no variable has a negative reduced cost
 pub belongs : (m : MasterState) (n : Limits) (p : Place) (j : ℕ) (r : Result (ℤ × ℤ) Overflow) → j < length m.places → place_at m.places j ≡ p → opens p ≡ true → cost p ≡ pos BIG_M
-    → m.places ≡ places n → IsOptimal m.rows → IsRaised (value_row m.rows) j r → IfErr r (λ f. (coming : List Route) → OverflowAt n m.rows coming f)
+    → m.places ≡ places n → IsOptimal m.rows → IsRaised (number (value_row m.rows) VALUE) (number (value_row m.rows) j) r → IfErr r (λ f. (coming : List Route) → OverflowAt n m.rows coming f)
 belongs m n p j (Ok z) lt e o k s done q = tt
 belongs m n p j (Err f) lt e o k s done q = λ coming. InPrice q.0 done (by_how q.1)
   where
@@ -137,13 +132,6 @@ belongs m n p j (Err f) lt e o k s done q = λ coming. InPrice q.0 done (by_how 
         let a = ap (number v) (sym w.place) ∙ ap (λ qs. times qs v w.h) s in
         PriceRaised w.h (subst (λ qs. w.h < length (openers qs)) s w.known) (ap (λ qs. cost (opener qs w.h)) (sym s) ∙ ap cost (w.is ∙ e) ∙ k)
         (is ∙ ap (fault Add (pos BIG_M *ℤ number v VALUE)) a)
-
-pub value_read : (rows : List (Vec ℤ)) (basis : List ℕ) (k : ℕ) (d : Vec ℤ) (l : Row) → 0 < length (rows_of rows) → k ≡ length rows → d ≡ get_or rows (k - 1) d → l ≡ d.items → l ≡ value_row (table rows basis)
-value_read rows basis k d l some e at is =
-    let m = length-map rows (λ (row : Vec ℤ). row.items) in
-    let lt : k - 1 < length rows = omega arith in
-    let f : k - 1 ≡ length (rows_of rows) - 1 = omega arith in
-    is ∙ ap (λ (v : Vec ℤ). v.items) at ∙ sym (read rows (k - 1) d lt) ∙ ap (at_row (rows_of rows)) f
 
 pub value_positive : (t : Rows) → AreBasic t → pos 0 <ℤ number (value_row t) VALUE
 value_positive t b =

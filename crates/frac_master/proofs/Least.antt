@@ -6,10 +6,6 @@ use Rattle.search_terms.specs.Rows.{Rows, number, row_of, basic_of, last}
 use Rattle.search_terms.specs.declared.TheConstants.{RIGHT}
 use Rattle.search_terms.specs.Overflows.{OfBest, OfNext}
 use Rattle.search_terms.specs.Pivot.{IsBounding, IsLeast, IsLeaving, IsRatioUpTo}
-use Rattle.std.proofs.Common.{List}
-use Rattle.std.proofs.lemmas.List.{length-map}
-use Rattle.std.specs.Global.{Vec}
-use Rattle.frac_master.specs.Table.{table}
 use Rattle.frac_master.specs.Choosing.{IsBefore, IsBehind, IsBest, IsRatioFault}
 use Rattle.crew_num.specs.declared.Overflow.{Overflow}
 use Rattle.crew_num.specs.Ratios.{IsFirstProduct}
@@ -102,8 +98,8 @@ least_all t v g h = record {
   lowest = λ k c r. h.lowest k c.known c r;
 }
 
-pub bounding : (rows : List (Vec ℤ)) (basis : List ℕ) (v h : ℕ) → h + 1 < length rows → pos 0 <ℤ number (row_of (table rows basis) h) v → IsBounding (table rows basis) v h
-bounding rows basis v h below p = record { known = omega (arith, length-map rows (λ (row : Vec ℤ). row.items)); positive = p }
+pub bounding : (t : Rows) (v h : ℕ) → h + 1 < length t.rows → pos 0 <ℤ number (row_of t h) v → IsBounding t v h
+bounding t v h below p = record { known = omega arith; positive = p }
 
 pub best_skip : (t : Rows) (v i : ℕ) (best : Option ℕ) → IsBest t v i best → (IsBounding t v i → ⊥) → IsBest t v (i + 1) best
 best_skip t v i None b idle = below_more (λ k. IsBounding t v k → ⊥) i b idle

@@ -1,5 +1,5 @@
 -- a master that no overflow has ended goes on
-use Rattle.std.proofs.Common.{◌≡◌, ◌<◌, unsigned_abs, ℕ, zero, suc, List, length, refl, ap, sym, ◌∙◌, subst}
+use Rattle.std.proofs.Common.{◌≡◌, ◌<◌, unsigned_abs, ℕ, zero, suc, List, length, refl, subst}
 use Rattle.std.specs.Int.{◌∣◌}
 use Rattle.crew_num.specs.declared.Overflow.{Overflow}
 use Rattle.crew_terms.specs.Limits.{Limits}
@@ -10,6 +10,7 @@ use Rattle.crew_terms.specs.Limits.{Route}
 use Rattle.search_terms.specs.MasterRun.{IsMasterRun}
 use Rattle.search_terms.specs.MasterRun.MasterRun.{Pivots as Pivoted}
 use Rattle.frac_master.specs.State.{IsOfRun}
+use Rattle.kept_rows.specs.State.{State}
 use Rattle.frac_master.specs.Running.{CanRun, Runs}
 use Rattle.frac_master.specs.declared.solved.Solved.{Solved}
 use Rattle.frac_master.specs.declared.solved.Solved.TheVariants.{Optimal, Overflow as Overflowed, Spent}
@@ -27,14 +28,8 @@ extend (suc k) ps t u o p =
     let m = extend k ps t p.0 o p.1 in
     record { limits = m.limits; same = m.same; routes = m.routes; teams = m.teams; made = suc m.made; run = Pivoted m.run p.2 }
 
-pub same_widths : (l : Laws) (k : ℕ) (ps : List Place) (t u : Rows) → IsOfRun ps t → ArePivots k t u → width u ≡ width t
-same_widths l zero ps t u o e = ap width (sym e)
-same_widths l (suc k) ps t u o p =
-    let m = extend k ps t p.0 o p.1 in
-    l.widths p.0 u (l.feasible m.limits m.routes m.made p.0 m.run).basic p.2 ∙ same_widths l k ps t p.0 o p.1
-
-pub can_run : (l : Laws) (room : ℕ) (ps : List Place) (t : Rows) → IsOfRun ps t → room ≡ width t → CanRun room t
-can_run l room ps t o e = record {
+pub can_run : (l : Laws) (ps : List Place) (t : Rows) → IsOfRun ps t → CanRun t
+can_run l ps t o = record {
   each = λ k u p.
       let m = extend k ps t u o p in
       record {
@@ -42,7 +37,6 @@ can_run l room ps t o e = record {
         bounded = λ v i idle. l.bounds m.limits m.routes m.made v u m.run i idle;
         lowest = λ h below. record { only = λ d all. l.lowest m.limits m.routes m.made h d u m.run below all };
       };
-  wide = λ k u p. e ∙ sym (same_widths l k ps t u o p);
 }
 
 pub pivots_of : (t u : Rows) (pivots made : ℕ) (solved : Solved) → Runs t pivots made solved u → ((f : Overflow) → solved ≡ Overflowed f → ⊥) → ArePivots made t u
@@ -69,3 +63,8 @@ extend_keeps (suc k) ps t u o p =
       limits = m.limits;
       routes = m.routes;
     }
+
+-- so many pivots were made from the one to the other
+pub record IsRunTo (old : State) (made : ℕ) (new : State) : Type 0 where
+  pub pivots : ArePivots made old.rows new.rows
+  pub openers : new.openers ≡ old.openers

@@ -23,7 +23,7 @@ use Rattle.search_terms.specs.Overflows.IsDenominator.{Basic, Idle}
 use Rattle.search_terms.specs.Overflows.IsOfMultiple.{Next}
 use Rattle.frac_master.specs.Shares.{IsCommonOf, IsCommonFault, parts_at, parts_by}
 use Rattle.frac_master.specs.Fractions.{IsLowestShare, IsNextMultiple, IsMultipleFault, IsWholeAt}
-use Rattle.frac_master.proofs.Multiples.{some_gcd, multiple_none, multiple_more}
+use Rattle.kept_rows.specs.Multiples.{some_gcd, multiple_none, multiple_more}
 
 -- ---- the row whose basic variable stands at a place
 none_from : (test : ℕ → Bool) (i : ℕ) (xs : List ℕ) → position_from test i xs ≡ None → (h : ℕ) → h < length xs → test (get_or xs h 0) ≡ false

@@ -1,6 +1,5 @@
 -- the widened rows are those that the route enters
 use Rattle.std.proofs.Common.{◌≡◌, ◌≤◌, ◌<◌, ◌+◌, ◌-◌, ◌++◌, ◌∷◌, [], ℕ, ℤ, pos, ◌*ℤ◌, suc, List, Bool, true, false, cond, length, get_or, map, filter, refl, ap, sym, subst, arith, ◌∙◌, length-append, inl, inr, ◌⊎◌, slice_index}
-use Rattle.std.specs.Global.{Vec}
 use Rattle.std.proofs.lemmas.List.{map-append, get_or-map, length-map, same_lists, get_or_default}
 use Rattle.crew_num.specs.declared.Op.TheVariants.{Add, Mul}
 use Rattle.crew_num.specs.declared.Overflow.{Overflow}
@@ -15,14 +14,15 @@ use Rattle.crew_terms.specs.Limits.{Route}
 use Rattle.crew_terms.specs.Totals.{total-same}
 use Rattle.search_terms.specs.Overflows.{IsOfSum}
 use Rattle.search_terms.specs.Overflows.IsOfSum.{Product, Sum}
-use Rattle.frac_master.specs.Table.{rows_of, table}
 use Rattle.frac_master.specs.State.{MasterState}
 use Rattle.frac_master.specs.Adding.{Adds, AddsOn, IsColumnFault}
 use Rattle.frac_master.specs.declared.solved.Added.{Added}
 use Rattle.frac_master.specs.declared.solved.Added.TheVariants.{Overflow as OverflowedAdd}
 use Rattle.std.specs.Prelude.{None, MatchOption}
-use Rattle.frac_master.specs.Sums.{sum_to}
-use Rattle.frac_master.specs.Columns.{AreWidened, IsColumn, IsRowFault, entry_of}
+use Rattle.kept_rows.specs.Sums.{sum_to}
+use Rattle.frac_master.specs.Columns.{IsColumn}
+use Rattle.kept_rows.specs.Forming.{IsRowFault, entry_of, with_variable}
+use Rattle.kept_rows.specs.State.{State}
 
 list_ext : {A : Type 0} (xs ys : List A) (d : A) → length xs ≡ length ys → ((k : ℕ) → k < length xs → get_or xs k d ≡ get_or ys k d) → xs ≡ ys
 list_ext xs ys d e h = same_lists xs ys e (λ k b lt.
@@ -75,17 +75,19 @@ entry_is : (ps : List Place) (r : Route) (at : List ℕ) (numbers : List ℤ) (r
 entry_is ps r at numbers row c =
     ap (λ m. sum_to m row at numbers) (at_count ps r at numbers c) ∙ sum_is ps r at numbers row (length (openers ps)) c (omega arith)
 
-pub widened_is : (ps : List Place) (r : Route) (at : List ℕ) (numbers : List ℤ) (rows new : List (Vec ℤ)) (column : List ℤ) (basis : List ℕ) → IsColumn ps r at numbers
-    → column ≡ map (entry_of at numbers) (rows_of rows) → AreWidened (rows_of rows) column (rows_of new) → table new basis ≡ entered ps r (table rows basis)
-widened_is ps r at numbers rows new column basis c e w =
-    let f : Row → Row = λ row. row ++ entry ps r row ∷ [] in
-    let old = rows_of rows in
-    let same = list_ext (rows_of new) (map f old) [] (w.count ∙ sym (length-map old f)) (λ i lt.
-    let in_old : i < length old = omega (arith, w.count) in
-    let g = get_or-map f old i [] [] in_old in
-    let h = ap (λ l. number l i) e ∙ get_or-map (entry_of at numbers) old i [] (pos 0) in_old ∙ entry_is ps r at numbers (get_or old i []) c in
-    w.each i in_old ∙ ap (λ z. get_or old i [] ++ z ∷ []) h ∙ sym g) in
-    ap (λ l. let t : Rows = record { rows = l; basis = basis } in t) same
+same_push : (ps : List Place) (r : Route) (at : List ℕ) (numbers : List ℤ) (rows : List Row) → IsColumn ps r at numbers
+    → map (λ row. row ++ entry_of at numbers row ∷ []) rows ≡ map (λ row. row ++ entry ps r row ∷ []) rows
+same_push ps r at numbers [] c = refl
+same_push ps r at numbers (row ∷ rows) c =
+    ap (λ z. (row ++ z ∷ []) ∷ map (λ row. row ++ entry_of at numbers row ∷ []) rows) (entry_is ps r at numbers row c)
+    ∙ ap (λ l. (row ++ entry ps r row ∷ []) ∷ l) (same_push ps r at numbers rows c)
+
+-- a variable with the route's numbers is the route's
+pub entered_is : (ps : List Place) (r : Route) (at : List ℕ) (numbers : List ℤ) (s : State) → IsColumn ps r at numbers → s.openers ≡ opening_basis ps
+    → (with_variable numbers s).rows ≡ entered ps r s.rows
+entered_is ps r at numbers s c e =
+    let f = ap (λ b. map (λ row. row ++ entry_of b numbers row ∷ []) s.rows.rows) (e ∙ sym c.basis) in
+    ap (λ l. let t : Rows = record { rows = l; basis = s.rows.basis } in t) (f ∙ same_push ps r at numbers s.rows.rows c)
 
 pub column_fault : (m : MasterState) (r : Route) (at : List ℕ) (numbers : List ℤ) (f : Overflow) → IsColumn m.places r at numbers → IsRowFault m.rows.rows at numbers f → IsColumnFault m r f
 column_fault m r at numbers f c w = record {

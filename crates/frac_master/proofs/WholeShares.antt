@@ -23,7 +23,6 @@ use Rattle.share_terms.specs.Shares.{unassigned_of}
 use Rattle.search_terms.specs.BasicChoice.{AreWholeParts, choice_of, is_unassigned_at}
 use Rattle.master_laws.specs.Opening.{wide_opening, above_of}
 use Rattle.frac_master.specs.declared.shares.Share.{Share}
-use Rattle.frac_master.specs.Table.{table}
 use Rattle.frac_master.specs.Follows.{FollowsRun}
 use Rattle.frac_master.specs.Kept.{IsLive, kept}
 use Rattle.frac_master.specs.declared.master.Master.TheInside.{Inside}
@@ -183,7 +182,7 @@ abbrev places_of_shares : List Place → ℕ → List ℕ
 places_of_shares ps columns = range_with_len (length ps) columns ++ places_where is_unassigned 0 ps
 
 abbrev rows_in : Inside → Rows
-rows_in a = table a.rows.items a.basis.items
+rows_in a = a.table.rows
 
 pub of_state : SharesAreParts → TasksAreParts → AreFeasibleRuns → (a : Inside) (l : IsLive a) (columns whole : ℕ) → columns ≡ length a.columns.items
     → IsCommonOf (rows_in a) (places_of_shares a.places.items columns) whole → AreSmall a.places.items (rows_in a) (length a.columns.items) a.tasks whole

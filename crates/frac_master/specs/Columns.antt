@@ -1,14 +1,9 @@
 -- the numbers of a route in the opening rows, and in the rows that it enters
-use Rattle.std.specs.Prelude.{◌≡◌, ◌<◌, ℕ, ℤ, List, [], ◌∷◌, ◌++◌, length, map, vec_len, vec_capacity}
-use Rattle.std.specs.Global.{Vec}
-use Rattle.crew_num.specs.declared.Overflow.{Overflow}
+use Rattle.std.specs.Prelude.{◌≡◌, ℕ, ℤ, List, [], ◌∷◌, ◌++◌, map}
 use Rattle.crew_terms.specs.declared.Visit.{Visit}
 use Rattle.search_terms.specs.declared.Place.{Place}
-use Rattle.search_terms.specs.Rows.{Row, number}
 use Rattle.search_terms.specs.Opening.{basics, cost_sum, opening_basis, visit_number}
 use Rattle.crew_terms.specs.Limits.{Route}
-use Rattle.frac_master.specs.Clearing.{at_row}
-use Rattle.frac_master.specs.Sums.{IsSumFault, sum_to}
 
 abbrev pub route_of : ℕ → List Visit → Route
 route_of team visits = record { team = team; visits = visits }
@@ -17,22 +12,3 @@ route_of team visits = record { team = team; visits = visits }
 pub record IsColumn (ps : List Place) (r : Route) (at : List ℕ) (numbers : List ℤ) : Type 0 where
   pub basis : at ≡ opening_basis ps
   pub each : numbers ≡ map (visit_number r) (basics ps) ++ cost_sum ps (visit_number r) ∷ []
-
--- what the row says of these opening rows' numbers
-abbrev pub entry_of : List ℕ → List ℤ → Row → ℤ
-entry_of at numbers row = sum_to (length at) row at numbers
-
--- an operation of a row's sum leaves i128
-pub record IsRowFault (rows : List Row) (at : List ℕ) (numbers : List ℤ) (f : Overflow) : Type 0 where
-  pub h : ℕ
-  pub known : h < length rows
-  pub sum : IsSumFault (at_row rows h) at numbers f
-
--- there is room for one more number
-abbrev pub HasRoom : Vec ℤ → Type 0
-HasRoom row = vec_len row < vec_capacity row
-
--- a number of the column stands behind each row
-pub record AreWidened (rows : List Row) (column : List ℤ) (new : List Row) : Type 0 where
-  pub count : length new ≡ length rows
-  pub each : (i : ℕ) → i < length rows → at_row new i ≡ at_row rows i ++ number column i ∷ []

@@ -7,17 +7,17 @@ use Rattle.crew_terms.specs.Limits.{Limits, Route, tasks_in, teams_in}
 use Rattle.crew_terms.specs.Leaf.{Prices}
 use Rattle.crew_terms.specs.Total.{total}
 use Rattle.search_terms.specs.declared.Place.{Place}
-use Rattle.search_terms.specs.Rows.{Row, number, value_row}
+use Rattle.search_terms.specs.Rows.{number, value_row}
 use Rattle.share_terms.specs.declared.TheConstants.{BIG_M}
 use Rattle.search_terms.specs.declared.TheConstants.{RIGHT, VALUE}
 use Rattle.search_terms.specs.Opening.{OpensWith, dual, places, times}
 use Rattle.search_terms.specs.Duals.{best_reward, extras, term_over}
 use Rattle.frac_master.specs.State.{MasterState}
 
--- BIG_M times the value's entry, with the number at place j added; and that entry
-abbrev pub IsRaised : Row → ℕ → Result (ℤ × ℤ) Overflow → Type 0
-IsRaised row j r = MatchResult r (λ z. (z.0 ≡ (pos BIG_M *ℤ number row VALUE) +ℤ number row j) × (z.1 ≡ number row VALUE))
-    (λ f. IsOverflow f × ((f ≡ fault Mul (pos BIG_M) (number row VALUE)) ⊎ (f ≡ fault Add (pos BIG_M *ℤ number row VALUE) (number row j))))
+-- BIG_M times the value's entry, with the number added; and that entry
+abbrev pub IsRaised : ℤ → ℤ → Result (ℤ × ℤ) Overflow → Type 0
+IsRaised whole number r = MatchResult r (λ z. (z.0 ≡ (pos BIG_M *ℤ whole) +ℤ number) × (z.1 ≡ whole))
+    (λ f. IsOverflow f × ((f ≡ fault Mul (pos BIG_M) whole) ⊎ (f ≡ fault Add (pos BIG_M *ℤ whole) number)))
 
 -- the dual number of the row that opens with p, over the value's basic entry
 pub record IsDualOf (m : MasterState) (p : Place) (num den : ℤ) : Type 0 where

@@ -1,15 +1,14 @@
 -- pivots in a row
 use Rattle.std.specs.Prelude.{◌≡◌, ◌<◌, ℕ}
-use Rattle.search_terms.specs.Rows.{Rows, width}
+use Rattle.search_terms.specs.Rows.{Rows}
 use Rattle.search_terms.specs.Pivot.{ArePivots, IsOptimal}
 use Rattle.frac_master.specs.Stepping.{CanStep, IsPivotFault}
 use Rattle.frac_master.specs.declared.solved.Solved.{Solved}
 use Rattle.frac_master.specs.declared.solved.Solved.TheVariants.{Optimal, Overflow as Overflowed, Spent}
 
--- whichever rows pivots lead to can be pivoted on, and have this length
-pub record CanRun (room : ℕ) (t : Rows) : Type 0 where
+-- whichever rows pivots lead to can be pivoted on
+pub record CanRun (t : Rows) : Type 0 where
   pub each : (made : ℕ) (u : Rows) → ArePivots made t u → CanStep u
-  pub wide : (made : ℕ) (u : Rows) → ArePivots made t u → room ≡ width u
 
 -- pivots are made until no variable has a negative reduced cost, or one overflows, or there are so many
 abbrev pub Runs : Rows → ℕ → ℕ → Solved → Rows → Type 0

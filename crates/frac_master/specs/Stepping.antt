@@ -2,19 +2,10 @@
 use Rattle.std.specs.Prelude.{◌≡◌, ◌<◌, Bool, true, false, ℕ, length}
 use Rattle.crew_num.specs.declared.Overflow.{Overflow}
 use Rattle.crew_num.specs.Exact.{IsOverflow}
-use Rattle.search_terms.specs.Rows.{Rows, row_of, width, AreBasic}
-use Rattle.search_terms.specs.declared.TheConstants.{VALUE}
+use Rattle.search_terms.specs.Rows.{Rows, row_of, AreBasic}
 use Rattle.search_terms.specs.Pivot.{IsBounding, IsImproving, IsOptimal, IsPivot}
 use Rattle.search_terms.specs.Overflows.{IsOfPivot}
-use Rattle.frac_master.specs.Replacement.{IsLowest}
-
--- the variable at place v can enter at row h
-pub record CanPivot (t : Rows) (v h : ℕ) : Type 0 where
-  pub basic : AreBasic t
-  pub variable : VALUE < v
-  pub known : v < width t
-  pub bounds : IsBounding t v h
-  pub lowest : (i : ℕ) → i < length t.rows → IsLowest (row_of t i)
+use Rattle.kept_rows.specs.Replacement.{IsLowest}
 
 -- rows that can be pivoted as long as a variable has a negative reduced cost
 pub record CanStep (t : Rows) : Type 0 where

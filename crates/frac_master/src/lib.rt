@@ -4,21 +4,16 @@
 
 mod basics;
 mod choosing;
-mod clearing;
-mod columns;
 mod duals;
-pub mod laws;
 mod master;
 mod opening;
 mod pivots;
 mod places;
-mod quotients;
 mod rounding;
 mod routes;
 mod running;
 mod shares;
 mod solved;
-mod widening;
 
 pub use master::Master;
 pub use rounding::round_price;

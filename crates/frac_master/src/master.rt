@@ -27,13 +27,13 @@ use crate::routes::column_of;
 use crate::running::run;
 use crate::shares::{Share, denominator_of, push_open, push_shares};
 use crate::solved::{Added, Solved};
-use crate::widening::{entries, widen};
 use crew_num::Overflow;
 use crew_terms::Visit;
+use kept_rows::Tableau;
 use master_laws::{
-    duals_stand, entering_keeps_duals, openers_differ, openers_within, optimal_choice,
-    optimal_prices, pivot_keeps_width, places_are, rows_are_lowest, run_keeps, shares_are_parts,
-    some_row_bounds, strong_duality,
+    duals_stand, entering_keeps_duals, openers_are_ones, openers_differ, openers_within,
+    optimal_choice, optimal_prices, pivot_keeps_width, places_are, rows_are_lowest, run_keeps,
+    shares_are_parts, some_row_bounds, strong_duality,
 };
 use node_limits::Limits;
 use search_terms::{Place, RIGHT, VALUE};
@@ -51,10 +51,7 @@ pub struct Master {
     places: Vec<Place>,
     tasks: usize,
     columns: Vec<usize>,
-    rows: Vec<Vec<i128>>,
-    basis: Vec<usize>,
-    // Room for the row at which a variable enters.
-    room: Vec<i128>,
+    table: Tableau,
     ended: Option<Overflow>,
     made: u32,
 }
@@ -78,24 +75,22 @@ impl Master {
         ensures list { IfOk result (FollowsList limits.now.limits [] 0) }
     {
         places_are();
+        openers_are_ones();
         let places = places_of(alloc, limits)?;
         let teams = teams_of(alloc, limits)?;
         let basics = open_basics(alloc, &teams, &places)?;
         let value = value_row(alloc, &teams, &places, &basics.basics)?;
-        let room = value_row(alloc, &teams, &places, &basics.basics)?;
         let mut rows = basics.rows;
         rows.push(value)?;
         let mut basis = basics.basis;
-        let columns = Vec::new(alloc);
         basis.push(VALUE)?;
+        let table = Tableau::open(alloc, &rows, basis)?;
         Ok(Master {
             alloc,
             places,
             tasks: limits.instance().tasks(),
-            columns,
-            rows,
-            basis,
-            room,
+            columns: Vec::new(alloc),
+            table,
             ended: None,
             made: 0,
         })
@@ -140,19 +135,14 @@ impl Master {
         places_are();
         entering_keeps_duals();
         let route = column_of(self.alloc, &self.places, team, visits)?;
-        match entries(self.alloc, &self.rows, &route.at, &route.numbers)? {
+        self.columns.reserve(1)?;
+        match self.table.add(&route.numbers)? {
             Err(fault) => {
                 self.ended = Some(fault);
                 Ok(Added::Overflow(fault))
             }
-            Ok(numbers) => {
-                widen(
-                    &mut self.rows,
-                    &mut self.columns,
-                    &mut self.room,
-                    &numbers,
-                    column,
-                )?;
+            Ok(()) => {
+                self.columns.push(column).unwrap();
                 Ok(Added::Done)
             }
         }
@@ -179,7 +169,7 @@ impl Master {
         some_row_bounds();
         rows_are_lowest();
 
-        let (made, solved) = run(&mut self.rows, &mut self.basis, &mut self.room, pivots);
+        let (made, solved) = run(&mut self.table, pivots);
         self.made = made;
         if let Solved::Overflow(fault) = solved {
             self.ended = Some(fault);
@@ -204,8 +194,11 @@ impl Master {
         }
         run_keeps();
         strong_duality();
-        let row = &self.rows[self.rows.len() - 1];
-        Ok((row[RIGHT], row[VALUE]))
+        let last = self.table.height() - 1;
+        Ok((
+            self.table.number(last, RIGHT),
+            self.table.number(last, VALUE),
+        ))
     }
 
     /// Makes `out` the positive shares of routes by rising column, and `left_open` the unassigned share of each task, 0 for a
@@ -250,18 +243,11 @@ impl Master {
         optimal_choice();
         let first = self.places.len();
         let columns = self.columns.len();
-        match denominator_of(self.alloc, &self.rows, &self.basis, &self.places, columns)? {
+        match denominator_of(self.alloc, &self.table, &self.places, columns)? {
             Err(fault) => Ok(Err(fault)),
             Ok(whole) => {
-                push_shares(out, &self.rows, &self.basis, &self.columns, first, whole)?;
-                push_open(
-                    left_open,
-                    &self.rows,
-                    &self.basis,
-                    &self.places,
-                    self.tasks,
-                    whole,
-                )?;
+                push_shares(out, &self.table, &self.columns, first, whole)?;
+                push_open(left_open, &self.table, &self.places, self.tasks, whole)?;
                 Ok(Ok(whole as i128))
             }
         }
@@ -284,8 +270,8 @@ impl Master {
         openers_within();
         openers_differ();
         let j = place_of(&self.places, p);
-        let row = &self.rows[self.rows.len() - 1];
-        raised(row, j)
+        let last = self.table.height() - 1;
+        raised(self.table.number(last, VALUE), self.table.number(last, j))
     }
 
     /// The price of task `i`, as numerator and positive denominator.

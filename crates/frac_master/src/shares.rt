@@ -6,12 +6,11 @@ ghost use Rattle.search_terms.specs.Rows.{AreBasic};
 ghost use Rattle.search_terms.specs.Opening.{place_at, places_where};
 ghost use Rattle.search_terms.specs.Overflows.{is_unassigned as is_unassigned_place};
 ghost use Rattle.search_terms.specs.BasicChoice.{is_unassigned_at};
-ghost use Rattle.frac_master.specs.Table.{table};
 ghost use Rattle.frac_master.specs.Fractions.{IsLowestShare, IsMultipleFault, IsNextMultiple, IsWholeAt};
 ghost use Rattle.frac_master.specs.Shares.{IsCommonFault, IsCommonOf, column_shares, parts_at};
 
-use crate::choosing::row_at;
 use crew_num::{Overflow, gcd_of, mul};
+use kept_rows::Tableau;
 use search_terms::{Place, RIGHT};
 use std::alloc::{AllocError, Global};
 
@@ -39,16 +38,15 @@ fn row_with(basis: &[usize], j: usize) -> Option<usize>
 }
 
 /// The share of the variable at place j.
-fn share_at(rows: &[Vec<i128>], basis: &[usize], j: usize) -> Fraction
-    requires { AreBasic (table rows.now basis.now) }
-    ensures { IsLowestShare (table rows.now basis.now) j result.num result.den }
+fn share_at(table: &Tableau, j: usize) -> Fraction
+    requires { AreBasic table.now.rows }
+    ensures { IsLowestShare table.now.rows j result.num result.den }
 {
-    let Some(h) = row_with(basis, j) else {
+    let Some(h) = row_with(table.basis(), j) else {
         return Fraction { num: 0, den: 1 };
     };
-    let row = row_at(rows, h);
-    let right = row[RIGHT].unsigned_abs();
-    let number = row[j].unsigned_abs();
+    let right = table.number(h, RIGHT).unsigned_abs();
+    let number = table.number(h, j).unsigned_abs();
     let factor = gcd_of(right, number);
     Fraction {
         num: right / factor,
@@ -70,14 +68,14 @@ fn common_multiple(m: u128, d: u128) -> Result<u128, Overflow>
 }
 
 /// The least common multiple of the denominators, in lowest terms, of the shares at these places.
-fn common_denominator(rows: &[Vec<i128>], basis: &[usize], at: &[usize]) -> Result<u128, Overflow>
-    requires { AreBasic (table rows.now basis.now) }
-    ensures { MatchResult result (IsCommonOf (table rows.now basis.now) at.now)
-        (IsCommonFault (table rows.now basis.now) at.now) }
+fn common_denominator(table: &Tableau, at: &[usize]) -> Result<u128, Overflow>
+    requires { AreBasic table.now.rows }
+    ensures { MatchResult result (IsCommonOf table.now.rows at.now)
+        (IsCommonFault table.now.rows at.now) }
 {
     let mut den: u128 = 1;
     for j in at {
-        let share = share_at(rows, basis, *j);
+        let share = share_at(table, *j);
         let more = common_multiple(den, share.den)?;
         den = more;
     }
@@ -88,31 +86,30 @@ fn common_denominator(rows: &[Vec<i128>], basis: &[usize], at: &[usize]) -> Resu
 /// unassigned shares.
 pub fn denominator_of(
     alloc: Global,
-    rows: &[Vec<i128>],
-    basis: &[usize],
+    table: &Tableau,
     places: &[Place],
     columns: usize,
 ) -> Result<Result<u128, Overflow>, AllocError>
-    requires basic { AreBasic (table rows.now basis.now) }
+    requires basic { AreBasic table.now.rows }
     requires room { length places.now + columns < 2 ^ 64 }
     ensures { let at = range_with_len (length places.now) columns
         ++ places_where is_unassigned_place 0 places.now in
-        IfOk result (λ r. MatchResult r (IsCommonOf (table rows.now basis.now) at)
-        (IsCommonFault (table rows.now basis.now) at)) }
+        IfOk result (λ r. MatchResult r (IsCommonOf table.now.rows at)
+        (IsCommonFault table.now.rows at)) }
 {
     let mut at = Vec::new(alloc);
     push_route_places(&mut at, places.len(), columns)?;
     push_open_places(&mut at, places)?;
-    Ok(common_denominator(rows, basis, &at))
+    Ok(common_denominator(table, &at))
 }
 
 /// What the variable at place j has of these parts, of which `whole` make one.
-fn parts_of(rows: &[Vec<i128>], basis: &[usize], j: usize, whole: u128) -> u128
-    requires basic { AreBasic (table rows.now basis.now) }
-    requires whole { IsWholeAt (table rows.now basis.now) whole j }
-    ensures { result ≡ parts_at (table rows.now basis.now) whole j }
+fn parts_of(table: &Tableau, j: usize, whole: u128) -> u128
+    requires basic { AreBasic table.now.rows }
+    requires whole { IsWholeAt table.now.rows whole j }
+    ensures { result ≡ parts_at table.now.rows whole j }
 {
-    let share = share_at(rows, basis, j);
+    let share = share_at(table, j);
     share.num * (whole / share.den)
 }
 
@@ -150,21 +147,20 @@ fn push_open_places(at: &mut Vec<usize>, places: &[Place]) -> Result<(), AllocEr
 /// Puts the positive shares of the columns behind these; that of the first stands at place `first`.
 pub fn push_shares(
     out: &mut Vec<Share>,
-    rows: &[Vec<i128>],
-    basis: &[usize],
+    table: &Tableau,
     columns: &[usize],
     first: usize,
     whole: u128,
 ) -> Result<(), AllocError>
-    requires basic { AreBasic (table rows.now basis.now) }
+    requires basic { AreBasic table.now.rows }
     requires room { first + length columns.now < 2 ^ 64 }
     requires whole { (i : ℕ) → i < length columns.now
-        → IsWholeAt (table rows.now basis.now) whole (first + i) }
+        → IsWholeAt table.now.rows whole (first + i) }
     ensures { OnOk result (out.new.items ≡ out.old.items
-        ++ column_shares (parts_at (table rows.now basis.now) whole) first columns.now) }
+        ++ column_shares (parts_at table.now.rows whole) first columns.now) }
 {
     for (i, column) in columns.iter().enumerate() {
-        let num = parts_of(rows, basis, first + i, whole);
+        let num = parts_of(table, first + i, whole);
         if num > 0 {
             out.push(Share {
                 column: *column,
@@ -186,20 +182,20 @@ fn is_open_of(p: Place, j: usize) -> bool
 }
 
 /// What is left unassigned of task `j`.
-fn open_parts(rows: &[Vec<i128>], basis: &[usize], places: &[Place], j: usize, whole: u128) -> u128
-    requires basic { AreBasic (table rows.now basis.now) }
+fn open_parts(table: &Tableau, places: &[Place], j: usize, whole: u128) -> u128
+    requires basic { AreBasic table.now.rows }
     requires whole { (i : ℕ) → i < length places.now
         → is_unassigned_at j (place_at places.now i) ≡ true
-        → IsWholeAt (table rows.now basis.now) whole i }
-    requires fits { sum_by (parts_at (table rows.now basis.now) whole)
+        → IsWholeAt table.now.rows whole i }
+    requires fits { sum_by (parts_at table.now.rows whole)
         (places_where (is_unassigned_at j) 0 places.now) < 2 ^ 127 }
-    ensures { result ≡ sum_by (parts_at (table rows.now basis.now) whole)
+    ensures { result ≡ sum_by (parts_at table.now.rows whole)
         (places_where (is_unassigned_at j) 0 places.now) }
 {
     let mut sum: u128 = 0;
     for (i, p) in places.iter().enumerate() {
         if is_open_of(*p, j) {
-            sum += parts_of(rows, basis, i, whole);
+            sum += parts_of(table, i, whole);
         }
     }
     sum
@@ -208,24 +204,23 @@ fn open_parts(rows: &[Vec<i128>], basis: &[usize], places: &[Place], j: usize, w
 /// Puts what is left unassigned of so many tasks behind these.
 pub fn push_open(
     left_open: &mut Vec<i128>,
-    rows: &[Vec<i128>],
-    basis: &[usize],
+    table: &Tableau,
     places: &[Place],
     tasks: usize,
     whole: u128,
 ) -> Result<(), AllocError>
-    requires basic { AreBasic (table rows.now basis.now) }
+    requires basic { AreBasic table.now.rows }
     requires whole { (j i : ℕ) → j < tasks → i < length places.now
         → is_unassigned_at j (place_at places.now i) ≡ true
-        → IsWholeAt (table rows.now basis.now) whole i }
-    requires fits { (j : ℕ) → j < tasks → sum_by (parts_at (table rows.now basis.now) whole)
+        → IsWholeAt table.now.rows whole i }
+    requires fits { (j : ℕ) → j < tasks → sum_by (parts_at table.now.rows whole)
         (places_where (is_unassigned_at j) 0 places.now) < 2 ^ 127 }
     ensures { OnOk result (left_open.new.items ≡ left_open.old.items
-        ++ map (λ j. pos (sum_by (parts_at (table rows.now basis.now) whole)
+        ++ map (λ j. pos (sum_by (parts_at table.now.rows whole)
         (places_where (is_unassigned_at j) 0 places.now))) (range_with_len 0 tasks)) }
 {
     for j in 0..tasks {
-        left_open.push(open_parts(rows, basis, places, j, whole) as i128)?;
+        left_open.push(open_parts(table, places, j, whole) as i128)?;
     }
     Ok(())
 }

@@ -7,8 +7,8 @@ ghost use Rattle.std.specs.Int.{◌∣◌};
 ghost use Rattle.crew_terms.specs.Limits.{Limits, Route, pair_of, tasks_in, teams_in};
 ghost use Rattle.crew_terms.specs.Leaf.{Prices};
 ghost use Rattle.crew_terms.specs.Total.{total};
-ghost use Rattle.search_terms.specs.Rows.{Rows, AreBasic, AreFeasible, HaveSameSolutions, number, row_of, value_row, width};
-ghost use Rattle.search_terms.specs.Opening.{OpensWith, dual, dual_sum, entered, openers, opening_basis, places, with_routes};
+ghost use Rattle.search_terms.specs.Rows.{Rows, AreBasic, AreFeasible, HaveSameSolutions, basic_of, number, row_of, value_row, width};
+ghost use Rattle.search_terms.specs.Opening.{OpensWith, dual, dual_sum, entered, openers, opening, opening_basis, places, with_routes};
 ghost use Rattle.search_terms.specs.Pivot.{IsBounding, IsImproving, IsOptimal, IsPivot};
 ghost use Rattle.search_terms.specs.MasterRun.{IsMasterRun, IsRunOver};
 ghost use Rattle.search_terms.specs.Duals.{AreDuals, AreUpToPenalty, best_reward, extras, term_over};
@@ -82,6 +82,14 @@ pub fn openers_within()
     ensures { (n : Limits) (routes : List Route) (made h : ℕ) (t : Rows)
         → IsMasterRun n routes made t →
         h < length (openers (places n)) → slice_index_or (opening_basis (places n)) h 0 < width t }
+{}
+
+/// Where rows open, each opener's column is 1 in its own row and 0 in the others: so a row's numbers at the openers are how
+/// many times it has each opening row.
+pub fn openers_are_ones()
+    ensures basic { (n : Limits) → AreBasic (opening n) }
+    ensures ones { (n : Limits) (h : ℕ) → h < length (opening n).rows
+        → number (row_of (opening n) h) (basic_of (opening n) h) ≡ pos 1 }
 {}
 
 /// A route that enters changes no dual: no price, no extra and no worth.

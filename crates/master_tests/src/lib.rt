@@ -1,4 +1,4 @@
-// Tests of the master problem: rows that are replaced, and masters that are worked out by hand.
+// Tests of the master problem: masters that are worked out by hand.
 #![tactic(auto)]
 
 pub mod asked;
@@ -8,5 +8,3 @@ mod asserts;
 mod masters;
 #[cfg(test)]
 mod rounding;
-#[cfg(test)]
-mod rows;

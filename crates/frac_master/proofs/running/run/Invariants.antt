@@ -1,6 +1,5 @@
-use Rattle.search_terms.specs.Pivot.{ArePivots}
-use Rattle.frac_master.specs.Table.{table}
+use Rattle.frac_master.proofs.Living.{IsRunTo}
 use Rattle.frac_master.proofs.running.run.Given as goal
 
 abbrev pub invariant-loop-made : goal.invariant-loop-made
-invariant-loop-made l = ArePivots l.made (table l.fn.rows l.fn.basis) (table l.rows l.basis)
+invariant-loop-made l = IsRunTo l.fn.table l.made l.table

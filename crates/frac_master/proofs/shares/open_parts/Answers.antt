@@ -2,7 +2,6 @@ use Rattle.std.proofs.Common.{◌≡◌, ◌<◌, ◌+◌, ◌∙◌, ap, sym, a
 use Rattle.search_terms.specs.declared.Place.TheVariants.{Right}
 use Rattle.search_terms.specs.BasicChoice.{is_unassigned_at}
 use Rattle.search_terms.specs.Opening.{places_where}
-use Rattle.frac_master.specs.Table.{table}
 use Rattle.frac_master.specs.Shares.{parts_at}
 use Rattle.frac_master.proofs.Walked.{sum_where_front, sum_where_more}
 use Rattle.frac_master.proofs.shares.open_parts.Goals as goal
@@ -13,7 +12,7 @@ overflow_add-sum c =
     let i = c.loop-i.i in
     let ps = c.args.places.now in
     let test = is_unassigned_at c.args.j in
-    let x = parts_at (table c.args.rows.now c.args.basis.now) c.args.whole in
+    let x = parts_at c.args.table.now.rows c.args.whole in
     let here : i < length ps = omega arith in
     let m = sum_where_more test x ps i Right _ here (sym c.is_open_of.ensures ∙ c.if-is_open_of.true) in
     let f = sum_where_front test x (i + 1) ps in
@@ -27,7 +26,7 @@ loop-i-preserved c =
     let i = c.loop-i.i in
     let ps = c.args.places.now in
     let test = is_unassigned_at c.args.j in
-    let x = parts_at (table c.args.rows.now c.args.basis.now) c.args.whole in
+    let x = parts_at c.args.table.now.rows c.args.whole in
     let here : i < length ps = omega arith in
     let inv : c.loop-i.sum ≡ sum_by x (places_where test 0 (take i ps)) = c.loop-i.invariant in
     elim c.if-is_open_of.branch [

@@ -3,7 +3,6 @@ use Rattle.std.specs.List.{range_with_len}
 use Rattle.std.proofs.lemmas.List.FromFn.{map-range_with_len_more}
 use Rattle.search_terms.specs.BasicChoice.{is_unassigned_at}
 use Rattle.search_terms.specs.Opening.{places_where}
-use Rattle.frac_master.specs.Table.{table}
 use Rattle.frac_master.specs.Shares.{parts_at}
 use Rattle.frac_master.proofs.LowestShares.{signed}
 use Rattle.frac_master.proofs.Ranges.{grown}
@@ -14,7 +13,7 @@ loop-j-preserved c =
     let j = c.loop-j.j in
     let old = c.args.left_open.now.items in
     let front = c.loop-j.left_open.items in
-    let x = parts_at (table c.args.rows.now c.args.basis.now) c.args.whole in
+    let x = parts_at c.args.table.now.rows c.args.whole in
     let open_of : ℕ → ℤ = λ i. pos (sum_by x (places_where (is_unassigned_at i) 0 c.args.places.now)) in
     let lt = c.requires.fits j (omega arith) in
     let small = subst (λ n. n < 2 ^ 127) (sym c.open_parts.ensures) lt in

@@ -1,6 +1,5 @@
 use Rattle.std.proofs.Common.{◌<◌, ◌≤◌, ◌+◌, ◌^◌, ◌++◌, ◌∷◌, [], ◌∙◌, ℤ, List, ap, sym, subst, arith, cond, get_or, length, take, pos, append-nil}
 use Rattle.frac_master.specs.declared.shares.Share.{Share}
-use Rattle.frac_master.specs.Table.{table}
 use Rattle.frac_master.specs.Shares.{column_shares, parts_at}
 use Rattle.frac_master.proofs.LowestShares.{signed}
 use Rattle.frac_master.proofs.Ranges.{grown}
@@ -11,7 +10,7 @@ use Rattle.frac_master.proofs.shares.push_shares.Goals.{then-num-gt0+in_ok-push,
 pub loop-i-preserved : goal.loop-i-preserved
 loop-i-preserved c =
     let i = c.loop-i.i in
-    let t = table c.args.rows.now c.args.basis.now in
+    let t = c.args.table.now.rows in
     let x = parts_at t c.args.whole in
     let cs = c.args.columns.now in
     let at = c.args.first in

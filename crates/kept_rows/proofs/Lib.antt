@@ -1,0 +1,16 @@
+pub mod CommonFactor
+pub mod Alone
+pub mod Cleared
+pub mod Entries
+pub mod Steps
+pub mod NewRow
+pub mod Combining
+pub mod Reached
+pub mod Formed
+pub mod FullRows
+pub mod Added
+pub mod Views
+pub mod Sparse
+pub mod Listed
+pub mod Pivoting
+pub mod Opens

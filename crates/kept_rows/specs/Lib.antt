@@ -1,0 +1,13 @@
+pub mod Table
+pub mod Sums
+pub mod Replacement
+pub mod Clearing
+pub mod Multiples
+pub mod Columns
+pub mod Factor
+pub mod Replaced
+pub mod Bounds
+pub mod State
+pub mod Kept
+pub mod Forming
+pub mod Opening
